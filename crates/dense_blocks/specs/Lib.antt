@@ -1,0 +1,3 @@
+pub mod Field
+pub mod Vectors
+pub mod Matrices

@@ -1,0 +1,40 @@
+ghost use Rattle.std.specs.Prelude.{◌≡◌, ◌≢◌, ◌<◌};
+ghost use Rattle.dense_blocks.specs.Field.{Ops, IsField};
+
+/// A finite field, whose scalars are the numbers below its order; 0 and 1 are neutral.
+///
+/// The order is at least 2 and at most 256. None of the calls takes memory.
+pub trait Scalars: Copy {
+    /// The operations of the field, read on all numbers.
+    ghost ops: { Self → Ops };
+
+    /// The number of scalars.
+    fn order(&self) -> u32
+        ensures { result ≡ (ops self.now).order };
+
+    /// The sum of two scalars.
+    fn add(&self, a: u8, b: u8) -> u8
+        requires a_scalar { a < (ops self.now).order }
+        requires b_scalar { b < (ops self.now).order }
+        ensures { result ≡ (ops self.now).add a b };
+
+    /// The negative of a scalar.
+    fn neg(&self, a: u8) -> u8
+        requires { a < (ops self.now).order }
+        ensures { result ≡ (ops self.now).neg a };
+
+    /// The product of two scalars.
+    fn mul(&self, a: u8, b: u8) -> u8
+        requires a_scalar { a < (ops self.now).order }
+        requires b_scalar { b < (ops self.now).order }
+        ensures { result ≡ (ops self.now).mul a b };
+
+    /// The inverse of a scalar that is not 0.
+    fn inv(&self, a: u8) -> u8
+        requires scalar { a < (ops self.now).order }
+        requires not_zero { a ≢ 0 }
+        ensures { result ≡ (ops self.now).inv a };
+
+    /// The operations are those of a field.
+    ghost is_field: { (f : Self) → IsField (ops f) };
+}
