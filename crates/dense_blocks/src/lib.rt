@@ -1,6 +1,10 @@
 //! Scalars of a finite field, vectors and small matrices over them, and vectors that solve.
 #![tactic(auto)]
 
+mod entries;
+mod listed;
 mod scalars;
 
+pub use entries::Entries;
+pub use listed::Listed;
 pub use scalars::Scalars;
