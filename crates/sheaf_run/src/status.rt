@@ -1,0 +1,16 @@
+/// How a run ended; the program exits with the number of the variant.
+#[derive(Clone, Copy, Debug, PartialEq, Eq)]
+pub enum Status {
+    /// The job was done, and all of its text was written and flushed.
+    Done = 0,
+    /// The source failed; nothing was written.
+    ReadFault = 1,
+    /// The sink failed; it took a prefix of what was to be written.
+    WriteFault = 2,
+    /// Memory ran out; the sink took a prefix of what was to be written, often nothing.
+    NoMemory = 3,
+    /// The words are refused; nothing was read.
+    BadWords = 4,
+    /// The input is refused.
+    BadInput = 5,
+}
