@@ -33,17 +33,28 @@ took_then old between new xs ys first second = second ∙ ap (λ (known : Option
 
 -- what was taken whole was taken as a front
 pub took_whole_front : (old new : Option (List ℕ)) (xs : List ℕ) → Took old new xs → TookFront old new xs
-took_whole_front old new xs took = (xs, [], sym (append-nil xs), took)
+took_whole_front old new xs took = record { front = xs; rest = []; split = sym (append-nil xs); took = took }
 
 -- a front of xs is one of xs ++ ys
 pub took_front_longer : (old new : Option (List ℕ)) (xs ys : List ℕ) → TookFront old new xs → TookFront old new (xs ++ ys)
-took_front_longer old new xs ys (front, rest, split, took) =
-    (front, rest ++ ys, ap (λ zs. zs ++ ys) split ∙ append_assoc front rest ys, took)
+took_front_longer old new xs ys first = record {
+  front = first.front;
+  rest = first.rest ++ ys;
+  split = ap (λ zs. zs ++ ys) first.split ∙ append_assoc first.front first.rest ys;
+  took = first.took;
+}
 
 -- xs were taken, and then a front of ys
 pub took_front_then : (old between new : Option (List ℕ)) (xs ys : List ℕ) → Took old between xs → TookFront between new ys → TookFront old new (xs ++ ys)
-took_front_then old between new xs ys first (front, rest, split, took) =
-    (xs ++ front, rest, ap (λ zs. xs ++ zs) split ∙ sym (append_assoc xs front rest), took_then old between new xs front first took)
+took_front_then old between new xs ys first second = record {
+  front = xs ++ second.front;
+  rest = second.rest;
+  split = ap (λ zs. xs ++ zs) second.split ∙ sym (append_assoc xs second.front second.rest);
+  took = took_then old between new xs second.front first second.took;
+}
+
+-- for `using` at a function with several writes by `?`: a front of what they write is what the sink took
+pub ruleset taken_pieces = (took_then, took_front_then, took_front_longer)
 
 -- no call gives nothing
 pub gave_none : (known : Option (List ℕ)) → Gave known known []

@@ -11,8 +11,11 @@ abbrev pub Took : Option (List ℕ) → Option (List ℕ) → List ℕ → Type 
 Took old new bytes = new ≡ append_known old bytes
 
 -- the sink took a front of these bytes
-abbrev pub TookFront : Option (List ℕ) → Option (List ℕ) → List ℕ → Type 0
-TookFront old new bytes = (front rest : List ℕ) × (bytes ≡ front ++ rest) × Took old new front
+pub record TookFront (old new : Option (List ℕ)) (bytes : List ℕ) : Type 0 where
+  pub front : List ℕ
+  pub rest : List ℕ
+  pub split : bytes ≡ front ++ rest
+  pub took : Took old new front
 
 -- all that the sink took is flushed
 abbrev pub IsFlushed : Option (List ℕ) → ℕ → Type 0

@@ -18,3 +18,8 @@ pub record HasCause {T E : Type 0} (before now : ℕ) (result : Result T E) : Ty
 abbrev pub count_after : {T E : Type 0} → Result T E → ℕ → ℕ
 count_after (Ok _) before = before
 count_after (Err _) before = next_count before
+
+-- a reader or a writer, and its count of faults
+pub record Counted (A : Type 0) : Type 0 where
+  pub inner : A
+  pub faults : ℕ

@@ -24,4 +24,4 @@ pub returns-in-Err-clause-err : goal.returns-in-Err-clause-err
 returns-in-Err-clause-err g c =
     let done = c.loop-done.done in
     let bytes = c.args.bytes.now in
-    (take done bytes, drop done bytes, sym (take-append-drop done bytes), c.in-Err.ensures.failed ∙ c.loop-done.invariant.took)
+    record { front = take done bytes; rest = drop done bytes; split = sym (take-append-drop done bytes); took = c.in-Err.ensures.failed ∙ c.loop-done.invariant.took }
