@@ -7,13 +7,16 @@
 
 mod adapters;
 mod edge;
-mod memory;
+mod memory_sink;
+mod memory_source;
+mod numbered;
 mod reading;
 mod writing;
 
 pub use adapters::{StdSink, StdSource};
 pub use edge::{Failed, Sink, Source};
-pub use memory::{MemSink, MemSource};
+pub use memory_sink::MemSink;
+pub use memory_source::MemSource;
 pub use reading::{ReadAll, read_all};
 pub use writing::{WriteFault, write_all};
 

@@ -2,7 +2,7 @@ use Rattle.std.proofs.Common.{◌≡◌, ◌-◌, ◌+◌, ℕ, List, ◌++◌, 
 use Rattle.std.proofs.lemmas.Grind.{common_steps}
 use Rattle.std.proofs.lemmas.List.{take_at, drop-drop}
 use Rattle.io_edge.specs.Memory.{SourceState}
-use Rattle.io_edge.proofs.memory.MemSourceSource.read.Goals as goal
+use Rattle.io_edge.proofs.memory_source.MemSourceSource.read.Goals as goal
 
 -- the first n bytes that are left stand at the front of the buffer
 gave_front : (left copied rest : List ℕ) (n : ℕ) → copied ≡ take n left → length copied ≡ n → take n (copied ++ rest) ++ drop n left ≡ left
