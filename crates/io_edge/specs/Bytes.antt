@@ -1,0 +1,23 @@
+-- What calls do to the bytes that a source has left and to those that a sink took, where these are told.
+use Rattle.std.specs.Prelude.{◌≡◌, ℕ, List, length, ◌++◌, ⊤, Option, None, Some}
+use Rattle.std.specs.Io.KnownBytes.{prepend_known, append_known}
+
+-- the source gave these bytes: they stood before those that it has left now
+abbrev pub Gave : Option (List ℕ) → Option (List ℕ) → List ℕ → Type 0
+Gave old new bytes = old ≡ prepend_known bytes new
+
+-- the sink took these bytes: they stand after those that it had taken before
+abbrev pub Took : Option (List ℕ) → Option (List ℕ) → List ℕ → Type 0
+Took old new bytes = new ≡ append_known old bytes
+
+-- the sink took a front of these bytes
+pub record TookFront (old new : Option (List ℕ)) (bytes : List ℕ) : Type 0 where
+  pub front : List ℕ
+  pub rest : List ℕ
+  pub split : bytes ≡ front ++ rest
+  pub took : Took old new front
+
+-- all that the sink took is flushed
+abbrev pub IsFlushed : Option (List ℕ) → ℕ → Type 0
+IsFlushed None flushed = ⊤
+IsFlushed (Some taken) flushed = flushed ≡ length taken

@@ -1,0 +1,64 @@
+ghost use Rattle.std.specs.Prelude.{◌≡◌, ℕ, ◌<◌, ◌≤◌, List, OnOk, IsErrOf};
+ghost use Rattle.std.specs.Io.KnownBytes.{IsAtEnd};
+ghost use Rattle.io_edge.specs.Faults.{Rose};
+ghost use Rattle.io_edge.specs.Bytes.{Gave};
+ghost use Rattle.io_edge.specs.Reading.{ReadUpTo};
+ghost use Rattle.io_edge.specs.declared.reading.ReadAll.TheVariants.{NoMemory};
+
+use crate::edge::Source;
+use std::alloc::{AllocError, Global};
+use thiserror::Error;
+
+/// Why not all bytes of a source were read.
+#[derive(Clone, Copy, Debug, PartialEq, Eq, Error)]
+pub enum ReadAll {
+    /// A read failed.
+    #[error("a read failed")]
+    ReadFault,
+    /// The source has more bytes than the limit.
+    #[error("the input is too long")]
+    TooLong,
+    /// Memory ran out.
+    #[error("out of memory")]
+    NoMemory,
+}
+
+impl From<AllocError> for ReadAll {
+    ghost from_gives = { λ _ e. e ≡ NoMemory };
+
+    fn from(_: AllocError) -> Self {
+        ReadAll::NoMemory
+    }
+}
+
+/// How many bytes a read is offered room for, at most.
+const BUFFER: usize = 4096;
+
+/// Reads to the end of input, or up to one byte more than the limit.
+///
+/// # Errors
+///
+/// `ReadFault` at the first read that fails, `TooLong` once one byte more than the limit was read, and `NoMemory`
+/// where there is none for the bytes. What was read then is lost.
+pub fn read_all<S: Source>(alloc: Global, source: &mut S, limit: usize) -> Result<Vec<u8>, ReadAll>
+    requires { limit < usize.MAX }
+
+    // Whatever comes, the source gave these bytes and no more.
+    ensures gave { (bytes : List ℕ) × Gave (S.left source.old) (S.left source.new) bytes × ReadUpTo limit bytes result }
+    ensures end { OnOk result (IsAtEnd (S.left source.new)) }
+    ensures later { S.fault_count source.old ≤ S.fault_count source.new }
+    ensures fault { IsErrOf result ReadAll.ReadFault → Rose (S.fault_count source.old) (S.fault_count source.new) }
+{
+    let mut all = Vec::new(alloc);
+    let mut buffer = [0; BUFFER];
+    'reads: loop {
+        let within = limit - all.len();
+        let room = (within + 1).min(BUFFER);
+        match source.read(&mut buffer[..room]) {
+            Err(_) => return Err(ReadAll::ReadFault),
+            Ok(0) => return Ok(all),
+            Ok(count) if count > within => return Err(ReadAll::TooLong),
+            Ok(count) => all.extend_from_slice(&buffer[..count])?,
+        }
+    }
+}
