@@ -1,0 +1,5 @@
+pub mod Numbers
+pub mod Rows
+pub mod Edges
+pub mod Words
+pub mod Again

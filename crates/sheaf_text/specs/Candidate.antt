@@ -20,9 +20,13 @@ lines bytes = slice_split (λ b. b == 10) bytes
 abbrev pub words : List ℕ → List (List ℕ)
 words line = slice_split (λ b. b == 32) line
 
+-- some byte
+abbrev pub has_bytes : List ℕ → Bool
+has_bytes word = not (length word == 0)
+
 -- the number that a word of at most nine digits is
 abbrev pub number_of : List ℕ → Option ℕ
-number_of word = if not (length word == 0) && nat_le (length word) 9 && all_ascii_digits word then Some (digits_value 10 word) else None
+number_of word = if has_bytes word && nat_le (length word) 9 && all_ascii_digits word then Some (digits_value 10 word) else None
 
 abbrev pub cell_from : Option ℕ → Option ℕ → Option Cell
 cell_from (Some dimension) (Some stalk) = Some (record { dimension = dimension; stalk = stalk })
@@ -49,8 +53,12 @@ abbrev pub face_of : List (List ℕ) → Option Face
 face_of (word ∷ s ∷ t ∷ sign ∷ entries) = if bytes_eq word (codes "face") then face_from (number_of s) (number_of t) (sign_of sign) (map entry_of entries) else None
 face_of words = None
 
+-- the cell that a line says, and the face
+abbrev pub cell_in : List ℕ → Option Cell
+cell_in line = cell_of (words line)
+
+abbrev pub face_in : List ℕ → Option Face
+face_in line = face_of (words line)
+
 unfoldable pub candidate_of : List ℕ → Input
-candidate_of bytes = record {
-  cells = filter_map cell_of (map words (lines bytes));
-  faces = filter_map face_of (map words (lines bytes));
-}
+candidate_of bytes = record { cells = filter_map cell_in (lines bytes); faces = filter_map face_in (lines bytes) }

@@ -1,6 +1,6 @@
 ghost use Rattle.std.specs.Prelude.{◌≡◌, map, IfOk};
 ghost use Rattle.std.specs.List.{filter_map};
-ghost use Rattle.sheaf_text.specs.Candidate.{texts, words, cell_of, sign_of, entry_of, face_of, candidate_of};
+ghost use Rattle.sheaf_text.specs.Candidate.{texts, cell_of, sign_of, entry_of, face_of, cell_in, face_in, candidate_of};
 
 use crate::cut::{number, parts};
 use crate::input::{Cell, Face, Input, Sign};
@@ -62,13 +62,26 @@ fn face_of(alloc: Global, words: &[&[u8]]) -> Result<Option<Face>, NoMemory>
     }))
 }
 
+fn cell_in(alloc: Global, line: &[u8]) -> Result<Option<Cell>, NoMemory>
+    ensures { IfOk result (λ cell. cell ≡ cell_in line.now) }
+{
+    let words = parts(alloc, line, b' ')?;
+    Ok(cell_of(&words))
+}
+
+fn face_in(alloc: Global, line: &[u8]) -> Result<Option<Face>, NoMemory>
+    ensures { IfOk result (λ face. face ≡ face_in line.now) }
+{
+    let words = parts(alloc, line, b' ')?;
+    face_of(alloc, &words)
+}
+
 fn cells_of(alloc: Global, lines: &[&[u8]]) -> Result<Vec<Cell>, NoMemory>
-    ensures { IfOk result (λ cells. cells.items ≡ filter_map cell_of (map words (texts lines.now))) }
+    ensures { IfOk result (λ cells. cells.items ≡ filter_map cell_in (texts lines.now)) }
 {
     let mut cells = Vec::new(alloc);
     for line in lines {
-        let words = parts(alloc, *line, b' ')?;
-        if let Some(cell) = cell_of(&words) {
+        if let Some(cell) = cell_in(alloc, *line)? {
             cells.push(cell)?;
         }
     }
@@ -76,12 +89,11 @@ fn cells_of(alloc: Global, lines: &[&[u8]]) -> Result<Vec<Cell>, NoMemory>
 }
 
 fn faces_of(alloc: Global, lines: &[&[u8]]) -> Result<Vec<Face>, NoMemory>
-    ensures { IfOk result (λ faces. faces.items ≡ filter_map face_of (map words (texts lines.now))) }
+    ensures { IfOk result (λ faces. faces.items ≡ filter_map face_in (texts lines.now)) }
 {
     let mut faces = Vec::new(alloc);
     for line in lines {
-        let words = parts(alloc, *line, b' ')?;
-        if let Some(face) = face_of(alloc, &words)? {
+        if let Some(face) = face_in(alloc, *line)? {
             faces.push(face)?;
         }
     }
@@ -90,6 +102,7 @@ fn faces_of(alloc: Global, lines: &[&[u8]]) -> Result<Vec<Face>, NoMemory>
 
 /// What the bytes say where they are the text of an input: the cells and the faces of the lines
 /// that read as one, whatever stands between them.
+#[tactic(auto, unfolding(crate::specs::Candidate::candidate_of))]
 pub fn candidate(alloc: Global, bytes: &[u8]) -> Result<Input, NoMemory>
     ensures { IfOk result (λ input. input ≡ candidate_of bytes.now) }
 {

@@ -1,5 +1,5 @@
 ghost use Rattle.std.specs.Prelude.{◌≡◌, ◌<◌, ◌≤◌, ◌↔◌, ◌==◌, ◌&&◌, not, All, AllPairs, EachIndex, IsTrue, count_by, sum_by, length};
-ghost use Rattle.sheaf_text.specs.Small.{IsSmallCell, HasDimension, stalk_at, IsFaceAmong, HasOtherPair, IsEdgeWhole, is_plus, IsSmallSheaf};
+ghost use Rattle.sheaf_text.specs.Small.{IsSmallCell, HasDimension, stalk_at, IsFaceAmong, HasOtherPair, faces_to, AreTwoOpposite, IsEdgeWhole, is_plus, IsSmallSheaf};
 
 use crate::input::{Cell, Face, Input, Sign};
 use crate::limits::{FIELD_ORDER, MOST_CELLS, MOST_DIMENSION, MOST_STALK, MOST_TOTAL};
@@ -92,11 +92,17 @@ fn minus_faces(faces: &[Face], edge: usize) -> usize
         .count()
 }
 
+fn has_two_opposite(faces: &[Face], edge: usize) -> bool
+    ensures { IsTrue result ↔ AreTwoOpposite (faces_to edge faces.now) }
+{
+    plus_faces(faces, edge) == 1 && minus_faces(faces, edge) == 1
+}
+
 fn is_edge_whole(cells: &[Cell], faces: &[Face], edge: usize) -> bool
     requires { edge < length cells.now }
     ensures { IsTrue result ↔ IsEdgeWhole cells.now faces.now edge }
 {
-    cells[edge].dimension != 1 || plus_faces(faces, edge) == 1 && minus_faces(faces, edge) == 1
+    cells[edge].dimension != 1 || has_two_opposite(faces, edge)
 }
 
 fn are_edges_whole(cells: &[Cell], faces: &[Face]) -> bool
@@ -127,16 +133,24 @@ fn have_distinct_pairs(faces: &[Face]) -> bool
     true
 }
 
+fn has_small_cells(cells: &[Cell]) -> bool
+    ensures { IsTrue result ↔ ((length cells.now ≤ MOST_CELLS) × All IsSmallCell cells.now
+        × (sum_by (λ c. c.stalk) cells.now ≤ MOST_TOTAL)) }
+{
+    cells.len() <= MOST_CELLS && are_small_cells(cells) && is_small_total(cells)
+}
+
+fn has_graph_faces(cells: &[Cell], faces: &[Face]) -> bool
+    ensures { IsTrue result ↔ (All (IsFaceAmong cells.now) faces.now
+        × EachIndex cells.now (IsEdgeWhole cells.now faces.now) × AllPairs HasOtherPair faces.now) }
+{
+    are_faces(cells, faces) && are_edges_whole(cells, faces) && have_distinct_pairs(faces)
+}
+
 /// Whether the sheaf of an input is small; its text may still be too long.
 pub fn is_small_sheaf(input: &Input) -> bool
     ensures { IsTrue result ↔ IsSmallSheaf input.now }
 {
     let cells = input.cells.as_slice();
-    let faces = input.faces.as_slice();
-    cells.len() <= MOST_CELLS
-        && are_small_cells(cells)
-        && is_small_total(cells)
-        && are_faces(cells, faces)
-        && are_edges_whole(cells, faces)
-        && have_distinct_pairs(faces)
+    has_small_cells(cells) && has_graph_faces(cells, input.faces.as_slice())
 }
