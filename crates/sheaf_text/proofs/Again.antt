@@ -1,14 +1,12 @@
 -- The text of a small input is read as that input.
-use Rattle.std.proofs.Common.{◌≡◌, ℕ, zero, suc, ◌+◌, ◌^◌, ◌≤◌, ◌<◌, true, List, [], ◌∷◌, ◌++◌, length, map, refl, sym, ap, ◌∙◌, arith, Option, Some, None, All, inl, inr, append-nil, subst}
-use Rattle.std.specs.Prelude.{codes}
+use Rattle.std.proofs.Common.{◌≡◌, ℕ, zero, suc, ◌^◌, ◌≤◌, ◌<◌, true, List, [], ◌∷◌, ◌++◌, length, map, refl, sym, ap, ◌∙◌, arith, Some, All, append-nil, subst}
 use Rattle.std.specs.List.{list_all, filter_map, cons_option}
 use Rattle.std.specs.Fmt.{decimal}
-use Rattle.std.proofs.lemmas.Bool.{cases_lt}
 use Rattle.std.proofs.lemmas.Fmt.{decimal_digit}
 use Rattle.std.proofs.lemmas.List.Elements.{All-head, All-tail, filter_map-append}
 use Rattle.std.proofs.lemmas.List.Folds.{list_all-append}
-use Rattle.sheaf_text.specs.Candidate.{cell_from, cell_of, sign_of, entry_of, face_from, face_of, cell_in, face_in, lines, candidate_of}
-use Rattle.sheaf_text.specs.Small.{IsSmallCell, HasDimension, IsFaceAmong, IsSmallSheaf, IsSmallText}
+use Rattle.sheaf_text.specs.Candidate.{cell_of, sign_of, entry_of, face_of, cell_in, face_in, lines, candidate_of}
+use Rattle.sheaf_text.specs.Small.{IsSmallCell, HasDimension, IsFaceAmong, IsSmallSheaf, IsSmall, IsSmallText}
 use Rattle.sheaf_text.specs.Text.{cell_words, sign_word, face_words, last_lines, input_lines, lines_text, text_of}
 use Rattle.sheaf_text.specs.declared.input.Cell.{Cell}
 use Rattle.sheaf_text.specs.declared.input.Face.{Face}
@@ -142,11 +140,13 @@ again i small =
     let same_faces : filter_map face_in (lines (lines_text (input_lines i))) ≡ i.faces = said_again face_of refl (input_lines i) of_words ∙ faces_of_lines i faces in
     rw (same_cells, same_faces) refl
 
+-- a small input is the candidate of its text
+pub only : (bytes : List ℕ) (i other : Input) → i ≡ candidate_of bytes → IsSmall other → bytes ≡ text_of other → other ≡ i
+only bytes i other e small text = sym (e ∙ ap candidate_of text ∙ again other small.sheaf)
+
 -- bytes whose candidate is not small, or has another text, are no small text
 pub not_small : (bytes : List ℕ) (i : Input) → i ≡ candidate_of bytes → ¬ IsSmallSheaf i → ¬ IsSmallText bytes
-not_small bytes i e unlike (j, small, text) =
-    let same : i ≡ j = e ∙ ap candidate_of text ∙ again j small.sheaf in unlike (subst IsSmallSheaf (sym same) small.sheaf)
+not_small bytes i e unlike (other, small, text) = unlike (subst IsSmallSheaf (only bytes i other e small text) small.sheaf)
 
 pub not_its_text : (bytes : List ℕ) (i : Input) → i ≡ candidate_of bytes → ¬ (text_of i ≡ bytes) → ¬ IsSmallText bytes
-not_its_text bytes i e unlike (j, small, text) =
-    let same : i ≡ j = e ∙ ap candidate_of text ∙ again j small.sheaf in unlike (ap text_of same ∙ sym text)
+not_its_text bytes i e unlike (other, small, text) = unlike (sym (ap text_of (only bytes i other e small text)) ∙ sym text)

@@ -1,7 +1,7 @@
 -- Lines that are written are cut into the same words.
-use Rattle.std.proofs.Common.{◌≡◌, ◌≢◌, ℕ, ◌^◌, ◌<◌, Bool, true, false, eqb, List, [], ◌∷◌, ◌++◌, refl, ap, ◌∙◌, append_assoc, arith, Option, Some, None, All}
+use Rattle.std.proofs.Common.{◌≡◌, ℕ, ◌^◌, ◌<◌, Bool, true, false, eqb, List, [], ◌∷◌, ◌++◌, refl, ap, ◌∙◌, append_assoc, arith, Option, Some, None, All}
 use Rattle.std.specs.Prelude.{◌&&◌, nat_le, nat_lt}
-use Rattle.std.specs.List.{list_all, slice_split, join_with_byte, filter_map, cons_option}
+use Rattle.std.specs.List.{list_all, join_with_byte, filter_map, cons_option}
 use Rattle.std.specs.Fmt.{decimal}
 use Rattle.std.specs.Str.{all_ascii_digits}
 use Rattle.std.specs.Char.{is_ascii_digit}
@@ -13,7 +13,7 @@ use Rattle.std.proofs.lemmas.List.Splits.{slice_split_none, slice_split_at}
 use Rattle.std.proofs.lemmas.List.Folds.{list_all-append}
 use Rattle.sheaf_text.specs.Candidate.{lines, words, number_of}
 use Rattle.sheaf_text.specs.Text.{line_text, lines_text}
-use Rattle.sheaf_text.proofs.Numbers.{own, number_of-digits}
+use Rattle.sheaf_text.proofs.Numbers.{decimals, number_of-digits}
 
 -- a byte that may stand in a word, and in a line
 abbrev pub in_word : ℕ → Bool
@@ -67,11 +67,11 @@ join_in_line (w ∷ v ∷ ws) e =
     let p = both (is_word w) (list_all is_word (v ∷ ws)) e in
     list_all-append in_line w (32 ∷ join_with_byte 32 (v ∷ ws)) ∙ rw (word_in_line w p.0, join_in_line (v ∷ ws) p.1) refl
 
-weaker : (bytes : List ℕ) → list_all in_line bytes ≡ true → list_all (nat_lt 10) bytes ≡ true
-weaker [] e = refl
-weaker (b ∷ bytes) e =
+above_end : (bytes : List ℕ) → list_all in_line bytes ≡ true → list_all (nat_lt 10) bytes ≡ true
+above_end [] e = refl
+above_end (b ∷ bytes) e =
     let p = both (in_line b) (list_all in_line bytes) e in
-    let q : nat_lt 10 b ≡ true = lt-ltb 10 b (omega (arith, ltb-true 31 b p.0)) in rw (q, weaker bytes p.1) refl
+    let q : nat_lt 10 b ≡ true = lt-ltb 10 b (omega (arith, ltb-true 31 b p.0)) in rw (q, above_end bytes p.1) refl
 
 words_of_line : (ws : List (List ℕ)) → is_line ws ≡ true → list_all is_word ws ≡ true
 words_of_line [] e = refl
@@ -80,7 +80,7 @@ words_of_line (w ∷ ws) e = e
 lines_line : (ws : List (List ℕ)) (rest : List ℕ) → is_line ws ≡ true → lines (line_text ws ++ rest) ≡ join_with_byte 32 ws ∷ lines rest
 lines_line ws rest e =
     ap lines (append_assoc (join_with_byte 32 ws) (10 ∷ []) rest)
-    ∙ slice_split_at (λ b. eqb b 10) (join_with_byte 32 ws) 10 rest (above 10 (join_with_byte 32 ws) (weaker (join_with_byte 32 ws) (join_in_line ws (words_of_line ws e)))) refl
+    ∙ slice_split_at (λ b. eqb b 10) (join_with_byte 32 ws) 10 rest (above 10 (join_with_byte 32 ws) (above_end (join_with_byte 32 ws) (join_in_line ws (words_of_line ws e)))) refl
 
 -- what lines that are written say is what their words say
 pub said_again : {Y : Type 0} (f : List (List ℕ) → Option Y) → f ([] ∷ []) ≡ None → (ls : List (List (List ℕ))) → list_all is_line ls ≡ true → filter_map (λ line. f (words line)) (lines (lines_text ls)) ≡ filter_map f ls
@@ -101,9 +101,9 @@ digits_in_word (c ∷ w) e =
     let r : in_word c ≡ true = lt-ltb 32 c (omega (arith, leb-true 48 c q.0)) in rw (r, digits_in_word w p.1) refl
 
 pub decimal_is_word : (n : ℕ) → n < 10 ^ 9 → is_word (decimal n) ≡ true
-decimal_is_word n h = digits_in_word (decimal n) (digits_decimal own n (omega arith))
+decimal_is_word n h = digits_in_word (decimal n) (digits_decimal decimals n (omega arith))
 
 pub number_of-decimal : (n : ℕ) → n < 10 ^ 9 → number_of (decimal n) ≡ Some n
 number_of-decimal n h =
-    number_of-digits (decimal n) (decimal_nonempty n (omega arith)) (length-decimal-le 9 n (omega arith) h (omega arith)) (digits_decimal own n (omega arith))
-    ∙ ap Some (digits_value-decimal own n (omega arith))
+    number_of-digits (decimal n) (decimal_nonempty n (omega arith)) (length-decimal-le 9 n (omega arith) h (omega arith)) (digits_decimal decimals n (omega arith))
+    ∙ ap Some (digits_value-decimal decimals n (omega arith))

@@ -1,3 +1,5 @@
+ghost use Rattle.std.specs.Prelude.{◌≡◌};
+
 use dense_blocks::Listed;
 
 /// The sign with which a face counts.
@@ -5,6 +7,17 @@ use dense_blocks::Listed;
 pub enum Sign {
     Plus,
     Minus,
+}
+
+impl Sign {
+    ghost use Rattle.sheaf_text.specs.Small.{is_plus};
+
+    /// Whether this is `Plus`.
+    pub fn is_plus(self) -> bool
+        ensures { result ≡ is_plus self }
+    {
+        matches!(self, Sign::Plus)
+    }
 }
 
 /// A cell, by its dimension and the dimension of its stalk.

@@ -1,5 +1,6 @@
 ghost use Rattle.std.specs.Prelude.{◌≡◌, IfOk, IsErrOf};
 ghost use Rattle.sheaf_text.specs.Text.{text_of};
+ghost use Rattle.sheaf_text.specs.declared.input.Input.{Input};
 ghost use Rattle.sheaf_text.specs.Small.{IsSmall, IsSmallText};
 
 use crate::candidate::candidate;
@@ -16,6 +17,7 @@ use std::alloc::Global;
 pub fn read(alloc: Global, bytes: &[u8]) -> Result<Input, TextFault>
     ensures small { IfOk result IsSmall }
     ensures text { IfOk result (λ input. bytes.now ≡ text_of input) }
+    ensures only { IfOk result (λ input. (other : Input) → IsSmall other → bytes.now ≡ text_of other → other ≡ input) }
     ensures bad { IsErrOf result TextFault.BadInput → ¬ IsSmallText bytes.now }
 {
     if bytes.len() > MOST_BYTES {

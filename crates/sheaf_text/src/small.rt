@@ -1,7 +1,7 @@
-ghost use Rattle.std.specs.Prelude.{◌≡◌, ◌<◌, ◌≤◌, ◌↔◌, ◌==◌, ◌&&◌, not, All, AllPairs, EachIndex, IsTrue, count_by, sum_by, length};
+ghost use Rattle.std.specs.Prelude.{◌≡◌, ◌<◌, ◌≤◌, ◌↔◌, not, All, AllPairs, EachIndex, IsTrue, count_by, sum_by, length};
 ghost use Rattle.sheaf_text.specs.Small.{IsSmallCell, HasDimension, stalk_at, IsFaceAmong, HasOtherPair, faces_to, AreTwoOpposite, IsEdgeWhole, is_plus, IsSmallSheaf};
 
-use crate::input::{Cell, Face, Input, Sign};
+use crate::input::{Cell, Face, Input};
 use crate::limits::{FIELD_ORDER, MOST_CELLS, MOST_DIMENSION, MOST_STALK, MOST_TOTAL};
 
 fn are_small_cells(cells: &[Cell]) -> bool
@@ -66,29 +66,23 @@ fn are_faces(cells: &[Cell], faces: &[Face]) -> bool
     true
 }
 
-impl Sign {
-    fn is_plus(self) -> bool
-        ensures { result ≡ is_plus self }
-    {
-        matches!(self, Sign::Plus)
-    }
-}
-
 fn plus_faces(faces: &[Face], edge: usize) -> usize
-    ensures { result ≡ count_by (λ f. (f.t == edge) && is_plus f.sign) faces.now }
+    ensures { result ≡ count_by (λ f. is_plus f.sign) (faces_to edge faces.now) }
 {
     faces
         .iter()
-        .filter(|f| f.t as usize == edge && f.sign.is_plus())
+        .filter(|f| f.t as usize == edge)
+        .filter(|f| f.sign.is_plus())
         .count()
 }
 
 fn minus_faces(faces: &[Face], edge: usize) -> usize
-    ensures { result ≡ count_by (λ f. (f.t == edge) && not (is_plus f.sign)) faces.now }
+    ensures { result ≡ count_by (λ f. not (is_plus f.sign)) (faces_to edge faces.now) }
 {
     faces
         .iter()
-        .filter(|f| f.t as usize == edge && !f.sign.is_plus())
+        .filter(|f| f.t as usize == edge)
+        .filter(|f| !f.sign.is_plus())
         .count()
 }
 

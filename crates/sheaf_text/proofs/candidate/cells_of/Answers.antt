@@ -1,6 +1,6 @@
 use Rattle.std.proofs.Common.{ℕ, List, [], arith, append-nil}
 use Rattle.std.proofs.lemmas.Grind.{common_steps}
-use Rattle.sheaf_text.proofs.Rows.{line_more}
+use Rattle.sheaf_text.proofs.Steps.{line_more}
 use Rattle.sheaf_text.specs.Candidate.{cell_in}
 use Rattle.sheaf_text.proofs.candidate.cells_of.Goals as goal
 use denote.Ref.{Bor}

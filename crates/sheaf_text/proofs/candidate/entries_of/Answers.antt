@@ -1,7 +1,7 @@
 use Rattle.std.proofs.Common.{ℕ, List, rules}
 use Rattle.std.proofs.lemmas.Iterator.{items_from_collect, YieldsList-from_map, YieldsList-from_slice}
 use Rattle.sheaf_text.specs.Candidate.{entry_of}
-use Rattle.sheaf_text.proofs.Rows.{map_texts}
+use Rattle.sheaf_text.proofs.Steps.{map_texts}
 use Rattle.sheaf_text.proofs.candidate.entries_of.Goals as goal
 use denote.Ref.{Bor}
 

@@ -1,5 +1,5 @@
 use Rattle.std.proofs.Common.{rules, append_assoc}
-use Rattle.sheaf_text.proofs.Rows.{text_parts}
+use Rattle.sheaf_text.proofs.Writing.{text_parts}
 use Rattle.sheaf_text.proofs.printing.print.Goals as goal
 
 pub returns : goal.returns

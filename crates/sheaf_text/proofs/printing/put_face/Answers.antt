@@ -1,5 +1,5 @@
 use Rattle.std.proofs.Common.{◌≡◌, ◌++◌, ap, ◌∙◌, rules, append_assoc}
-use Rattle.sheaf_text.proofs.Rows.{face_text, face_text_is}
+use Rattle.sheaf_text.proofs.Writing.{face_text, face_text_is}
 use Rattle.sheaf_text.proofs.printing.put_face.Goals as goal
 
 pub returns : goal.returns

@@ -1,5 +1,5 @@
 use Rattle.sheaf_text.specs.Small.{HasOtherPair}
-use Rattle.sheaf_text.proofs.Rows.{pairs_before, pairs_more}
+use Rattle.sheaf_text.proofs.Steps.{pairs_before, pairs_more}
 use Rattle.sheaf_text.proofs.small.have_distinct_pairs.Goals as goal
 
 pub returns-then-not-has_other_pair : goal.returns-then-not-has_other_pair
