@@ -1,15 +1,10 @@
 -- What a call that answers did to its sink.
 use Rattle.std.specs.Prelude.{◌≡◌, ◌≢◌, ℕ, ◌≤◌, List, Option}
-use Rattle.std.specs.List.{flat_map}
 use Rattle.io_edge.specs.Faults.{Rose}
 use Rattle.io_edge.specs.Bytes.{Took, TookFront, IsFlushed}
 use Rattle.sheaf_run.specs.Answers.{Outcome, IsAnswer}
 use Rattle.sheaf_run.specs.declared.status.Status.{Status}
 use Rattle.sheaf_run.specs.declared.status.Status.TheVariants.{ReadFault, WriteFault, NoMemory}
-
--- the pieces of a text, one after the other
-abbrev pub joined : List (List ℕ) → List ℕ
-joined pieces = flat_map (λ piece. piece) pieces
 
 -- the status is the outcome's, and the sink took its text and flushed all
 pub record Sent (a : Outcome) (old new : Option (List ℕ)) (flush : ℕ) (result : Status) : Type 0 where

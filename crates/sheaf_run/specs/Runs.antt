@@ -1,12 +1,13 @@
 -- What a whole run did to its source and to its sink.
-use Rattle.std.specs.Prelude.{◌≡◌, ℕ, ◌≤◌, List, Option, IfSome}
+use Rattle.std.specs.Prelude.{◌≡◌, ◌⊎◌, ◌↔◌, ℕ, List, Option, None, IsSome, IfSome}
 use Rattle.std.specs.Io.KnownBytes.{IsAtEnd}
 use Rattle.io_edge.specs.Faults.{Rose}
 use Rattle.io_edge.specs.Bytes.{TookFront, IsFlushed}
-use Rattle.sheaf_run.specs.Answers.{Outcome, IsAnswer}
+use Rattle.sheaf_text.specs.Small.{IsSmallText}
+use Rattle.sheaf_run.specs.Answers.{Outcome, IsAnswer, Answers, job_of, bad_words}
 use Rattle.sheaf_run.specs.Replies.{Sent}
 use Rattle.sheaf_run.specs.declared.status.Status.{Status}
-use Rattle.sheaf_run.specs.declared.status.Status.TheVariants.{Done, ReadFault, WriteFault, NoMemory}
+use Rattle.sheaf_run.specs.declared.status.Status.TheVariants.{Done, ReadFault, WriteFault, NoMemory, BadWords, BadInput}
 
 -- where the source tells its bytes, the sink took an outcome that is right for them, and it is flushed
 abbrev pub Answered : (List ℕ → Outcome → Type 0) → Option (List ℕ) → Option (List ℕ) → Option (List ℕ) → ℕ → Status → Type 0
@@ -27,3 +28,27 @@ pub record Ran (IsRight : List ℕ → Outcome → Type 0) (left left_new old ne
   pub write : result ≡ WriteFault → Rose write_before write_now
   pub front : result ≡ WriteFault → Broken IsRight left old new
   pub memory : result ≡ NoMemory → new ≡ old
+
+-- what a run with these words promises: of its source (the bytes that it had left and has left, its count of faults before and
+-- after) and of its sink (the bytes taken before and after, how many of them are flushed, its count of faults before and after)
+pub record Serves (words : List (List ℕ)) (left left_new taken taken_new : Option (List ℕ))
+    (flush read_before read_now write_before write_now : ℕ) (result : Status) : Type 0 where
+  -- Where the source tells its bytes, what the sink took in the call is right for the words and the bytes; all of it is flushed.
+  pub answered : IsAnswer result → Answered (Answers words) left taken taken_new flush result
+  pub flushed : IsAnswer result → IsFlushed taken_new flush
+  pub whole : result ≡ Done → IsAtEnd left_new
+  -- The words alone decide whether they are refused.
+  pub refused : IsAnswer result → ((result ≡ BadWords) ↔ (job_of words ≡ None))
+  pub refusal : result ≡ BadWords → Sent bad_words taken taken_new flush result
+  -- An input is refused exactly where its bytes are no small text.
+  pub bad_input : IsAnswer result → IsSome (job_of words) → IfSome left (λ bytes. (result ≡ BadInput) ↔ (¬ IsSmallText bytes))
+  -- Faults come from the source or from the sink.
+  pub read : result ≡ ReadFault → Rose read_before read_now
+  pub unwritten : result ≡ ReadFault → taken_new ≡ taken
+  pub write : result ≡ WriteFault → Rose write_before write_now
+  pub front : result ≡ WriteFault → Broken (Answers words) left taken taken_new
+  pub memory : result ≡ NoMemory → taken_new ≡ taken
+  -- With no fault refused words are answered so, and a small text is served unless memory runs out.
+  pub complete_words : job_of words ≡ None → ¬ (Rose write_before write_now) → result ≡ BadWords
+  pub complete : IsSome (job_of words) → IfSome left (λ bytes. IsSmallText bytes → ¬ (Rose read_before read_now)
+      → ¬ (Rose write_before write_now) → (result ≡ Done) ⊎ (result ≡ NoMemory))

@@ -2,14 +2,11 @@
 #![tactic(auto)]
 
 mod job;
-mod run;
 mod sending;
 mod status;
+mod top;
 mod transcript;
 
 pub use job::Job;
-pub use run::{run, run_solo};
 pub use status::Status;
-
-#[cfg(test)]
-mod tests;
+pub use top::{run, run_solo};

@@ -1,19 +1,38 @@
-ghost use Rattle.std.specs.Prelude.{◌≡◌, ◌↔◌, ◌⊎◌, map, string_bytes, Some, None, IfSome};
+ghost use Rattle.std.specs.Prelude.{◌≡◌, ◌≢◌, ◌↔◌, ◌⊎◌, map, string_bytes, Some, None, IsSome, IfSome, IfOk};
 ghost use Rattle.std.specs.Io.KnownBytes.{IsAtEnd};
 ghost use Rattle.io_edge.specs.Faults.{Rose};
 ghost use Rattle.io_edge.specs.Bytes.{TookFront, IsFlushed};
 ghost use Rattle.sheaf_text.specs.Small.{IsSmallText};
-ghost use Rattle.sheaf_run.specs.Answers.{Outcome, IsAnswer, IsSolution, AnswersBytes, Answers, bad_words, bad_input, job_of};
+ghost use Rattle.sheaf_run.specs.Answers.{Outcome, IsAnswer, IsSolution, AnswersBytes, Answers, AreBetti, degree_count, bad_words, bad_input, job_of};
 ghost use Rattle.sheaf_run.specs.Replies.{Replies, Sent};
-ghost use Rattle.sheaf_run.specs.Runs.{Answered, Broken, Ran};
+ghost use Rattle.sheaf_run.specs.Runs.{Answered, Broken, Ran, Serves};
 
 use crate::job::{Job, job_of};
 use crate::sending::send;
 use crate::status::Status;
 use crate::transcript::transcript;
 use io_edge::{ReadAll, Sink, Source, read_all};
-use sheaf_text::{Input, MOST_BYTES, TextFault, read};
+use sheaf_text::{Cell, Input, MOST_BYTES, TextFault, read};
 use std::alloc::{AllocError as NoMemory, Global};
+
+/// One number for each degree.
+fn betti(alloc: Global, input: &Input) -> Result<Vec<u32>, NoMemory>
+    ensures { IfOk result (λ numbers. AreBetti input.now numbers.items) }
+{
+    vec![in alloc; 0; degree_count(input.cells.as_slice())]
+}
+
+/// One more than the largest dimension of a cell, and 0 where there are no cells.
+#[tactic(auto, using(crate::proofs::Degrees::degree_count_next))]
+fn degree_count(cells: &[Cell]) -> usize
+    ensures { result ≡ degree_count cells.now }
+{
+    let mut count: usize = 0;
+    for cell in cells {
+        count = count.max(cell.dimension as usize + 1);
+    }
+    count
+}
 
 /// The text of the solution of an input.
 fn solution(alloc: Global, input: &Input) -> Result<Vec<u8>, NoMemory>
@@ -29,7 +48,7 @@ fn solve<K: Sink>(alloc: Global, input: &Input, sink: &mut K) -> Status
         (K.taken sink.old) (K.taken sink.new) (K.flushed sink.new) (K.fault_count sink.old) (K.fault_count sink.new) result }
 {
     match solution(alloc, input) {
-        Ok(text) => send(sink, Status::Done, &[text.as_slice()]),
+        Ok(text) => send(sink, Status::Done, text.as_slice()),
         Err(_) => Status::NoMemory,
     }
 }
@@ -39,7 +58,7 @@ fn refuse_input<K: Sink>(sink: &mut K) -> Status
     ensures { Replies (λ a. a ≡ bad_input)
         (K.taken sink.old) (K.taken sink.new) (K.flushed sink.new) (K.fault_count sink.old) (K.fault_count sink.new) result }
 {
-    send(sink, Status::BadInput, &[b"bad input\n"])
+    send(sink, Status::BadInput, b"bad input\n")
 }
 
 /// Answers the bytes of an input.
@@ -70,11 +89,40 @@ fn answer_source<S: Source, K: Sink>(alloc: Global, source: &mut S, sink: &mut K
 
 /// Writes that the words are refused.
 fn refuse_words<K: Sink>(sink: &mut K) -> Status
-    ensures { Replies (λ a. a ≡ bad_words)
+    ensures replies { Replies (λ a. a ≡ bad_words)
         (K.taken sink.old) (K.taken sink.new) (K.flushed sink.new) (K.fault_count sink.old) (K.fault_count sink.new) result }
-    ensures { result ≢ Status.NoMemory }
+    ensures memory { result ≢ Status.NoMemory }
 {
-    send(sink, Status::BadWords, &[b"bad words\n"])
+    send(sink, Status::BadWords, b"bad words\n")
+}
+
+/// Does the job that the words ask for, and says all that holds then.
+fn solo<S: Source, K: Sink>(alloc: Global, words: &[String], source: &mut S, sink: &mut K) -> Status
+    ensures answered { IsAnswer result →
+        Answered (Answers (map string_bytes words.now)) (S.left source.old) (K.taken sink.old) (K.taken sink.new) (K.flushed sink.new) result }
+    ensures flushed { IsAnswer result → IsFlushed (K.taken sink.new) (K.flushed sink.new) }
+    ensures whole { result ≡ Status.Done → IsAtEnd (S.left source.new) }
+    ensures refused { IsAnswer result → ((result ≡ Status.BadWords) ↔ (job_of (map string_bytes words.now) ≡ None)) }
+    ensures refusal { result ≡ Status.BadWords → Sent bad_words (K.taken sink.old) (K.taken sink.new) (K.flushed sink.new) result }
+    ensures unread { job_of (map string_bytes words.now) ≡ None → source.new ≡ source.old }
+    ensures bad_input { IsAnswer result → IsSome (job_of (map string_bytes words.now)) → IfSome (S.left source.old) (λ bytes.
+        (result ≡ Status.BadInput) ↔ (¬ IsSmallText bytes)) }
+    ensures read { result ≡ Status.ReadFault → Rose (S.fault_count source.old) (S.fault_count source.new) }
+    ensures unwritten { result ≡ Status.ReadFault → K.taken sink.new ≡ K.taken sink.old }
+    ensures write { result ≡ Status.WriteFault → Rose (K.fault_count sink.old) (K.fault_count sink.new) }
+    ensures front { result ≡ Status.WriteFault →
+        Broken (Answers (map string_bytes words.now)) (S.left source.old) (K.taken sink.old) (K.taken sink.new) }
+    ensures memory { result ≡ Status.NoMemory → K.taken sink.new ≡ K.taken sink.old }
+    ensures complete_words { job_of (map string_bytes words.now) ≡ None →
+        ¬ (Rose (K.fault_count sink.old) (K.fault_count sink.new)) → result ≡ Status.BadWords }
+    ensures complete { IsSome (job_of (map string_bytes words.now)) → IfSome (S.left source.old) (λ bytes. IsSmallText bytes →
+        ¬ (Rose (S.fault_count source.old) (S.fault_count source.new)) → ¬ (Rose (K.fault_count sink.old) (K.fault_count sink.new)) →
+        (result ≡ Status.Done) ⊎ (result ≡ Status.NoMemory)) }
+{
+    match job_of(words) {
+        None => refuse_words(sink),
+        Some(Job::Solve) => answer_source(alloc, source, sink),
+    }
 }
 
 /// Does the job that the words ask for: reads the source to its end, and writes what it is answered.
@@ -87,38 +135,25 @@ pub fn run_solo<S: Source, K: Sink>(
     source: &mut S,
     sink: &mut K,
 ) -> Status
-    // Where the source tells its bytes, what the sink took is right for the words and the bytes, whole and flushed.
-    ensures answered { IsAnswer result →
-        Answered (Answers (map string_bytes words.now)) (S.left source.old) (K.taken sink.old) (K.taken sink.new) (K.flushed sink.new) result }
-    ensures flushed { IsAnswer result → IsFlushed (K.taken sink.new) (K.flushed sink.new) }
-    ensures whole { result ≡ Status.Done → IsAtEnd (S.left source.new) }
+    ensures serves { Serves (map string_bytes words.now) (S.left source.old) (S.left source.new) (K.taken sink.old) (K.taken sink.new)
+        (K.flushed sink.new) (S.fault_count source.old) (S.fault_count source.new) (K.fault_count sink.old) (K.fault_count sink.new) result }
 
-    // The words alone decide whether they are refused; then nothing is read, and the line is written.
-    ensures refused { IsAnswer result → ((result ≡ Status.BadWords) ↔ (job_of (map string_bytes words.now) ≡ None)) }
-    ensures refusal { result ≡ Status.BadWords → Sent bad_words (K.taken sink.old) (K.taken sink.new) (K.flushed sink.new) result }
+    // With refused words nothing is read.
     ensures unread { job_of (map string_bytes words.now) ≡ None → source.new ≡ source.old }
-
-    // The input is refused exactly where it is no small text.
-    ensures bad_input { IsAnswer result → IsSome (job_of (map string_bytes words.now)) → IfSome (S.left source.old) (λ bytes.
-        (result ≡ Status.BadInput) ↔ (¬ IsSmallText bytes)) }
-
-    // Faults come from the source or the sink.
-    ensures read { result ≡ Status.ReadFault → Rose (S.fault_count source.old) (S.fault_count source.new) }
-    ensures unwritten { result ≡ Status.ReadFault → K.taken sink.new ≡ K.taken sink.old }
-    ensures write { result ≡ Status.WriteFault → Rose (K.fault_count sink.old) (K.fault_count sink.new) }
-    ensures front { result ≡ Status.WriteFault →
-        Broken (Answers (map string_bytes words.now)) (S.left source.old) (K.taken sink.old) (K.taken sink.new) }
-    ensures memory { result ≡ Status.NoMemory → K.taken sink.new ≡ K.taken sink.old }
-
-    // With no fault refused words are answered so, and a small input is served unless memory runs out.
-    ensures complete_words { job_of (map string_bytes words.now) ≡ None →
-        ¬ (Rose (K.fault_count sink.old) (K.fault_count sink.new)) → result ≡ Status.BadWords }
-    ensures complete { IsSome (job_of (map string_bytes words.now)) → IfSome (S.left source.old) (λ bytes. IsSmallText bytes →
-        ¬ (Rose (S.fault_count source.old) (S.fault_count source.new)) → ¬ (Rose (K.fault_count sink.old) (K.fault_count sink.new)) →
-        (result ≡ Status.Done) ⊎ (result ≡ Status.NoMemory)) }
 {
-    match job_of(words) {
-        None => refuse_words(sink),
-        Some(Job::Solve) => answer_source(alloc, source, sink),
-    }
+    solo(alloc, words, source, sink)
+}
+
+/// Does all that the program does: for now what `run_solo` does.
+pub fn run<S: Source, K: Sink>(
+    alloc: Global,
+    words: &[String],
+    source: &mut S,
+    sink: &mut K,
+) -> Status
+    ensures serves { Serves (map string_bytes words.now) (S.left source.old) (S.left source.new) (K.taken sink.old) (K.taken sink.new)
+        (K.flushed sink.new) (S.fault_count source.old) (S.fault_count source.new) (K.fault_count sink.old) (K.fault_count sink.new) result }
+    ensures unread { job_of (map string_bytes words.now) ≡ None → source.new ≡ source.old }
+{
+    run_solo(alloc, words, source, sink)
 }
