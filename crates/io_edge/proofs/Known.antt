@@ -1,8 +1,7 @@
 -- Bytes that are given and taken, and faults that are counted, in several calls.
-use Rattle.std.proofs.Common.{◌≡◌, ℕ, ◌+◌, ◌-◌, ◌≤◌, List, [], ◌++◌, length, take, drop, Option, Some, None, refl, sym, ap, ◌∙◌, append_assoc, take-add, arith}
-use Rattle.std.specs.Prelude.{IfSome, ◌↔◌}
-use Rattle.std.proofs.lemmas.Grind.{common_steps}
-use Rattle.std.proofs.lemmas.List.{append-nil, take-append-drop}
+use Rattle.std.proofs.Common.{◌≡◌, ℕ, ◌-◌, ◌^◌, ◌<◌, ◌≤◌, ◌⊎◌, List, [], ◌++◌, length, Option, Some, None, refl, sym, ap, ◌∙◌, append_assoc, arith}
+use Rattle.std.specs.Prelude.{IfSome}
+use Rattle.std.proofs.lemmas.List.{append-nil, length-append}
 use Rattle.std.specs.Io.KnownBytes.{prepend_known, append_known, IsAtEnd}
 use Rattle.io_edge.specs.Bytes.{Gave, Took, TookFront}
 use Rattle.io_edge.specs.Faults.{Rose}
@@ -71,6 +70,18 @@ gave_whole (Some left) None bytes gave end = absurd cc
 gave_whole (Some left) (Some rest) bytes gave end =
     let whole : left ≡ bytes ++ rest = cc in
     whole ∙ ap (λ zs. bytes ++ zs) end ∙ append-nil bytes
+
+-- at least the bytes that were given were left
+pub gave_at_least : (old new : Option (List ℕ)) (bytes : List ℕ) → Gave old new bytes → IfSome old (λ left. length bytes ≤ length left)
+gave_at_least None new bytes gave = tt
+gave_at_least (Some left) None bytes gave = absurd cc
+gave_at_least (Some left) (Some rest) bytes gave =
+    let whole : left ≡ bytes ++ rest = cc in
+    omega (arith, ap length whole, length-append bytes rest)
+
+-- a count that rose is greater now, or is the last value of a u64
+pub rose_cases : (before now : ℕ) → Rose before now → now < 2 ^ 64 → (before < now) ⊎ (now ≡ 2 ^ 64 - 1)
+rose_cases before now rose fits = grind arith
 
 -- a count that rose is not lower later
 pub rose_later : (before between now : ℕ) → Rose before between → between ≤ now → Rose before now

@@ -39,7 +39,8 @@ impl Model for MemSink {
       faults = s.faults;
     } };
 
-    ghost invariant = { λ s. (length s.taken.items ≤ s.room) × (s.room ≤ vec_capacity s.taken) × (0 < s.step) };
+    ghost invariant = { λ s.
+        (length s.taken.items ≤ s.room) × (s.room ≤ vec_capacity s.taken) × (0 < s.step) };
 }
 
 impl MemSink {
@@ -96,8 +97,10 @@ impl Sink for MemSink {
         ensures cause { HasCause self.old.faults self.new.faults result }
 
         // As many bytes as are offered, as a step has and as there is room for.
-        ensures count { IfOk result (λ n. n ≡ min (min (length bytes.now) self.old.step) (self.old.room - length self.old.taken)) }
-        ensures fails { IsErr result ↔ (FailsNext self.old.failing self.old.calls ⊎ (self.old.room ≡ length self.old.taken)) }
+        ensures count { IfOk result (λ n. n ≡
+            min (min (length bytes.now) self.old.step) (self.old.room - length self.old.taken)) }
+        ensures fails { IsErr result ↔
+            (FailsNext self.old.failing self.old.calls ⊎ (self.old.room ≡ length self.old.taken)) }
         ensures ok { IfOk result (λ n. self.new ≡ record self.old {
           taken = self.old.taken ++ take n bytes.now;
           calls = next_count self.old.calls;

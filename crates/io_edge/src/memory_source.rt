@@ -80,7 +80,8 @@ impl Source for MemSource {
         ensures cause { HasCause self.old.faults self.new.faults result }
 
         // As many bytes as there is room for, as a step has and as are left.
-        ensures count { IfOk result (λ n. n ≡ min (min (length buf.old) self.old.step) (length self.old.left)) }
+        ensures count { IfOk result (λ n. n ≡
+            min (min (length buf.old) self.old.step) (length self.old.left)) }
         ensures fails { IsErr result ↔ FailsNext self.old.failing self.old.calls }
         ensures ok { IfOk result (λ n. self.new ≡ record self.old {
           left = drop n self.old.left;

@@ -1,4 +1,4 @@
-ghost use Rattle.std.specs.Prelude.{◌≡◌, ℕ, ◌<◌, ◌≤◌, List, OnOk, IsErrOf};
+ghost use Rattle.std.specs.Prelude.{◌≡◌, ℕ, ◌<◌, ◌≤◌, List, length, IfOk, IfSome, OnOk, IsErrOf};
 ghost use Rattle.std.specs.Io.KnownBytes.{IsAtEnd};
 ghost use Rattle.io_edge.specs.Faults.{Rose};
 ghost use Rattle.io_edge.specs.Bytes.{Gave};
@@ -6,7 +6,7 @@ ghost use Rattle.io_edge.specs.Reading.{ReadUpTo};
 ghost use Rattle.io_edge.specs.declared.reading.ReadAll.TheVariants.{NoMemory};
 
 use crate::edge::Source;
-use std::alloc::{AllocError, Global};
+use std::alloc::{AllocError as NoMemory, Global};
 use thiserror::Error;
 
 /// Why not all bytes of a source were read.
@@ -23,10 +23,10 @@ pub enum ReadAll {
     NoMemory,
 }
 
-impl From<AllocError> for ReadAll {
+impl From<NoMemory> for ReadAll {
     ghost from_gives = { λ _ e. e ≡ NoMemory };
 
-    fn from(_: AllocError) -> Self {
+    fn from(_: NoMemory) -> Self {
         ReadAll::NoMemory
     }
 }
@@ -40,14 +40,23 @@ const BUFFER: usize = 4096;
 ///
 /// `ReadFault` at the first read that fails, `TooLong` once one byte more than the limit was read, and `NoMemory`
 /// where there is none for the bytes. What was read then is lost.
+#[tactic(auto, using(crate::proofs::Known::gave_whole, crate::proofs::Known::gave_at_least))]
 pub fn read_all<S: Source>(alloc: Global, source: &mut S, limit: usize) -> Result<Vec<u8>, ReadAll>
     requires { limit < usize.MAX }
 
-    // Whatever comes, the source gave these bytes and no more.
-    ensures gave { (bytes : List ℕ) × Gave (S.left source.old) (S.left source.new) bytes × ReadUpTo limit bytes result }
+    // Where the source tells its bytes, the answer is all of them, or they are more than the limit.
+    ensures whole { IfOk result (λ all. IfSome (S.left source.old) (λ bytes. all.items ≡ bytes)) }
+    ensures long { IsErrOf result ReadAll.TooLong → IfSome (S.left source.old) (λ bytes. limit < length bytes) }
     ensures end { OnOk result (IsAtEnd (S.left source.new)) }
+
+    // Whatever comes, the source gave these bytes and no more.
+    ensures gave { (bytes : List ℕ) ×
+        Gave (S.left source.old) (S.left source.new) bytes × ReadUpTo limit bytes result }
+
+    // The count of faults never falls, and rose where a read failed.
     ensures later { S.fault_count source.old ≤ S.fault_count source.new }
-    ensures fault { IsErrOf result ReadAll.ReadFault → Rose (S.fault_count source.old) (S.fault_count source.new) }
+    ensures fault { IsErrOf result ReadAll.ReadFault →
+        Rose (S.fault_count source.old) (S.fault_count source.new) }
 {
     let mut all = Vec::new(alloc);
     let mut buffer = [0; BUFFER];

@@ -7,7 +7,7 @@ use crate::{
     write_all,
 };
 use std::io;
-use std::io::{ErrorKind, Read};
+use std::io::{ErrorKind, Read, Write};
 use std::test::Fail;
 
 const LETTERS: &[u8] = b"abcdefghijklmnopqrstuvwxy";
@@ -95,6 +95,7 @@ fn a_sink_in_memory_takes_what_it_has_room_for(rt: HostRuntime) -> Result<(), Fa
     Ok(())
 }
 
+/// A reader whose reads fail.
 #[derive(Drop)]
 struct Broken;
 
@@ -122,6 +123,23 @@ fn a_source_over_std_counts_errors(rt: HostRuntime) -> Result<(), Fail> {
     Ok(())
 }
 
+/// A writer that takes nothing and counts its flushes.
+#[derive(Drop)]
+struct Idle {
+    flushes: u64,
+}
+
+impl Write for Idle {
+    fn write(&mut self, _buf: &[u8]) -> io::Result<usize> {
+        Ok(0)
+    }
+
+    fn flush(&mut self) -> io::Result<()> {
+        self.flushes = self.flushes.saturating_add(1);
+        Ok(())
+    }
+}
+
 #[test]
 fn a_sink_over_std_counts_writes_of_nothing(rt: HostRuntime) -> Result<(), Fail> {
     let mut held = Vec::new(rt.alloc());
@@ -130,11 +148,12 @@ fn a_sink_over_std_counts_writes_of_nothing(rt: HostRuntime) -> Result<(), Fail>
     assert_eq!(rt; ample.flush(), Ok(()));
     assert_eq!(rt; ample.faults(), 0);
     assert_eq!(rt; held.as_slice(), b"cells".as_slice());
-    let mut room = [0; 3];
-    let mut full = StdSink::new(room.as_mut_slice());
+    let mut idle = Idle { flushes: 0 };
+    let mut full = StdSink::new(&mut idle);
     assert_eq!(rt; write_all(&mut full, b"cells"), Err(WriteFault));
     assert_eq!(rt; full.faults(), 1);
-    assert_eq!(rt; room, *b"cel");
+    assert_eq!(rt; full.flush(), Ok(()));
+    assert_eq!(rt; idle.flushes, 1);
     Ok(())
 }
 
@@ -163,8 +182,10 @@ fn write_three<K: Sink>(
     second: &[u8],
     third: &[u8],
 ) -> Result<(), WriteFault>
-    ensures ok { OnOk result (Took (K.taken sink.old) (K.taken sink.new) (first.now ++ second.now ++ third.now)) }
-    ensures err { OnErr result (TookFront (K.taken sink.old) (K.taken sink.new) (first.now ++ second.now ++ third.now)) }
+    ensures ok { OnOk result
+        (Took (K.taken sink.old) (K.taken sink.new) (first.now ++ second.now ++ third.now)) }
+    ensures err { OnErr result
+        (TookFront (K.taken sink.old) (K.taken sink.new) (first.now ++ second.now ++ third.now)) }
     ensures flushed { K.flushed sink.new ≡ K.flushed sink.old }
     ensures cause { HasCause (K.fault_count sink.old) (K.fault_count sink.new) result }
 {

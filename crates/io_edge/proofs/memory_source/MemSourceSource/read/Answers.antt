@@ -1,4 +1,4 @@
-use Rattle.std.proofs.Common.{◌≡◌, ◌-◌, ◌+◌, ℕ, List, ◌++◌, Some, length, take, drop, sym, ap, ◌∙◌, take-append-drop, arith}
+use Rattle.std.proofs.Common.{◌≡◌, ℕ, List, ◌++◌, Some, length, take, drop, sym, ap, ◌∙◌, take-append-drop, arith}
 use Rattle.std.proofs.lemmas.Grind.{common_steps}
 use Rattle.std.proofs.lemmas.List.{take_at, drop-drop}
 use Rattle.io_edge.specs.Memory.{SourceState}
