@@ -13,7 +13,7 @@ use Rattle.sheaf_text.specs.declared.input.Face.{Face}
 use Rattle.sheaf_text.specs.declared.input.Input.{Input}
 use Rattle.sheaf_text.specs.declared.input.Sign.{Sign}
 use Rattle.sheaf_text.specs.declared.input.Sign.TheVariants.{Plus, Minus}
-use Rattle.sheaf_text.specs.declared.limits.TheConstants.{FIELD_ORDER}
+use Rattle.sheaf_text.specs.declared.limits.TheConstants.{FIELD_ORDER, MOST_CELLS}
 use Rattle.sheaf_text.proofs.Words.{is_word, is_line, said_again, decimal_is_word, number_of-decimal}
 
 -- ---- what a small input's parts know of their numbers
@@ -35,7 +35,7 @@ is_there [] k n h = absurd h
 is_there (c ∷ cells) zero n h = omega arith
 is_there (c ∷ cells) (suc k) n h = omega (arith, is_there cells k n h)
 
-fits_face : (cells : List Cell) (f : Face) → length cells ≤ 64 → IsFaceAmong cells f → FitsFace f
+fits_face : (cells : List Cell) (f : Face) → length cells ≤ MOST_CELLS → IsFaceAmong cells f → FitsFace f
 fits_face cells f few face =
     let s_there = is_there cells f.s 0 face.vertex in
     let t_there = is_there cells f.t 1 face.edge in

@@ -134,6 +134,7 @@ fn has_small_cells(cells: &[Cell]) -> bool
     cells.len() <= MOST_CELLS && are_small_cells(cells) && is_small_total(cells)
 }
 
+// The edges come before the pairs: where each edge has two faces, there are few pairs to compare.
 fn has_graph_faces(cells: &[Cell], faces: &[Face]) -> bool
     ensures { IsTrue result ↔ (All (IsFaceAmong cells.now) faces.now
         × EachIndex cells.now (IsEdgeWhole cells.now faces.now) × AllPairs HasOtherPair faces.now) }
