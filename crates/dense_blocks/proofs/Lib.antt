@@ -1,0 +1,4 @@
+pub mod ScalarLaws
+pub mod Shapes
+pub mod VectorLaws
+pub mod MatrixLaws
