@@ -1,0 +1,2 @@
+//! Cochains, and the cohomology of cells with matrices between them.
+#![tactic(auto)]

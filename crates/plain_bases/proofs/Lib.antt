@@ -1,0 +1,3 @@
+pub mod RelationLaws
+pub mod ComplementLaws
+pub mod BasisLaws
