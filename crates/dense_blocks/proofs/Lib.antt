@@ -2,3 +2,4 @@ pub mod ScalarLaws
 pub mod Shapes
 pub mod VectorLaws
 pub mod MatrixLaws
+pub mod Cutting
