@@ -1,3 +1,4 @@
 pub mod Field
 pub mod Vectors
 pub mod Matrices
+pub mod Two

@@ -3,7 +3,9 @@
 
 mod entries;
 mod listed;
+mod rows;
 mod scalars;
+mod two;
 
 pub use entries::Entries;
 pub use listed::Listed;
