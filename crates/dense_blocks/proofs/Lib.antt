@@ -1,1 +1,5 @@
+pub mod ScalarLaws
+pub mod Shapes
+pub mod VectorLaws
+pub mod MatrixLaws
 pub mod RowSteps

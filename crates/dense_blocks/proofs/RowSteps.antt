@@ -1,9 +1,10 @@
 -- Rows that a loop changes entry by entry.
-use Rattle.std.proofs.Common.{◌≡◌, ℕ, zero, suc, ◌+◌, ◌<◌, List, [], ◌∷◌, ◌++◌, length, map, take, get_or, set, replicate, refl, sym, ap, ap₂, ◌∙◌, arith, add-one}
-use Rattle.std.specs.Prelude.{All}
+use Rattle.std.proofs.Common.{◌≡◌, ℕ, zero, suc, ◌+◌, ◌<◌, List, [], ◌∷◌, ◌++◌, length, take, get_or, set, replicate, refl, sym, ap, ap₂, ◌∙◌, arith, add-one}
 use Rattle.std.proofs.lemmas.List.{length-map, take_more}
 use Rattle.dense_blocks.specs.Field.{Ops, IsField}
 use Rattle.dense_blocks.specs.Vectors.{zeros, plus, scaled, dot}
+use Rattle.dense_blocks.proofs.ScalarLaws.{zero_add}
+use Rattle.dense_blocks.proofs.VectorLaws.{dot-below}
 
 -- the first i entries of w, and the later ones of u
 unfoldable pub changed : ℕ → List ℕ → List ℕ → List ℕ
@@ -121,29 +122,18 @@ dot_from-end K (a ∷ u) [] = refl
 dot_from-end K (a ∷ u) (b ∷ v) = dot_from-end K u v
 
 module _ (K : Ops) (h : IsField K) where
-  pub zero_below : 0 < K.order
-  zero_below = omega (arith, h.order_low)
-
-  zero_add : (a : ℕ) → a < K.order → K.add 0 a ≡ a
-  zero_add a l = h.add_comm 0 a ∙ h.add_zero a l
-
-  dot-below : (u v : List ℕ) → dot K u v < K.order
-  dot-below [] v = zero_below
-  dot-below (a ∷ u) [] = zero_below
-  dot-below (a ∷ u) (b ∷ v) = h.add_below (K.mul a b) (dot K u v)
-
   pub dot_from-start : (u v : List ℕ) → K.add 0 (dot_from K 0 u v) ≡ dot K u v
   unfolding dot_from
-  dot_from-start u v = zero_add (dot K u v) (dot-below u v)
+  dot_from-start u v = zero_add K h (dot K u v) (dot-below K h u v)
 
   pub dot_from-next : (i total a b : ℕ) (u v : List ℕ) → length u ≡ length v → i < length u → a ≡ get_or u i 0 → b ≡ get_or v i 0
       → K.add total (dot_from K i u v) ≡ dot K u v → K.add (K.add total (K.mul a b)) (dot_from K (i + 1) u v) ≡ dot K u v
   dot_from-next i total a b u v e l is_a is_b now =
       h.add_assoc total (K.mul a b) (dot_from K (i + 1) u v)
       ∙ ap (K.add total)
-        (ap₂ (λ x y. K.add (K.mul x y) (dot_from K (i + 1) u v)) is_a is_b
-        ∙ ap (λ t. K.add (K.mul (get_or u i 0) (get_or v i 0)) (dot_from K t u v)) (add-one i)
-        ∙ sym (dot_from-suc K i u v e l))
+      (ap₂ (λ x y. K.add (K.mul x y) (dot_from K (i + 1) u v)) is_a is_b
+      ∙ ap (λ t. K.add (K.mul (get_or u i 0) (get_or v i 0)) (dot_from K t u v)) (add-one i)
+      ∙ sym (dot_from-suc K i u v e l))
       ∙ now
 
   pub dot_from-all : (i total : ℕ) (u v : List ℕ) → i ≡ length u → total < K.order → K.add total (dot_from K i u v) ≡ dot K u v → total ≡ dot K u v

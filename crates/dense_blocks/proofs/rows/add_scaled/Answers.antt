@@ -1,8 +1,8 @@
-use Rattle.std.proofs.Common.{◌≡◌, ℕ, ◌<◌, List, get_or, length, set, refl, sym, ap, ◌∙◌, arith}
+use Rattle.std.proofs.Common.{◌≡◌, ℕ, ◌<◌, List, get_or, set, refl, sym, ap, ◌∙◌, arith}
 use Rattle.std.proofs.lemmas.List.Elements.{All-set}
 use Rattle.dense_blocks.specs.Field.{Ops, IsField}
 use Rattle.dense_blocks.specs.Vectors.{plus, scaled}
-use Rattle.dense_blocks.proofs.RowSteps.{changed, changed-none, add_scaled-next, add_scaled-all}
+use Rattle.dense_blocks.proofs.RowSteps.{changed-none, add_scaled-next, add_scaled-all}
 use Rattle.dense_blocks.proofs.rows.add_scaled.Goals as goal
 
 pub loop-i-init : goal.loop-i-init

@@ -1,6 +1,7 @@
 use Rattle.std.proofs.Common.{◌≡◌, ℕ, ◌+◌, List, get_or, refl, ap, ◌∙◌, arith}
 use Rattle.dense_blocks.specs.Field.{Ops, IsField}
-use Rattle.dense_blocks.proofs.RowSteps.{zero_below, dot_from, dot_from-start, dot_from-next, dot_from-all}
+use Rattle.dense_blocks.proofs.ScalarLaws.{zero_below}
+use Rattle.dense_blocks.proofs.RowSteps.{dot_from, dot_from-start, dot_from-next, dot_from-all}
 use Rattle.dense_blocks.proofs.rows.dot_product.Goals as goal
 
 pub loop-i-init : goal.loop-i-init

@@ -1,8 +1,8 @@
-use Rattle.std.proofs.Common.{◌≡◌, ℕ, ◌<◌, List, get_or, length, set, refl, sym, ap, ◌∙◌, arith}
+use Rattle.std.proofs.Common.{ℕ, ◌<◌, List, get_or, set, refl, sym, ap, ◌∙◌, arith}
 use Rattle.std.proofs.lemmas.List.Elements.{All-set}
 use Rattle.dense_blocks.specs.Field.{Ops, IsField}
 use Rattle.dense_blocks.specs.Vectors.{scaled}
-use Rattle.dense_blocks.proofs.RowSteps.{changed, changed-none, scale-next, scale-all}
+use Rattle.dense_blocks.proofs.RowSteps.{changed-none, scale-next, scale-all}
 use Rattle.dense_blocks.proofs.rows.scale.Goals as goal
 
 pub loop-entry-init : goal.loop-entry-init
