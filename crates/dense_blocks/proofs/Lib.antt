@@ -3,3 +3,4 @@ pub mod Shapes
 pub mod VectorLaws
 pub mod MatrixLaws
 pub mod Cutting
+pub mod RowSteps

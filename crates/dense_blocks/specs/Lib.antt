@@ -2,3 +2,4 @@ pub mod Field
 pub mod Vectors
 pub mod Matrices
 pub mod Blocks
+pub mod Two

@@ -4,7 +4,9 @@
 mod block;
 mod entries;
 mod listed;
+mod rows;
 mod scalars;
+mod two;
 
 pub use block::Block;
 pub use entries::Entries;
