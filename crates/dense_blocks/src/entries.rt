@@ -1,4 +1,5 @@
-ghost use Rattle.std.specs.Prelude.{◌≡◌, IfOk};
+ghost use Rattle.std.specs.Prelude.{◌≡◌, [], ◌∷◌, ◌++◌, length, IfOk, OnOk, OnErr};
+ghost use Rattle.dense_blocks.specs.Vectors.{zeros};
 
 use smallvec::SmallVec;
 use std::alloc::{AllocError as NoMemory, Global};
@@ -33,5 +34,41 @@ impl Entries {
         ensures { result.now ≡ self.now }
     {
         self.items.as_slice()
+    }
+
+    /// The number of entries.
+    pub fn len(&self) -> usize
+        ensures { result ≡ length self.now }
+    {
+        self.items.len()
+    }
+
+    /// No entries, with room for `count`.
+    pub fn with_room(alloc: Global, count: usize) -> Result<Entries, NoMemory>
+        ensures { IfOk result (λ e. e ≡ []) }
+    {
+        Ok(Entries {
+            items: SmallVec::with_capacity(alloc, count)?,
+        })
+    }
+
+    /// Adds an entry at the end; without memory nothing changes.
+    pub fn push(&mut self, entry: u8) -> Result<(), NoMemory>
+        ensures ok { OnOk result (self.new ≡ self.old ++ entry ∷ []) }
+        ensures err { OnErr result (self.new ≡ self.old) }
+    {
+        self.items.push(entry)?;
+        Ok(())
+    }
+
+    /// Adds `count` zeros at the end; without memory some may have been added.
+    #[tactic(auto, using(crate::proofs::VectorLaws::pushing))]
+    pub fn push_zeros(&mut self, count: usize) -> Result<(), NoMemory>
+        ensures { OnOk result (self.new ≡ self.old ++ zeros count) }
+    {
+        for _added in 0..count {
+            self.push(0)?;
+        }
+        Ok(())
     }
 }

@@ -1,10 +1,14 @@
 //! Scalars of a finite field, vectors and small matrices over them, and vectors that solve.
 #![tactic(auto)]
 
+mod block;
 mod entries;
 mod listed;
+mod rows;
 mod scalars;
+mod two;
 
+pub use block::Block;
 pub use entries::Entries;
 pub use listed::Listed;
 pub use scalars::Scalars;
