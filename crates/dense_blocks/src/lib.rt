@@ -2,6 +2,7 @@
 #![tactic(auto)]
 
 mod block;
+mod combining;
 mod entries;
 mod listed;
 mod rows;
