@@ -5,4 +5,5 @@ pub mod MatrixLaws
 pub mod Cutting
 pub mod AddingRows
 pub mod Tails
+pub mod BlockLaws
 pub mod RowSteps
