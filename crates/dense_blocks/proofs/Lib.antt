@@ -4,4 +4,7 @@ pub mod VectorLaws
 pub mod MatrixLaws
 pub mod SpanLaws
 pub mod Cutting
+pub mod AddingRows
+pub mod Tails
+pub mod BlockLaws
 pub mod RowSteps

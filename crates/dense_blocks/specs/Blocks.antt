@@ -1,11 +1,7 @@
 -- Blocks seen as matrices.
-use Rattle.std.specs.Prelude.{◌≡◌, ℕ, zero, suc, List, [], ◌∷◌, take, drop}
+use Rattle.std.specs.Prelude.{◌≡◌, ℕ, List}
+use Rattle.dense_blocks.specs.Matrices.{cut}
 use Rattle.dense_blocks.specs.declared.block.Block.{Block}
-
--- a list of entries cut into so many rows of n
-abbrev pub cut : ℕ → ℕ → List ℕ → List (List ℕ)
-cut zero n entries = []
-cut (suc m) n entries = take n entries ∷ cut m n (drop n entries)
 
 -- the list of a block's rows
 abbrev pub matrix_of : Block → List (List ℕ)

@@ -1,6 +1,9 @@
-ghost use Rattle.std.specs.Prelude.{◌≡◌, [], ◌∷◌, ◌++◌, length, IfOk, OnOk, OnErr};
-ghost use Rattle.dense_blocks.specs.Vectors.{zeros};
+ghost use Rattle.std.specs.Prelude.{◌≡◌, [], ◌∷◌, ◌++◌, ◌*◌, length, IfOk, OnOk, OnErr};
+ghost use Rattle.dense_blocks.specs.Vectors.{AllScalars, zeros, combination};
+ghost use Rattle.dense_blocks.specs.Matrices.{cut};
 
+use crate::combining::add_combination;
+use crate::scalars::Scalars;
 use smallvec::SmallVec;
 use std::alloc::{AllocError as NoMemory, Global};
 use std::marker::Model;
@@ -69,6 +72,28 @@ impl Entries {
         for _added in 0..count {
             self.push(0)?;
         }
+        Ok(())
+    }
+
+    /// Adds at the end the linear combination, by the coefficients, of rows of `columns` entries
+    /// that are given one after another; without memory some entries may have been added.
+    pub(crate) fn push_combination<F: Scalars>(
+        &mut self,
+        f: &F,
+        columns: usize,
+        coefficients: &[u8],
+        rows: &[u8],
+    ) -> Result<(), NoMemory>
+        requires full { length rows.now ≡ length coefficients.now * columns }
+        requires coefficient_scalars { AllScalars (F.ops f.now) coefficients.now }
+        requires row_scalars { AllScalars (F.ops f.now) rows.now }
+        ensures { OnOk result (self.new ≡ self.old ++
+            combination (F.ops f.now) columns coefficients.now (cut (length coefficients.now) columns rows.now)) }
+    {
+        let start = self.len();
+        self.push_zeros(columns)?;
+        let all = self.items.as_mut_slice();
+        add_combination(f, &mut all[start..], coefficients, rows);
         Ok(())
     }
 }

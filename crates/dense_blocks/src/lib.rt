@@ -2,8 +2,10 @@
 #![tactic(auto)]
 
 mod block;
+mod combining;
 mod entries;
 mod listed;
+mod operations;
 mod rows;
 mod scalars;
 mod two;
@@ -11,4 +13,5 @@ mod two;
 pub use block::Block;
 pub use entries::Entries;
 pub use listed::Listed;
-pub use scalars::Scalars;
+pub use operations::{apply, minus, product, sum};
+pub use scalars::{Scalars, all_scalars};
