@@ -11,7 +11,8 @@ use Rattle.dense_blocks.specs.Matrices.{applied, identity}
 use Rattle.dense_blocks.proofs.Shapes.{Vector, Matrix, to_vector, from_vector, vector-size, append-vector}
 use Rattle.dense_blocks.proofs.VectorLaws.{zeros-vector, plus-vector, scaled-vector, plus-append, scaled-append, plus-cross, scaled-plus, scaled-zeros, zeros-plus-zeros, plus-nil, dot-below, combination-vector, scaled-zero}
 use Rattle.dense_blocks.proofs.MatrixLaws.{applied-plus, applied-scaled, identity-matrix, combination-identity}
-use Rattle.cochain_vec.specs.Complexes.{Cell, Arrow, CellularComplex, cells_of, total_size, coordinates, value_at, IsCochain, sum_into, coboundary, RowsFit}
+use Rattle.cochain_vec.specs.declared.cell.Cell.{Cell}
+use Rattle.cochain_vec.specs.Complexes.{Arrow, CellularComplex, cells_of, total_size, coordinates, value_at, IsCochain, sum_into, coboundary, RowsFit}
 
 take-plus : (K : Ops) (n : ℕ) (u v : List ℕ) → take n (plus K u v) ≡ plus K (take n u) (take n v)
 take-plus K zero u v = refl
@@ -36,11 +37,11 @@ drop-vector K (suc m) n [] h = absurd (subst (λ k. Vector K k []) (suc-add m n)
 drop-vector K (suc m) n (a ∷ z) h = let g : Vector K (suc (m + n)) (a ∷ z) = subst (λ k. Vector K k (a ∷ z)) (suc-add m n) h in drop-vector K m n z g.1
 
 -- how many coordinates the cell s has among these cells
-size_at : List Cell → ℕ → ℕ
+pub size_at : List Cell → ℕ → ℕ
 size_at [] s = 0
 size_at (c ∷ cs) s = cond (eqb c.cell s) c.size (size_at cs s)
 
-value-vector : (K : Ops) (cs : List Cell) (z : List ℕ) (s : ℕ) → Vector K (total_size cs) z → Vector K (size_at cs s) (value_at cs z s)
+pub value-vector : (K : Ops) (cs : List Cell) (z : List ℕ) (s : ℕ) → Vector K (total_size cs) z → Vector K (size_at cs s) (value_at cs z s)
 unfolding size_at
 value-vector K [] z s h = tt
 value-vector K (c ∷ cs) z s h =
@@ -72,7 +73,7 @@ RowsInto : List Arrow → ℕ → ℕ → Type 0
 RowsInto arrows n t = All (λ (a : Arrow). a.to ≡ t → length a.matrix ≡ n) arrows
 
 module _ (K : Ops) (F : IsField K) where
-  applied-rows : (n : ℕ) (A : List (List ℕ)) (v : List ℕ) → length A ≡ n → Vector K n (applied K A v)
+  pub applied-rows : (n : ℕ) (A : List (List ℕ)) (v : List ℕ) → length A ≡ n → Vector K n (applied K A v)
   applied-rows zero [] v e = tt
   applied-rows zero (r ∷ A) v e = absurd (omega arith)
   applied-rows (suc n) [] v e = absurd (omega arith)

@@ -8,7 +8,8 @@ use Rattle.dense_blocks.specs.Field.{Ops}
 use Rattle.dense_blocks.specs.Vectors.{IsVector, zeros, plus, combination}
 use Rattle.dense_blocks.specs.Matrices.{applied}
 use Rattle.dense_blocks.proofs.VectorLaws.{plus-nil}
-use Rattle.cochain_vec.specs.Complexes.{Cell, Arrow, CellularComplex, cells_of, total_size, coordinates, value_at, sum_into, coboundary}
+use Rattle.cochain_vec.specs.declared.cell.Cell.{Cell}
+use Rattle.cochain_vec.specs.Complexes.{Arrow, CellularComplex, cells_of, total_size, coordinates, value_at, sum_into, coboundary}
 use Rattle.cochain_vec.specs.Cohomology.{IsCocycle, IsCoboundary, IsRepresented, IsBasis}
 use Rattle.cochain_vec.specs.Stalkless.{IsRising, without_empty, EmptyCellsChangeNothing}
 

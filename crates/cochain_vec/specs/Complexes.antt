@@ -1,15 +1,10 @@
 -- Cells with coordinates, and matrices from cell to cell: a cellular sheaf, or a block complex.
 use Rattle.std.specs.Prelude.{◌≡◌, ℕ, suc, ◌+◌, List, [], ◌∷◌, length, take, drop, filter, All, ◌==◌, if◌then◌else◌}
 use Rattle.std.specs.List.{flat_map}
+use Rattle.cochain_vec.specs.declared.cell.Cell.{Cell}
 use Rattle.dense_blocks.specs.Field.{Ops}
 use Rattle.dense_blocks.specs.Vectors.{IsVector, zeros, plus}
 use Rattle.dense_blocks.specs.Matrices.{applied}
-
--- a cell, its degree and the number of its coordinates (for a sheaf, its dimension and the size of its stalk)
-pub record Cell : Type 0 where
-  pub cell : ℕ
-  pub degree : ℕ
-  pub size : ℕ
 
 -- a matrix from the coordinates of one cell to those of another (for a sheaf, the sign of a face times its restriction)
 pub record Arrow : Type 0 where

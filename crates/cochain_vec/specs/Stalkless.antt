@@ -1,7 +1,8 @@
 -- A cell without coordinates changes nothing.
 use Rattle.std.specs.Prelude.{◌≡◌, ℕ, ◌<◌, ◌↔◌, List, [], ◌∷◌, filter, not, ◌==◌, All}
 use Rattle.dense_blocks.specs.Field.{Ops}
-use Rattle.cochain_vec.specs.Complexes.{Cell, CellularComplex}
+use Rattle.cochain_vec.specs.declared.cell.Cell.{Cell}
+use Rattle.cochain_vec.specs.Complexes.{CellularComplex}
 use Rattle.cochain_vec.specs.Cohomology.{IsBasis}
 
 -- each cell has a greater number than those before it

@@ -14,4 +14,5 @@ pub use block::Block;
 pub use entries::Entries;
 pub use listed::Listed;
 pub use operations::{apply, minus, product, sum};
+pub use rows::{add_scaled, dot_product, first_nonzero, scale, zeros};
 pub use scalars::{Scalars, all_scalars};

@@ -1,3 +1,4 @@
 pub mod RelationLaws
 pub mod ComplementLaws
 pub mod BasisLaws
+pub mod PartLaws
