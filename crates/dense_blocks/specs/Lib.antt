@@ -2,3 +2,5 @@ pub mod Field
 pub mod Vectors
 pub mod Matrices
 pub mod Two
+pub mod Solving
+pub mod Elimination

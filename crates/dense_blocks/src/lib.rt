@@ -5,8 +5,10 @@ mod entries;
 mod listed;
 mod rows;
 mod scalars;
+mod solving;
 mod two;
 
 pub use entries::Entries;
 pub use listed::Listed;
 pub use scalars::Scalars;
+pub use solving::{Solution, solve};
