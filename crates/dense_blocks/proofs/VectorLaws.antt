@@ -1,6 +1,6 @@
 -- Laws of vectors: shapes, the commutative group, scaling, the product of two vectors, combinations.
 -- A law is named by its left side, the outermost word first.
-use Rattle.std.proofs.Common.{◌≡◌, ℕ, zero, suc, ◌+◌, ◌<◌, List, [], ◌∷◌, ◌++◌, map, length, refl, sym, ap, ap₂, ◌∙◌, zero-add, suc-add, arith}
+use Rattle.std.proofs.Common.{◌≡◌, ℕ, zero, suc, ◌+◌, ◌<◌, List, [], ◌∷◌, ◌++◌, map, length, refl, sym, ap, ap₂, ◌∙◌, zero-add, suc-add, append_assoc, arith}
 use Rattle.dense_blocks.specs.Field.{Ops, IsField}
 use Rattle.dense_blocks.specs.Vectors.{zeros, plus, negative, scaled, dot, combination}
 use Rattle.dense_blocks.proofs.ScalarLaws.{zero_below, one_below, zero_add, neg_add, neg_zero, neg_neg, neg_of_sum, add_cross, mul_zero, zero_mul, one_mul, add_mul, neg_mul, mul_neg, mul_left_comm}
@@ -39,6 +39,10 @@ negative-append K (a ∷ u) v = ap (λ t. K.neg a ∷ t) (negative-append K u v)
 pub zeros-append : (m n : ℕ) → zeros (m + n) ≡ zeros m ++ zeros n
 zeros-append zero n = ap zeros (zero-add n)
 zeros-append (suc m) n = ap zeros (suc-add m n) ∙ ap (λ t. 0 ∷ t) (zeros-append m n)
+
+-- one zero more behind a list
+pub zeros-pushed : (u : List ℕ) (n : ℕ) → u ++ zeros (n + 1) ≡ (u ++ zeros n) ++ 0 ∷ []
+zeros-pushed u n = ap (λ t. u ++ t) (zeros-append n 1) ∙ sym (append_assoc u (zeros n) (0 ∷ []))
 
 pub zeros-size : (n : ℕ) → length (zeros n) ≡ n
 zeros-size zero = refl
@@ -359,3 +363,5 @@ module _ (K : Ops) (F : IsField K) where
       ∙ ap₂ (plus K) (combination-zeros (length vs) l n vs hs)
       (ap₂ (plus K) (scaled-one n v hv) (combination-zeros m m n ws hw) ∙ plus-zeros n v hv)
       ∙ zeros-plus n v hv
+
+pub ruleset pushing = (zeros-pushed)

@@ -1,6 +1,7 @@
 pub mod Field
 pub mod Vectors
 pub mod Matrices
+pub mod Blocks
 pub mod Two
 pub mod Solving
 pub mod Elimination
