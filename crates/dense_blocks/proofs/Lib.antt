@@ -8,3 +8,6 @@ pub mod AddingRows
 pub mod Tails
 pub mod BlockLaws
 pub mod RowSteps
+pub mod Reductions
+pub mod EliminationSteps
+pub mod Solutions

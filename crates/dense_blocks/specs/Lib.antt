@@ -4,3 +4,5 @@ pub mod Matrices
 pub mod Spans
 pub mod Blocks
 pub mod Two
+pub mod Solving
+pub mod Elimination

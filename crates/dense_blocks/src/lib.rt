@@ -2,12 +2,15 @@
 #![tactic(auto)]
 
 mod block;
+#[cfg(test)]
+mod block_tests;
 mod combining;
 mod entries;
 mod listed;
 mod operations;
 mod rows;
 mod scalars;
+mod solving;
 mod two;
 
 pub use block::Block;
@@ -16,3 +19,4 @@ pub use listed::Listed;
 pub use operations::{apply, minus, product, sum};
 pub use rows::{add_scaled, dot_product, first_nonzero, scale, zeros};
 pub use scalars::{Scalars, all_scalars};
+pub use solving::{Solution, solve};

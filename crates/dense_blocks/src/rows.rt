@@ -1,4 +1,4 @@
-ghost use Rattle.std.specs.Prelude.{◌≡◌, ◌≢◌, ◌<◌, length, take, All, IfOk, IfSome, IfNone, slice_index};
+ghost use Rattle.std.specs.Prelude.{◌≡◌, ◌≢◌, ◌<◌, length, take, All, IfOk, IfSome, IfNone, slice_index, vec_len};
 ghost use Rattle.dense_blocks.specs.Vectors.{IsVector, zeros, plus, scaled, dot};
 
 use crate::scalars::Scalars;
@@ -6,7 +6,8 @@ use std::alloc::{AllocError as NoMemory, Global};
 
 /// The zero vector of `n` coordinates.
 pub fn zeros(alloc: Global, n: usize) -> Result<Vec<u8>, NoMemory>
-    ensures { IfOk result (λ v. v.items ≡ zeros n) }
+    ensures items { IfOk result (λ v. v.items ≡ zeros n) }
+    ensures len { IfOk result (λ v. vec_len v ≡ n) }
 {
     vec![in alloc; 0; n]
 }
