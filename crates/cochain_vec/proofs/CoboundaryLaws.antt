@@ -46,26 +46,26 @@ unfolding size_at
 value-vector K [] z s h = tt
 value-vector K (c ∷ cs) z s h =
     elim (eqb c.cell s) as (λ b. Vector K (cond b c.size (size_at cs s)) (cond b (take c.size z) (value_at cs (drop c.size z) s))) [
-      true ↦ take-vector K c.size (total_size cs) z h
-    | false ↦ value-vector K cs (drop c.size z) s (drop-vector K c.size (total_size cs) z h)
+      | true ↦ take-vector K c.size (total_size cs) z h
+      | false ↦ value-vector K cs (drop c.size z) s (drop-vector K c.size (total_size cs) z h)
     ]
 
 value-plus : (K : Ops) (cs : List Cell) (u v : List ℕ) (s : ℕ) → value_at cs (plus K u v) s ≡ plus K (value_at cs u s) (value_at cs v s)
 value-plus K [] u v s = refl
 value-plus K (c ∷ cs) u v s =
     elim (eqb c.cell s) as (λ b. cond b (take c.size (plus K u v)) (value_at cs (drop c.size (plus K u v)) s)
-        ≡ plus K (cond b (take c.size u) (value_at cs (drop c.size u) s)) (cond b (take c.size v) (value_at cs (drop c.size v) s))) [
-      true ↦ take-plus K c.size u v
-    | false ↦ ap (λ t. value_at cs t s) (drop-plus K c.size u v) ∙ value-plus K cs (drop c.size u) (drop c.size v) s
+    ≡ plus K (cond b (take c.size u) (value_at cs (drop c.size u) s)) (cond b (take c.size v) (value_at cs (drop c.size v) s))) [
+      | true ↦ take-plus K c.size u v
+      | false ↦ ap (λ t. value_at cs t s) (drop-plus K c.size u v) ∙ value-plus K cs (drop c.size u) (drop c.size v) s
     ]
 
 value-scaled : (K : Ops) (cs : List Cell) (k : ℕ) (v : List ℕ) (s : ℕ) → value_at cs (scaled K k v) s ≡ scaled K k (value_at cs v s)
 value-scaled K [] k v s = refl
 value-scaled K (c ∷ cs) k v s =
     elim (eqb c.cell s) as (λ b. cond b (take c.size (scaled K k v)) (value_at cs (drop c.size (scaled K k v)) s)
-        ≡ scaled K k (cond b (take c.size v) (value_at cs (drop c.size v) s))) [
-      true ↦ take-map (K.mul k) c.size v
-    | false ↦ ap (λ t. value_at cs t s) (drop-map (K.mul k) c.size v) ∙ value-scaled K cs k (drop c.size v) s
+    ≡ scaled K k (cond b (take c.size v) (value_at cs (drop c.size v) s))) [
+      | true ↦ take-map (K.mul k) c.size v
+      | false ↦ ap (λ t. value_at cs t s) (drop-map (K.mul k) c.size v) ∙ value-scaled K cs k (drop c.size v) s
     ]
 
 -- matrices into the cell t have n rows
@@ -97,12 +97,12 @@ module _ (K : Ops) (F : IsField K) where
   sum_into-plus (a ∷ others) size x y z n t hx hy e =
       let rest = sum_into-plus others size x y z n t hx hy e in
       elim (eqb a.to t) as (λ b. cond b (plus K (applied K a.matrix (z a.from)) (sum_into K others z n t)) (sum_into K others z n t)
-          ≡ plus K (cond b (plus K (applied K a.matrix (x a.from)) (sum_into K others x n t)) (sum_into K others x n t))
-                   (cond b (plus K (applied K a.matrix (y a.from)) (sum_into K others y n t)) (sum_into K others y n t))) [
-        true ↦
+      ≡ plus K (cond b (plus K (applied K a.matrix (x a.from)) (sum_into K others x n t)) (sum_into K others x n t))
+      (cond b (plus K (applied K a.matrix (y a.from)) (sum_into K others y n t)) (sum_into K others y n t))) [
+        | true ↦
             ap₂ (plus K) (ap (applied K a.matrix) (e a.from) ∙ applied-plus K F (size a.from) a.matrix (x a.from) (y a.from) (hx a.from) (hy a.from)) rest
             ∙ plus-cross K F (applied K a.matrix (x a.from)) (applied K a.matrix (y a.from)) (sum_into K others x n t) (sum_into K others y n t)
-      | false ↦ rest
+        | false ↦ rest
       ]
 
   sum_into-scaled : (arrows : List Arrow) (k : ℕ) (x z : ℕ → List ℕ) (n t : ℕ) → ((s : ℕ) → z s ≡ scaled K k (x s))
@@ -111,11 +111,11 @@ module _ (K : Ops) (F : IsField K) where
   sum_into-scaled (a ∷ others) k x z n t e =
       let rest = sum_into-scaled others k x z n t e in
       elim (eqb a.to t) as (λ b. cond b (plus K (applied K a.matrix (z a.from)) (sum_into K others z n t)) (sum_into K others z n t)
-          ≡ scaled K k (cond b (plus K (applied K a.matrix (x a.from)) (sum_into K others x n t)) (sum_into K others x n t))) [
-        true ↦
+      ≡ scaled K k (cond b (plus K (applied K a.matrix (x a.from)) (sum_into K others x n t)) (sum_into K others x n t))) [
+        | true ↦
             ap₂ (plus K) (ap (applied K a.matrix) (e a.from) ∙ applied-scaled K F k a.matrix (x a.from)) rest
             ∙ sym (scaled-plus K F k (applied K a.matrix (x a.from)) (sum_into K others x n t))
-      | false ↦ rest
+        | false ↦ rest
       ]
 
   -- what is true of the part at each cell is true of the parts joined
@@ -159,7 +159,7 @@ module _ (K : Ops) (F : IsField K) where
     coboundary-plus u v hu hv =
         joined-plus (piece u) (piece v) (piece (plus K u v)) (cells_of C (suc k)) (pieces u) (pieces v)
         (λ t. sum_into-plus C.arrows (size_at (cells_of C k)) (value_at (cells_of C k) u) (value_at (cells_of C k) v) (value_at (cells_of C k) (plus K u v)) t.size t.cell
-            (λ s. value-vector K (cells_of C k) u s hu) (λ s. value-vector K (cells_of C k) v s hv) (value-plus K (cells_of C k) u v))
+        (λ s. value-vector K (cells_of C k) u s hu) (λ s. value-vector K (cells_of C k) v s hv) (value-plus K (cells_of C k) u v))
 
     pub coboundary-scaled : (c : ℕ) (v : List ℕ) → coboundary K C k (scaled K c v) ≡ scaled K c (coboundary K C k v)
     unfolding piece

@@ -32,8 +32,8 @@ rising-filter : (p : Cell → Bool) (cs : List Cell) → IsRising cs → IsRisin
 rising-filter p [] h = tt
 rising-filter p (c ∷ cs) h =
     elim (p c) as (λ b. IsRising (cond b (c ∷ filter p cs) (filter p cs))) [
-      true ↦ (All-filter p (λ (d : Cell). c.cell < d.cell) cs h.0, rising-filter p cs h.1)
-    | false ↦ rising-filter p cs h.1
+      | true ↦ (All-filter p (λ (d : Cell). c.cell < d.cell) cs h.0, rising-filter p cs h.1)
+      | false ↦ rising-filter p cs h.1
     ]
 
 not_false : (b : Bool) → not b ≡ false → b ≡ true
@@ -82,9 +82,9 @@ module _ (K : Ops) where
   sum_into-same (a ∷ others) x y n t e =
       let rest = sum_into-same others x y n t e in
       elim (eqb a.to t) as (λ b. cond b (plus K (applied K a.matrix (x a.from)) (sum_into K others x n t)) (sum_into K others x n t)
-          ≡ cond b (plus K (applied K a.matrix (y a.from)) (sum_into K others y n t)) (sum_into K others y n t)) [
-        true ↦ ap₂ (plus K) (ap (applied K a.matrix) (e a.from)) rest
-      | false ↦ rest
+      ≡ cond b (plus K (applied K a.matrix (y a.from)) (sum_into K others y n t)) (sum_into K others y n t)) [
+        | true ↦ ap₂ (plus K) (ap (applied K a.matrix) (e a.from)) rest
+        | false ↦ rest
       ]
 
   -- a sum into a cell without coordinates has none
@@ -93,8 +93,8 @@ module _ (K : Ops) where
   sum_into-none (a ∷ others) x t =
       let rest = sum_into-none others x t in
       elim (eqb a.to t) as (λ b. cond b (plus K (applied K a.matrix (x a.from)) (sum_into K others x 0 t)) (sum_into K others x 0 t) ≡ []) [
-        true ↦ ap (plus K (applied K a.matrix (x a.from))) rest ∙ plus-nil K (applied K a.matrix (x a.from))
-      | false ↦ rest
+        | true ↦ ap (plus K (applied K a.matrix (x a.from))) rest ∙ plus-nil K (applied K a.matrix (x a.from))
+        | false ↦ rest
       ]
 
   joined-filter : (x y : Cell → List ℕ) (ts : List Cell) → ((t : Cell) → x t ≡ y t) → ((t : Cell) → t.size ≡ 0 → y t ≡ [])
@@ -120,9 +120,9 @@ module _ (K : Ops) where
         ap (λ cs. flat_map (here cs) (cells_of (without_empty F) (suc k))) (cells-without_empty k)
         ∙ ap (flat_map (here (filter has_coordinates (cells_of F k)))) (cells-without_empty (suc k))
         ∙ joined-filter (here (filter has_coordinates (cells_of F k))) (here (cells_of F k)) (cells_of F (suc k))
-            (λ t. sum_into-same F.arrows (value_at (filter has_coordinates (cells_of F k)) z) (value_at (cells_of F k) z) t.size t.cell
-                (λ s. value-filter (cells_of F k) z s (rising-filter (λ c. c.degree == k) F.cells rising)))
-            (λ t e. ap (λ n. sum_into K F.arrows (value_at (cells_of F k) z) n t.cell) e ∙ sum_into-none F.arrows (value_at (cells_of F k) z) t.cell)
+        (λ t. sum_into-same F.arrows (value_at (filter has_coordinates (cells_of F k)) z) (value_at (cells_of F k) z) t.size t.cell
+        (λ s. value-filter (cells_of F k) z s (rising-filter (λ c. c.degree == k) F.cells rising)))
+        (λ t e. ap (λ n. sum_into K F.arrows (value_at (cells_of F k) z) n t.cell) e ∙ sum_into-none F.arrows (value_at (cells_of F k) z) t.cell)
 
 -- two complexes with the same coordinates and the same coboundary have the same bases
 record Agree (K : Ops) (F G : CellularComplex) : Type 0 where
@@ -158,7 +158,7 @@ basis_over K F G same k B b = record {
   spans = λ z c. represented_over K F G same k B z (b.spans z (cocycle_over K G F (agree_back K F G same) k z c));
   independent = λ c h e. b.independent c h
       (subst (IsCoboundary K F k) (ap (λ n. combination K n c B) (sym (same.sizes k)))
-          (coboundary_over K G F (agree_back K F G same) k (combination K (coordinates G k) c B) e));
+      (coboundary_over K G F (agree_back K F G same) k (combination K (coordinates G k) c B) e));
 }
 
 pub empty_cells_change_nothing : EmptyCellsChangeNothing

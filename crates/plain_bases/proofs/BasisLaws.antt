@@ -19,7 +19,7 @@ use Rattle.plain_bases.specs.Complements.{Completes}
 use Rattle.plain_bases.specs.Columns.{columns_from, columns_into}
 
 module _ (K : Ops) (F : IsField K) (C : CellularComplex) (fits : RowsFit C) where
-  columns-size : (k : ℕ) → length (columns_from K C k) ≡ coordinates C k
+  pub columns-size : (k : ℕ) → length (columns_from K C k) ≡ coordinates C k
   columns-size k =
       length-map (identity (coordinates C k)) (coboundary K C k)
       ∙ matrix-size K (coordinates C k) (coordinates C k) (identity (coordinates C k)) (identity-matrix K F (coordinates C k))
@@ -59,7 +59,7 @@ module _ (K : Ops) (F : IsField K) (C : CellularComplex) (fits : RowsFit C) wher
   combination_is_coboundary zero z s = sym s.gives ∙ combination-nil K (coordinates C 0) s.coefficients
   combination_is_coboundary (suc k) z s =
       let h : Vector K (coordinates C k) s.coefficients =
-          subst (λ n. Vector K n s.coefficients) (columns-size k) (coefficients-vector K F (coordinates C (suc k)) (columns_from K C k) z s) in
+      subst (λ n. Vector K n s.coefficients) (columns-size k) (coefficients-vector K F (coordinates C (suc k)) (columns_from K C k) z s) in
       (s.coefficients, from_vector K (coordinates C k) s.coefficients h, sym (coboundary-columns K F C fits k s.coefficients h ∙ s.gives))
 
   coboundary_is_combination : (k : ℕ) (z : List ℕ) → IsCoboundary K C k z → IsCombination K (coordinates C k) (columns_into K C k) z
@@ -87,7 +87,7 @@ module _ (K : Ops) (F : IsField K) (C : CellularComplex) (fits : RowsFit C) wher
   halves : (n : ℕ) (us vs : List (List ℕ)) (z : List ℕ) → Matrix K (length vs) n vs → IsCombination K n (us ++ vs) z → Halves n us vs z
   halves n us vs z hv s =
       let r = split_vector (length us) (length vs) s.coefficients
-          (subst (λ k. Vector K k s.coefficients) (length-append us vs) (coefficients-vector K F n (us ++ vs) z s)) in
+      (subst (λ k. Vector K k s.coefficients) (length-append us vs) (coefficients-vector K F n (us ++ vs) z s)) in
       record {
         first = r.0;
         second = r.1;
@@ -124,9 +124,9 @@ module _ (K : Ops) (F : IsField K) (C : CellularComplex) (fits : RowsFit C) wher
           let of_all : IsCombination K (length (columns_from K C k)) zs z = spans.all z (cocycle_is_relation k z c) in
           let of_candidates : IsCombination K m zs z = subst (λ j. IsCombination K j zs z) (columns-size k) of_all in
           let both : IsCombination K m (columns_into K C k ++ chosen) z =
-              spans-through K F m (length zs) (length (columns_into K C k) + length chosen) zs (columns_into K C k ++ chosen) z candidate_rows
-              (append-matrix K (length (columns_into K C k)) (length chosen) m (columns_into K C k) chosen (columns_into-rows k) chosen_rows)
-              completes.spans of_candidates in
+          spans-through K F m (length zs) (length (columns_into K C k) + length chosen) zs (columns_into K C k ++ chosen) z candidate_rows
+          (append-matrix K (length (columns_into K C k)) (length chosen) m (columns_into K C k) chosen (columns_into-rows k) chosen_rows)
+          completes.spans of_candidates in
           let parts = halves m (columns_into K C k) chosen z chosen_rows both in
           record {
             coefficients = parts.second;

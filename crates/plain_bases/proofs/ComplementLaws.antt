@@ -73,14 +73,14 @@ module _ (K : Ops) (F : IsField K) (n : ℕ) (others candidates : List (List ℕ
               let w = plus K v (scaled K a candidate) in
               let k = K.inv a in
               let alone : scaled K a candidate ≡ plus K w (negative K v) =
-                  plus-moved K F n (scaled K a candidate) v w (scaled-vector K F n a candidate candidate-vector) hv (plus-comm K F (scaled K a candidate) v) in
+              plus-moved K F n (scaled K a candidate) v w (scaled-vector K F n a candidate candidate-vector) hv (plus-comm K F (scaled K a candidate) v) in
               let of_w = spans-append K F n (length others) others chosen w ho rows s in
               let of_v = spans-behind K F n others chosen v ho rows (combines K n chosen v u hu refl) in
               let both = spans-plus K F n (others ++ chosen) w (negative K v) of_w (spans-negative K F n (others ++ chosen) v of_v) in
               let all = spans-scaled K F n (others ++ chosen) k (plus K w (negative K v)) both in
               let back : scaled K k (plus K w (negative K v)) ≡ candidate =
-                  ap (scaled K k) (sym alone) ∙ sym (scaled-mul K F k a candidate) ∙ ap (λ x. scaled K x candidate) (F.mul_comm k a ∙ F.mul_inv a la not)
-                  ∙ scaled-one K F n candidate candidate-vector in
+              ap (scaled K k) (sym alone) ∙ sym (scaled-mul K F k a candidate) ∙ ap (λ x. scaled K x candidate) (F.mul_comm k a ∙ F.mul_inv a la not)
+              ∙ scaled-one K F n candidate candidate-vector in
               absurd (apart all.coefficients (all.gives ∙ back))
 
       still_independent : IsIndependentOf K n others (chosen ++ candidate ∷ [])
@@ -88,15 +88,15 @@ module _ (K : Ops) (F : IsField K) (n : ℕ) (others candidates : List (List ℕ
           let size : length (chosen ++ candidate ∷ []) ≡ suc (length chosen) = length-append chosen (candidate ∷ []) ∙ add-one (length chosen) in
           let e = vector_ends K (length chosen) b (subst (λ k. Vector K k b) size (to_vector K (length (chosen ++ candidate ∷ [])) b hb)) in
           let parts : combination K n b (chosen ++ candidate ∷ []) ≡ plus K (combination K n e.front chosen) (scaled K e.last candidate) =
-              ap (λ x. combination K n x (chosen ++ candidate ∷ [])) e.is
-              ∙ combination-push K F n e.front chosen e.last candidate (vector-size K (length chosen) e.front e.front_is) candidate-vector in
+          ap (λ x. combination K n x (chosen ++ candidate ∷ [])) e.is
+          ∙ combination-push K F n e.front chosen e.last candidate (vector-size K (length chosen) e.front e.front_is) candidate-vector in
           let last_zero : e.last ≡ 0 = not_used e.front e.last e.front_is e.last_is (subst (IsCombination K n others) parts s) in
           let rest : plus K (combination K n e.front chosen) (scaled K e.last candidate) ≡ combination K n e.front chosen =
-              ap (λ x. plus K (combination K n e.front chosen) (scaled K x candidate)) last_zero
-              ∙ ap (plus K (combination K n e.front chosen)) (scaled-zero K F n candidate candidate-vector)
-              ∙ plus-zeros K F n (combination K n e.front chosen) (combination-vector K F (length chosen) n e.front chosen rows) in
+          ap (λ x. plus K (combination K n e.front chosen) (scaled K x candidate)) last_zero
+          ∙ ap (plus K (combination K n e.front chosen)) (scaled-zero K F n candidate candidate-vector)
+          ∙ plus-zeros K F n (combination K n e.front chosen) (combination-vector K F (length chosen) n e.front chosen rows) in
           let front_zero : e.front ≡ zeros (length chosen) =
-              h.independent e.front (from_vector K (length chosen) e.front e.front_is) (subst (IsCombination K n others) (parts ∙ rest) s) in
+          h.independent e.front (from_vector K (length chosen) e.front e.front_is) (subst (IsCombination K n others) (parts ∙ rest) s) in
           e.is ∙ ap₂ ◌++◌ front_zero (ap (λ x. x ∷ []) last_zero) ∙ sym (zeros-append (length chosen) 1)
           ∙ ap zeros (add-one (length chosen) ∙ sym size)
 
@@ -107,8 +107,8 @@ module _ (K : Ops) (F : IsField K) (n : ℕ) (others candidates : List (List ℕ
         candidates_all = All-push (Contains candidates) chosen candidate h.candidates_all (Contains-get_or candidates i [] l);
         spans = spans_next (chosen ++ candidate ∷ [])
             (λ k m. subst (λ (vs : List (List ℕ)). IsCombination K n vs (get_or candidates k [])) (append_assoc others chosen (candidate ∷ []))
-                (spans-append K F n (length others + length chosen) (others ++ chosen) (candidate ∷ []) (get_or candidates k []) taken (candidate-vector, tt) (h.spans k m)))
+            (spans-append K F n (length others + length chosen) (others ++ chosen) (candidate ∷ []) (get_or candidates k []) taken (candidate-vector, tt) (h.spans k m)))
             (subst (λ (vs : List (List ℕ)). IsCombination K n vs candidate) (append_assoc others chosen (candidate ∷ []))
-                (spans-last K F n (length others + length chosen) (others ++ chosen) candidate taken candidate-vector));
+            (spans-last K F n (length others + length chosen) (others ++ chosen) candidate taken candidate-vector));
         independent = still_independent;
       }

@@ -1,5 +1,5 @@
 -- The parts of a coboundary, arrow by arrow and cell by cell.
-use Rattle.std.proofs.Common.{◌≡◌, ℕ, zero, suc, ◌+◌, ◌<◌, List, [], ◌∷◌, ◌++◌, length, map, take, drop, get_or, cond, eqb, true, false, All, refl, sym, ap, ap₂, ◌∙◌, subst, arith, add-one, add-zero, zero-add}
+use Rattle.std.proofs.Common.{◌≡◌, ℕ, zero, suc, ◌+◌, ◌<◌, ◌≤◌, List, [], ◌∷◌, ◌++◌, length, map, take, drop, get_or, cond, eqb, true, false, All, refl, sym, ap, ap₂, ◌∙◌, subst, arith, add-one, add-zero, zero-add}
 use Rattle.std.specs.List.{flat_map}
 use Rattle.std.proofs.Math.Seq.{take-suc}
 use Rattle.std.proofs.lemmas.List.{map-append, append-nil}
@@ -44,28 +44,28 @@ module _ (K : Ops) (F : IsField K) where
       ≡ cond (eqb a.to t) (plus K (sum_into K arrows value n t) (applied K a.matrix (value a.from))) (sum_into K arrows value n t)
   sum_into-push [] a value n t =
       elim (eqb a.to t) as (λ b. cond b (plus K (applied K a.matrix (value a.from)) (zeros n)) (zeros n) ≡ cond b (plus K (zeros n) (applied K a.matrix (value a.from))) (zeros n)) [
-        true ↦ plus-comm K F (applied K a.matrix (value a.from)) (zeros n)
-      | false ↦ refl
+        | true ↦ plus-comm K F (applied K a.matrix (value a.from)) (zeros n)
+        | false ↦ refl
       ]
   sum_into-push (c ∷ arrows) a value n t =
       let image : Arrow → List ℕ = λ x. applied K x.matrix (value x.from) in
       let before = sum_into K arrows value n t in
       ap (λ rest. cond (eqb c.to t) (plus K (image c) rest) rest) (sum_into-push arrows a value n t)
       ∙ elim (eqb c.to t) as (λ x. cond x (plus K (image c) (cond (eqb a.to t) (plus K before (image a)) before)) (cond (eqb a.to t) (plus K before (image a)) before)
-          ≡ cond (eqb a.to t) (plus K (cond x (plus K (image c) before) before) (image a)) (cond x (plus K (image c) before) before)) [
-        true ↦ elim (eqb a.to t) as (λ y. plus K (image c) (cond y (plus K before (image a)) before) ≡ cond y (plus K (plus K (image c) before) (image a)) (plus K (image c) before)) [
-          true ↦ sym (plus-assoc K F (image c) before (image a))
-        | false ↦ refl
+      ≡ cond (eqb a.to t) (plus K (cond x (plus K (image c) before) before) (image a)) (cond x (plus K (image c) before) before)) [
+        | true ↦ elim (eqb a.to t) as (λ y. plus K (image c) (cond y (plus K before (image a)) before) ≡ cond y (plus K (plus K (image c) before) (image a)) (plus K (image c) before)) [
+          | true ↦ sym (plus-assoc K F (image c) before (image a))
+          | false ↦ refl
         ]
-      | false ↦ refl
+        | false ↦ refl
       ]
 
   -- one arrow more brings its image, if it goes to the cell
   pub part-next : (arrows : List declared_arrow.Arrow) (source : List Cell) (z : List ℕ) (t : Cell) (i : ℕ) (d : declared_arrow.Arrow) → i < length arrows
       → part_at K (take (i + 1) arrows) source z t
       ≡ cond (eqb (get_or arrows i d).to t.cell)
-        (plus K (part_at K (take i arrows) source z t) (applied K (matrix_of (get_or arrows i d).block) (value_at source z (get_or arrows i d).from)))
-        (part_at K (take i arrows) source z t)
+      (plus K (part_at K (take i arrows) source z t) (applied K (matrix_of (get_or arrows i d).block) (value_at source z (get_or arrows i d).from)))
+      (part_at K (take i arrows) source z t)
   part-next arrows source z t i d l =
       ap (λ xs. part_at K xs source z t) (one_more arrows i d l)
       ∙ ap (λ xs. sum_into K xs (value_at source z) t.size t.cell) (map-append arrow_of (take i arrows) (get_or arrows i d ∷ []))
@@ -83,12 +83,18 @@ total_size-append : (cs ds : List Cell) → total_size (cs ++ ds) ≡ total_size
 total_size-append [] ds = sym (zero-add (total_size ds))
 total_size-append (c ∷ cs) ds = let rest = total_size-append cs ds in omega arith
 
-pub total_size-next : (cs : List Cell) (i : ℕ) (d : Cell) → i < length cs → total_size (take (i + 1) cs) ≡ total_size (take i cs) + (get_or cs i d).size
-total_size-next cs i d l =
+pub total_size_next : (cs : List Cell) (i : ℕ) (d : Cell) → i < length cs → total_size (take (i + 1) cs) ≡ total_size (take i cs) + (get_or cs i d).size
+total_size_next cs i d l =
     ap total_size (one_more cs i d l) ∙ total_size-append (take i cs) (get_or cs i d ∷ []) ∙ ap (λ n. total_size (take i cs) + n) (add-zero (get_or cs i d).size)
 
 pub vector-next : (K : Ops) (cs : List Cell) (i : ℕ) (d : Cell) (u v : List ℕ) → i < length cs → IsVector K (total_size (take i cs)) u → IsVector K (get_or cs i d).size v
     → IsVector K (total_size (take (i + 1) cs)) (u ++ v)
 vector-next K cs i d u v l hu hv =
     let n = total_size (take i cs) in let m = (get_or cs i d).size in
-    subst (λ k. IsVector K k (u ++ v)) (sym (total_size-next cs i d l)) (from_vector K (n + m) (u ++ v) (append-vector K n m u v (to_vector K n u hu) (to_vector K m v hv)))
+    subst (λ k. IsVector K k (u ++ v)) (sym (total_size_next cs i d l)) (from_vector K (n + m) (u ++ v) (append-vector K n m u v (to_vector K n u hu) (to_vector K m v hv)))
+
+-- a front of the cells has no more coordinates than all
+pub total_size_front : (cs : List Cell) (i : ℕ) → total_size (take i cs) ≤ total_size cs
+total_size_front cs zero = omega arith
+total_size_front [] (suc i) = omega arith
+total_size_front (c ∷ cs) (suc i) = let rest = total_size_front cs i in omega arith

@@ -89,16 +89,16 @@ module _ (K : Ops) (F : IsField K) (n : ℕ) where
       moved-back u a hu l =
           let k = K.neg a in
           let same : length (plus K u (scaled K a c)) ≡ length (scaled K k c) =
-              vector-size K (length before) (plus K u (scaled K a c)) (plus-vector K F (length before) u (scaled K a c) hu (scaled-vector K F (length before) a c hcs))
-              ∙ sym (vector-size K (length before) (scaled K k c) (scaled-vector K F (length before) k c hcs)) in
+          vector-size K (length before) (plus K u (scaled K a c)) (plus-vector K F (length before) u (scaled K a c) hu (scaled-vector K F (length before) a c hcs))
+          ∙ sym (vector-size K (length before) (scaled K k c) (scaled-vector K F (length before) k c hcs)) in
           let gone : plus K (scaled K a c) (scaled K k c) ≡ zeros (length before) =
-              ap (plus K (scaled K a c)) (scaled-neg K F a c) ∙ plus-negative K F (length before) (scaled K a c) (scaled-vector K F (length before) a c hcs) in
+          ap (plus K (scaled K a c)) (scaled-neg K F a c) ∙ plus-negative K F (length before) (scaled K a c) (scaled-vector K F (length before) a c hcs) in
           let front : plus K (plus K u (scaled K a c)) (scaled K k c) ≡ u =
-              plus-assoc K F u (scaled K a c) (scaled K k c) ∙ ap (plus K u) gone ∙ plus-zeros K F (length before) u hu in
+          plus-assoc K F u (scaled K a c) (scaled K k c) ∙ ap (plus K u) gone ∙ plus-zeros K F (length before) u hu in
           let last : K.add 0 (K.mul k (K.neg 1)) ≡ a =
-              ap (K.add 0) (mul_neg K F k 1 ∙ ap K.neg (F.mul_one k (F.neg_below a)) ∙ neg_neg K F a l) ∙ zero_add K F a l in
+          ap (K.add 0) (mul_neg K F k 1 ∙ ap K.neg (F.mul_one k (F.neg_below a)) ∙ neg_neg K F a l) ∙ zero_add K F a l in
           let rest : plus K (zeros (length after)) (scaled K k (zeros (length after))) ≡ zeros (length after) =
-              ap (plus K (zeros (length after))) (scaled-zeros K F k (length after)) ∙ zeros-plus-zeros K F (length after) in
+          ap (plus K (zeros (length after))) (scaled-zeros K F k (length after)) ∙ zeros-plus-zeros K F (length after) in
           ap (plus K (plus K u (scaled K a c) ++ 0 ∷ zeros (length after))) (scaled-append K k c (K.neg 1 ∷ zeros (length after)))
           ∙ plus-append K (plus K u (scaled K a c)) (scaled K k c) (0 ∷ zeros (length after)) (scaled K k (K.neg 1 ∷ zeros (length after))) same
           ∙ ap₂ ◌++◌ front (ap₂ ◌∷◌ last rest)
@@ -111,7 +111,7 @@ module _ (K : Ops) (F : IsField K) (n : ℕ) where
       spans_with_own zs hz all u a hu l e =
           let w = length whole in
           let first = spans-append K F w (length zs) zs (own ∷ []) (moved u a ++ 0 ∷ zeros (length after)) hz (own-vector, tt)
-              (all (moved u a) (moved-vector u a hu) (moved-zero u a hu e)) in
+          (all (moved u a) (moved-vector u a hu) (moved-zero u a hu e)) in
           let second = spans-scaled K F w (zs ++ own ∷ []) (K.neg a) own (spans-last K F w (length zs) zs own hz own-vector) in
           subst (IsCombination K w (zs ++ own ∷ [])) (moved-back u a hu l)
           (spans-plus K F w (zs ++ own ∷ []) (moved u a ++ 0 ∷ zeros (length after)) (scaled K (K.neg a) own) first second)
@@ -129,9 +129,9 @@ module _ (K : Ops) (F : IsField K) (n : ℕ) where
             let k = K.inv a in
             let other : scaled K a column ≡ negative K v = negative-unique K F n v (scaled K a column) hv (scaled-vector K F n a column hc) e in
             let back : scaled K k (negative K v) ≡ column =
-                ap (scaled K k) (sym other) ∙ sym (scaled-mul K F k a column) ∙ ap (λ x. scaled K x column) (F.mul_comm k a ∙ F.mul_inv a l not) ∙ scaled-one K F n column hc in
+            ap (scaled K k) (sym other) ∙ sym (scaled-mul K F k a column) ∙ ap (λ x. scaled K x column) (F.mul_comm k a ∙ F.mul_inv a l not) ∙ scaled-one K F n column hc in
             absurd (apart (scaled K k (negative K u))
-                (combination-scaled K F n k (negative K u) before ∙ ap (scaled K k) (combination-negative K F n u before) ∙ back))
+            (combination-scaled K F n k (negative K u) before ∙ ap (scaled K k) (combination-negative K F n u before) ∙ back))
 
     -- the columns up to the column
     upto : take (suc (length before)) whole ≡ before ++ column ∷ []
@@ -191,8 +191,8 @@ module _ (K : Ops) (F : IsField K) (n : ℕ) where
           let p = parts w more e hw z in
           let none : p.ends.last ≡ 0 = not_used apart p.ends.front p.ends.last p.ends.front_is p.ends.last_is p.zero in
           let front_zero : combination K n p.ends.front before ≡ zeros n =
-              sym (plus-zeros K F n (combination K n p.ends.front before) (combination-vector K F (length before) n p.ends.front before hb))
-              ∙ ap (plus K (combination K n p.ends.front before)) (sym (scaled-zero K F n column hc) ∙ ap (λ a. scaled K a column) (sym none)) ∙ p.zero in
+          sym (plus-zeros K F n (combination K n p.ends.front before) (combination-vector K F (length before) n p.ends.front before hb))
+          ∙ ap (plus K (combination K n p.ends.front before)) (sym (scaled-zero K F n column hc) ∙ ap (λ a. scaled K a column) (sym none)) ∙ p.zero in
           subst (IsCombination K (length whole) zs) (ap (λ a. p.ends.front ++ a ∷ zeros (length after)) (sym none) ∙ sym (rejoined w more p))
           (spanned_before zs h p.ends.front p.ends.front_is front_zero);
     }
@@ -246,9 +246,9 @@ module _ (K : Ops) (F : IsField K) (n : ℕ) where
           let after : length (drop (suc j) columns) ≡ more = omega (arith, length-drop {A = List ℕ}) in
           there (zs ++ z ∷ [])
           (subst (λ (y : List ℕ). SpansRelationsBelow K n (take j columns ++ get_or columns j [] ∷ drop (suc j) columns) (suc (length (take j columns))) (zs ++ y ∷ []))
-              (ap (λ k. c ++ K.neg 1 ∷ zeros k) after ∙ sym is)
-              (with_own (take j columns) (get_or columns j []) (drop (suc j) columns) split.0 split.1 split.2 c
-                  (subst (λ k. Vector K k c) (sym front_size) (to_vector K j c hcs)) gives zs here))
+          (ap (λ k. c ++ K.neg 1 ∷ zeros k) after ∙ sym is)
+          (with_own (take j columns) (get_or columns j []) (drop (suc j) columns) split.0 split.1 split.2 c
+          (subst (λ k. Vector K k c) (sym front_size) (to_vector K j c hcs)) gives zs here))
 
       -- a column apart from those before it brings none
       pub relations_same : ((c : List ℕ) → combination K n c (take j columns) ≢ get_or columns j []) → SpansRelationsBelow K n columns (j + 1) zs

@@ -1,5 +1,5 @@
 -- Vectors that complete a list of vectors to the span of others: representatives of a quotient.
-use Rattle.std.specs.Prelude.{◌≡◌, ℕ, ◌<◌, List, ◌++◌, length, slice_index_or, [], All, Contains}
+use Rattle.std.specs.Prelude.{◌≡◌, ◌≢◌, ◌⊎◌, ℕ, ◌<◌, List, [], ◌∷◌, ◌++◌, length, slice_index_or, All, Contains}
 use Rattle.dense_blocks.specs.Field.{Ops}
 use Rattle.dense_blocks.specs.Vectors.{IsVector, zeros, combination}
 use Rattle.dense_blocks.specs.Spans.{IsCombination}
@@ -14,3 +14,8 @@ pub record Completes (K : Ops) (n : ℕ) (others candidates : List (List ℕ)) (
   pub candidates_all : All (Contains candidates) chosen
   pub spans : (i : ℕ) → i < count → IsCombination K n (others ++ chosen) (slice_index_or candidates i [])
   pub independent : IsIndependentOf K n others chosen
+
+-- the candidate is a combination of what was taken and is left out, or it is none and is taken
+abbrev pub Considered : Ops → ℕ → List (List ℕ) → List ℕ → List (List ℕ) → Type 0
+Considered K n taken candidate new =
+    (IsCombination K n taken candidate × (new ≡ taken)) ⊎ (((c : List ℕ) → combination K n c taken ≢ candidate) × (new ≡ taken ++ candidate ∷ []))

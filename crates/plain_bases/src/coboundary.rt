@@ -30,7 +30,13 @@ fn value_of<'a>(cells: &[Cell], z: &'a [u8], s: u32) -> Option<&'a [u8]>
 }
 
 /// What the arrow makes of the value of `z` at the cell that it comes from.
-fn arriving<F: Scalars>(alloc: Global, f: &F, source: &[Cell], z: &[u8], arrow: &Arrow) -> Result<Vec<u8>, NoMemory>
+fn arriving<F: Scalars>(
+    alloc: Global,
+    f: &F,
+    source: &[Cell],
+    z: &[u8],
+    arrow: &Arrow,
+) -> Result<Vec<u8>, NoMemory>
     requires size { length z.now ≡ total_size source.now }
     requires z_scalars { AllScalars (F.ops f.now) z.now }
     requires fits { FitsCells (F.ops f.now) source.now arrow.now }
@@ -44,7 +50,15 @@ fn arriving<F: Scalars>(alloc: Global, f: &F, source: &[Cell], z: &[u8], arrow: 
 }
 
 /// Adds what the arrow brings to the cell `t`, if it goes there.
-fn add_arrow<F: Scalars>(alloc: Global, f: &F, source: &[Cell], z: &[u8], arrow: &Arrow, t: Cell, sum: &mut [u8]) -> Result<(), NoMemory>
+fn add_arrow<F: Scalars>(
+    alloc: Global,
+    f: &F,
+    source: &[Cell],
+    z: &[u8],
+    arrow: &Arrow,
+    t: Cell,
+    sum: &mut [u8],
+) -> Result<(), NoMemory>
     requires size { length z.now ≡ total_size source.now }
     requires z_scalars { AllScalars (F.ops f.now) z.now }
     requires fits { FitsCells (F.ops f.now) source.now arrow.now }
@@ -63,7 +77,14 @@ fn add_arrow<F: Scalars>(alloc: Global, f: &F, source: &[Cell], z: &[u8], arrow:
 }
 
 /// The part at the cell `t` of the coboundary of `z`.
-fn part_at<F: Scalars>(alloc: Global, f: &F, arrows: &[Arrow], source: &[Cell], z: &[u8], t: Cell) -> Result<Vec<u8>, NoMemory>
+fn part_at<F: Scalars>(
+    alloc: Global,
+    f: &F,
+    arrows: &[Arrow],
+    source: &[Cell],
+    z: &[u8],
+    t: Cell,
+) -> Result<Vec<u8>, NoMemory>
     requires size { length z.now ≡ total_size source.now }
     requires z_scalars { AllScalars (F.ops f.now) z.now }
     requires fits { All (FitsCells (F.ops f.now) source.now) arrows.now }
@@ -79,7 +100,14 @@ fn part_at<F: Scalars>(alloc: Global, f: &F, arrows: &[Arrow], source: &[Cell], 
 }
 
 /// The coboundary of `z`, which has the coordinates of the source cells, at the target cells.
-pub fn coboundary<F: Scalars>(alloc: Global, f: &F, arrows: &[Arrow], source: &[Cell], target: &[Cell], z: &[u8]) -> Result<Vec<u8>, NoMemory>
+pub fn coboundary<F: Scalars>(
+    alloc: Global,
+    f: &F,
+    arrows: &[Arrow],
+    source: &[Cell],
+    target: &[Cell],
+    z: &[u8],
+) -> Result<Vec<u8>, NoMemory>
     requires size { length z.now ≡ total_size source.now }
     requires z_scalars { AllScalars (F.ops f.now) z.now }
     requires source_fits { All (FitsCells (F.ops f.now) source.now) arrows.now }

@@ -27,11 +27,11 @@ pub returns-in_ok-zeros-in-None-clause-image : goal.returns-in_ok-zeros-in-None-
 returns-in_ok-zeros-in-None-clause-image g c =
     let K = g.F.Scalars.ops c.args.f.now in
     let block = c.args.arrow.now.block in
-    c.in_ok-zeros-in-None.ensures ∙ sym (applied-nothing K block.rows (matrix_of block) (cut-size block.rows block.cols block.entries))
+    c.in_ok-zeros-in-None.ensures.items ∙ sym (applied-nothing K block.rows (matrix_of block) (cut-size block.rows block.cols block.entries))
     ∙ ap (applied K (matrix_of block)) (sym c.in-None.ensures.absent)
 
 pub returns-in_ok-zeros-in-None-clause-vector : goal.returns-in_ok-zeros-in-None-clause-vector
 returns-in_ok-zeros-in-None-clause-vector g c =
     let K = g.F.Scalars.ops c.args.f.now in
     let rows = c.args.arrow.now.block.rows in
-    subst (IsVector K rows) (sym c.in_ok-zeros-in-None.ensures) (from_vector K rows _ (zeros-vector K (g.met.F.Scalars.is_field c.args.f.now) rows))
+    subst (IsVector K rows) (sym c.in_ok-zeros-in-None.ensures.items) (from_vector K rows _ (zeros-vector K (g.met.F.Scalars.is_field c.args.f.now) rows))

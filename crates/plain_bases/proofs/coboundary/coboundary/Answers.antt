@@ -15,7 +15,7 @@ loop-t-preserved g c =
     let t = get_or ts i (record { cell = 0; degree = 0; size = 0 }) in
     let kept = c.loop-t.invariant in
     let grown : c.extend_from_slice.new.self.items ≡ c.loop-t.all.items ++ c.in_ok-part.part.items =
-        c.in_ok-extend_from_slice.ensures.items ∙ ap (λ p. c.loop-t.all.items ++ p) c.deref.ensures.value in
+    c.in_ok-extend_from_slice.ensures.items ∙ ap (λ p. c.loop-t.all.items ++ p) c.deref.ensures.value in
     record {
       image = grown ∙ ap₂ ◌++◌ kept.image c.in_ok-part.ensures.part ∙ sym (image-next K c.args.arrows.now c.args.source.now ts c.args.z.now i _ c.loop-t-test.true);
       vector = subst (IsVector K (total_size (take (i + 1) ts))) (sym grown)
