@@ -15,7 +15,7 @@ fn columns_of(
     rt: &impl Abort,
     alloc: Global,
     size: usize,
-    rows: &[&[u8]],
+    rows: &[&'static [u8]],
 ) -> Result<Vec<Vec<u8>>, NoMemory>
     ensures sizes { IfOk result (λ cs. All (λ c. length c.items ≡ size) cs.items) }
     ensures scalars { IfOk result (λ cs. All (λ c. AllScalars two c.items) cs.items) }
@@ -35,38 +35,39 @@ fn shown(solution: &Solution) -> (bool, &[u8]) {
     }
 }
 
+// The columns, the vector, whether it is a combination of them, and the coefficients.
+const CASES: [(&[&[u8]], &[u8], bool, &[u8]); 12] = [
+    (&[&[1, 1], &[0, 1]], &[1, 0], true, &[1, 1]),
+    (&[&[1, 1]], &[0, 1], false, &[1, 1]),
+    // No columns.
+    (&[], &[0, 0], true, &[]),
+    (&[], &[0, 1], false, &[0, 1]),
+    (&[], &[1, 1], false, &[1, 0]),
+    // No coordinates.
+    (&[], &[], true, &[]),
+    (&[&[], &[]], &[], true, &[0, 0]),
+    // Columns that earlier ones give have the coefficient 0.
+    (
+        &[&[0, 0], &[1, 0], &[1, 0], &[0, 1]],
+        &[1, 1],
+        true,
+        &[0, 1, 0, 1],
+    ),
+    (
+        &[&[1, 0, 1], &[0, 1, 1], &[1, 1, 0], &[0, 0, 1]],
+        &[1, 1, 1],
+        true,
+        &[1, 1, 0, 1],
+    ),
+    (&[&[1, 1], &[1, 1]], &[1, 1], true, &[1, 0]),
+    // So have rows that earlier ones give.
+    (&[&[1, 1, 1]], &[0, 0, 1], false, &[1, 0, 1]),
+    (&[&[0, 0], &[0, 0]], &[1, 1], false, &[1, 0]),
+];
+
 #[test]
 fn solves(rt: HostRuntime) -> Result<(), NoMemory> {
-    // The columns, the vector, whether it is a combination, and the coefficients.
-    let cases: [(&[&[u8]], &[u8], bool, &[u8]); 12] = [
-        (&[&[1, 1], &[0, 1]], &[1, 0], true, &[1, 1]),
-        (&[&[1, 1]], &[0, 1], false, &[1, 1]),
-        // No columns.
-        (&[], &[0, 0], true, &[]),
-        (&[], &[0, 1], false, &[0, 1]),
-        (&[], &[1, 1], false, &[1, 0]),
-        // No coordinates.
-        (&[], &[], true, &[]),
-        (&[&[], &[]], &[], true, &[0, 0]),
-        // Columns that earlier ones give have the coefficient 0.
-        (
-            &[&[0, 0], &[1, 0], &[1, 0], &[0, 1]],
-            &[1, 1],
-            true,
-            &[0, 1, 0, 1],
-        ),
-        (
-            &[&[1, 0, 1], &[0, 1, 1], &[1, 1, 0], &[0, 0, 1]],
-            &[1, 1, 1],
-            true,
-            &[1, 1, 0, 1],
-        ),
-        (&[&[1, 1], &[1, 1]], &[1, 1], true, &[1, 0]),
-        // So have rows that earlier ones give.
-        (&[&[1, 1, 1]], &[0, 0, 1], false, &[1, 0, 1]),
-        (&[&[0, 0], &[0, 0]], &[1, 1], false, &[1, 0]),
-    ];
-    for (rows, v, found, coefficients) in cases {
+    for (rows, v, found, coefficients) in CASES {
         assert!(rt; all_scalars(&Two, v));
         let columns = columns_of(&rt, rt.alloc(), v.len(), rows)?;
         let solution = solve(rt.alloc(), &Two, columns.as_slice(), v)?;
