@@ -1,7 +1,7 @@
 ghost use Rattle.std.specs.Prelude.{◌≡◌, ◌≢◌, ◌+◌, ◌<◌, length, All, IfOk, OnOk, slice_index};
 ghost use Rattle.dense_blocks.specs.Vectors.{AllScalars, IsVector, combination};
 ghost use Rattle.dense_blocks.specs.Matrices.{IsMatrix};
-ghost use Rattle.dense_blocks.specs.Solving.{Combines, Solves, lists};
+ghost use Rattle.dense_blocks.specs.Solving.{Combines, Leads, Solves, lists};
 ghost use Rattle.dense_blocks.specs.Elimination.{Eliminates, Fits, PullsBack, parts, reduced, rows};
 
 use crate::rows::{add_scaled, dot_product, first_nonzero, zeros};
@@ -146,6 +146,7 @@ impl Elimination {
         ensures scalars { IfOk result (λ c. IsVector (F.ops f.now) (length columns.now) c.items) }
         ensures same { IfOk result (λ c. combination (F.ops f.now) self.now.size c.items (lists columns.now)
             ≡ combination (F.ops f.now) self.now.size parts.items (rows self.now.pivots.items)) }
+        ensures leading { IfOk result (λ c. Leads (F.ops f.now) self.now.size (lists columns.now) c.items) }
     {
         let mut coefficients = zeros(alloc, columns.len())?;
         while let Some(last) = parts.pop() {
@@ -183,7 +184,9 @@ impl Elimination {
 
 /// Writes `v` as a combination of the columns, or gives a functional that is 0 on each of them and 1 on `v`.
 ///
-/// Each column has as many coordinates as `v`. The only error is want of memory.
+/// Each column has as many coordinates as `v`. The combination has the coefficient 0 at each column that is a combination
+/// of earlier ones, and the functional at each coordinate that, in the columns and `v`, is one combination of earlier ones.
+/// The only error is want of memory.
 pub fn solve<F: Scalars>(
     alloc: Global,
     f: &F,
