@@ -1,5 +1,4 @@
-use Rattle.std.proofs.Common.{◌≡◌, ◌<◌}
-use Rattle.std.specs.Prelude.{All}
+use Rattle.std.proofs.Common.{◌≡◌}
 use Rattle.dense_blocks.specs.Vectors.{AllScalars, plus, scaled}
 use Rattle.dense_blocks.proofs.RowSteps.{changed}
 use Rattle.dense_blocks.proofs.rows.add_scaled.Given as goal
