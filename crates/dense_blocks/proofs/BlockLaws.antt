@@ -21,6 +21,10 @@ block-size b = cut-size b.rows b.cols b.entries
 pub block-matrix : (K : Ops) (b : Block) → AllScalars K b.entries → Matrix K b.rows b.cols (matrix_of b)
 block-matrix K b h = cut-matrix K b.rows b.cols b.entries b.full h
 
+-- the same at the numbers that the rows and columns are known to be
+pub block-matrix_at : (K : Ops) (b : Block) (m n : ℕ) → b.rows ≡ m → b.cols ≡ n → AllScalars K b.entries → Matrix K m n (matrix_of b)
+block-matrix_at K b m n r c h = subst (λ k. Matrix K k n (matrix_of b)) r (subst (λ k. Matrix K b.rows k (matrix_of b)) c (block-matrix K b h))
+
 pub block-vector : (K : Ops) (b : Block) → AllScalars K b.entries → Vector K (b.rows * b.cols) b.entries
 block-vector K b h = vector_of K (b.rows * b.cols) b.entries b.full h
 
@@ -32,9 +36,7 @@ pub is_block-entries : (b : Block) (m n : ℕ) (A : List (List ℕ)) → IsBlock
 is_block-entries b m n A h = sym (block-entries b) ∙ ap flat h.matrix_is
 
 pub is_block-matrix : (K : Ops) (b : Block) (m n : ℕ) (A : List (List ℕ)) → AllScalars K b.entries → IsBlock b m n A → Matrix K m n A
-is_block-matrix K b m n A s h =
-    subst (Matrix K m n) h.matrix_is
-    (subst (λ k. Matrix K k n (matrix_of b)) h.rows_are (subst (λ k. Matrix K b.rows k (matrix_of b)) h.columns_are (block-matrix K b s)))
+is_block-matrix K b m n A s h = subst (Matrix K m n) h.matrix_is (block-matrix_at K b m n h.rows_are h.columns_are s)
 
 pub is_block-scalars : (K : Ops) (b : Block) (m n : ℕ) (A : List (List ℕ)) → Matrix K m n A → IsBlock b m n A → AllScalars K b.entries
 is_block-scalars K b m n A s h = subst (AllScalars K) (sym (is_block-entries b m n A h)) (flat-scalars K m n A s)
@@ -70,7 +72,7 @@ module _ (K : Ops) (F : IsField K) where
       is_more
       ∙ ap₂ (λ t k. t ++ combination K b.cols row (cut k b.cols b.entries)) now (size ∙ e)
       ∙ ap (λ r. first_rows i M ++ combination K b.cols r (matrix_of b)) is_row
-      ∙ ap (λ t. first_rows i M ++ t) (sym (product-row K a.cols b.cols (matrix_of a) (matrix_of b) a.rows i (block-matrix K a ha) l))
+      ∙ ap (λ t. first_rows i M ++ t) (sym (product-row K a.rows a.cols b.cols i (matrix_of a) (matrix_of b) (block-matrix K a ha) l))
       ∙ sym (first_rows-next i M (subst (λ k. i < k) (sym (matrix-size K a.rows b.cols M (block_product-matrix a b e ha hb))) l))
 
   pub block_sum-holds : (a b : Block) (i : ℕ) (xs : List ℕ) → a.rows ≡ b.rows → a.cols ≡ b.cols → AllScalars K a.entries → AllScalars K b.entries

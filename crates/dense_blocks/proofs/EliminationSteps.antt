@@ -1,19 +1,20 @@
 -- The loops of an elimination, step by step.
-use Rattle.std.proofs.Common.{Vec, ◌≡◌, ◌≢◌, ◌⊎◌, inl, inr, ℕ, ◌+◌, ◌<◌, ◌≤◌, List, [], ◌∷◌, ◌++◌, length, take, drop, get_or, set, All, refl, sym, ap, ap₂, ◌∙◌, subst, subst₂, arith, add-one, append_assoc, drop-cons}
+use Rattle.std.proofs.Common.{Vec, ◌≡◌, ◌≢◌, ◌⊎◌, inl, inr, ℕ, zero, suc, ◌+◌, ◌<◌, ◌≤◌, List, [], ◌∷◌, ◌++◌, length, take, drop, get_or, set, All, refl, sym, ap, ap₂, ◌∙◌, subst, subst₂, arith, add-one, append_assoc, drop-cons}
 use borrow.Author.Count.{below_more}
 use Rattle.std.proofs.Math.Seq.{take-append_seam}
 use Rattle.std.proofs.lemmas.Bool.{cases_lt}
-use Rattle.std.proofs.lemmas.List.{length-map, length-append, length-take-le, get_or-map, get_or_push, get_or_append_left, take-append-le, take_at, take_more, take-map, take_all, drop_all, append-nil}
+use Rattle.std.proofs.lemmas.List.{length-map, length-append, length-take-le, get_or-map, get_or-set_other, get_or_push, get_or_append_left, take-append-le, take_at, take_more, take-map, take_all, drop_all, append-nil}
 use Rattle.std.proofs.lemmas.List.Elements.{All-nil, All-push, All-head, All-tail, All-take, All-get_or}
 use Rattle.dense_blocks.specs.Field.{Ops, IsField}
 use Rattle.dense_blocks.specs.Vectors.{IsVector, zeros, plus, negative, scaled, dot, combination}
 use Rattle.dense_blocks.specs.Matrices.{IsMatrix}
 use Rattle.dense_blocks.specs.Elimination.{Fits, rows, part, cleared, reduced, parts, PullsBack, Eliminates, ComesFrom}
-use Rattle.dense_blocks.specs.Solving.{lists}
+use Rattle.dense_blocks.specs.Solving.{lists, IsEarlier, IsEarlierCoordinate, Leads}
 use Rattle.dense_blocks.specs.declared.solving.Pivot.{Pivot}
 use Rattle.dense_blocks.proofs.ScalarLaws.{zero_add, neg_mul}
 use Rattle.dense_blocks.proofs.Shapes.{Vector, Matrix, to_matrix, to_vector, from_vector, vector_of, vector-size, vector-scalars, row-vector}
 use Rattle.dense_blocks.proofs.VectorLaws.{zeros-size, zeros-vector, zeros-dot, zeros-plus, plus-zeros, plus-vector, plus-assoc, plus-comm, plus-cross, plus-negative, scaled-vector, scaled-plus, scaled-neg, dot-plus, dot-scaled, combination-vector, combination-plus, combination-scaled, combination-zeros}
+use Rattle.dense_blocks.proofs.Leading.{Given, reduced-combination, given-reduced, given-not_first}
 use Rattle.dense_blocks.proofs.Reductions.{reduced-vector, reduced-push, reduced-parts, parts-vector, zeros-at, cleared-zeros, cleared-row, dot-set, set-vector, combination-take, combination-set, combination-last}
 
 -- u and what was taken off so far, with i pivots used
@@ -84,6 +85,7 @@ last_all P xs x all =
 pub record Pulling (K : Ops) (n : ℕ) (ps : List Pivot) (place k i : ℕ) (p : List ℕ) : Type 0 where
   pub functional : IsVector K n p
   pub gives : (u : List ℕ) → IsVector K n u → dot K p (reduced K (take i ps) u) ≡ K.mul k (get_or (reduced K ps u) place 0)
+  pub elsewhere : (j : ℕ) → j ≢ place → ((a : ℕ) (d : Pivot) → a < length ps → (get_or ps a d).place ≢ j) → get_or p j 0 ≡ 0
 
 -- what the rows were of the vectors, with the later rows already replaced
 pub record Rebuilding (K : Ops) (n : ℕ) (vectors : List (List ℕ)) (ps : List Pivot) (target coefficients taken : List ℕ) : Type 0 where
@@ -91,6 +93,7 @@ pub record Rebuilding (K : Ops) (n : ℕ) (vectors : List (List ℕ)) (ps : List
   pub taken_are : All (λ a. a < K.order) taken
   pub short : length taken ≤ length ps
   pub gives : plus K (combination K n coefficients vectors) (combination K n taken (rows ps)) ≡ target
+  pub elsewhere : (j : ℕ) → ((a : ℕ) (d : Pivot) → a < length ps → (get_or ps a d).source ≢ j) → get_or coefficients j 0 ≡ 0
 
 module _ (K : Ops) (h : IsField K) where
   -- k times the coordinate at a place
@@ -109,6 +112,7 @@ module _ (K : Ops) (h : IsField K) where
         gives = λ u hu.
             ap (λ t. dot K (set (zeros n) place k) (reduced K t u)) (take_all i ps (omega arith))
             ∙ dot-unit n place k (reduced K ps u) l low (reduced-vector K h n ps u fit (to_vector K n u hu));
+        elsewhere = λ j other none. get_or-set_other (zeros n) place j k 0 other ∙ zeros-at K h n j;
       })
 
   mul_turn : (a b c : ℕ) → K.mul (K.mul a b) c ≡ K.mul (K.mul c b) a
@@ -145,6 +149,8 @@ module _ (K : Ops) (h : IsField K) where
         ∙ ap (λ t. reduced K (take i ps ++ t ∷ []) u) is
         ∙ ap (λ t. reduced K t u) (sym (take_more ps i q l)))
         ∙ now.gives u hu;
+    elsewhere = λ j other none.
+        get_or-set_other p q.place j (K.add (get_or p q.place 0) less) 0 (λ e. none i q l (ap (λ t. t.place) (sym is) ∙ sym e)) ∙ now.elsewhere j other none;
   }
 
   pub pulling-end : (n : ℕ) (ps : List Pivot) (place k i : ℕ) (p : List ℕ) → i ≡ 0 → Pulling K n ps place k i p → PullsBack K n ps place k p
@@ -152,6 +158,7 @@ module _ (K : Ops) (h : IsField K) where
   pulling-end n ps place k i p e now = record {
     functional = now.functional;
     gives = λ u hu. ap (λ t. dot K p (reduced K (take t ps) u)) (sym e) ∙ now.gives u hu;
+    elsewhere = now.elsewhere;
   }
 
   pub rows-matrix : (n : ℕ) (ps : List Pivot) → All (Fits K n) ps → Matrix K (length ps) n (rows ps)
@@ -170,6 +177,7 @@ module _ (K : Ops) (h : IsField K) where
         short = omega (arith, h_taken.size);
         gives = ap (λ t. plus K t (combination K n taken (rows ps))) (combination-zeros K h (length vectors) (length vectors) n vectors hv)
             ∙ zeros-plus K h n (combination K n taken (rows ps)) (combination-vector K h (length ps) n taken (rows ps) (rows-matrix n ps fit));
+        elsewhere = λ j none. zeros-at K h (length vectors) j;
       })
 
   -- a pivot has one part for each pivot before it
@@ -178,6 +186,12 @@ module _ (K : Ops) (h : IsField K) where
       let w : List ℕ = get_or vectors q.source [] in
       subst (Vector K k) (sym from.parts_are)
       (subst (λ t. Vector K t (parts K (take k ps) w)) (length-take-le k ps (omega arith)) (parts-vector K h (take k ps) w))
+
+  -- coefficients that are 0 but at the sources of pivots leave out the vectors that earlier ones give
+  pub rebuilding-leads : (n : ℕ) (vectors : List (List ℕ)) (count : ℕ) (ps : List Pivot) (target coefficients taken : List ℕ) → Eliminates K n vectors count ps
+      → Rebuilding K n vectors ps target coefficients taken → Leads K n vectors coefficients
+  rebuilding-leads n vectors count ps target coefficients taken all now k l earlier =
+      now.elsewhere k (λ a d low e. all.not_earlier a d low (subst (IsEarlier K n vectors) (sym e) earlier))
 
   -- a vector is its row and its parts
   pub source-is : (n : ℕ) (vectors : List (List ℕ)) (ps : List Pivot) (k : ℕ) (q : Pivot) → Matrix K (length vectors) n vectors → All (Fits K n) ps
@@ -246,6 +260,8 @@ module _ (K : Ops) (h : IsField K) where
             ∙ exchange n C P R S (combination-vector K h (length ps) n shorter (rows ps) all_rows) (scaled-vector K h n last row row_vector) (scaled-vector K h n last G G_vector)
             ∙ ap (plus K C) (sym before)
             ∙ now.gives;
+        elsewhere = λ j none.
+            get_or-set_other coefficients q.source j (K.add (get_or coefficients q.source 0) last) 0 (λ e. none k q l (ap (λ t. t.source) (sym is) ∙ sym e)) ∙ now.elsewhere j none;
       }
 
   pub rebuilding-end : (n : ℕ) (vectors : List (List ℕ)) (ps : List Pivot) (target coefficients taken : List ℕ) → Matrix K (length vectors) n vectors
@@ -260,6 +276,7 @@ module _ (K : Ops) (h : IsField K) where
   eliminates-none n vectors = record {
     fit = All-nil (Fits K n);
     come_from = λ k d l. absurd (omega arith);
+    not_earlier = λ k d l. absurd (omega arith);
     zero = λ j l. absurd (omega arith);
   }
 
@@ -269,28 +286,73 @@ module _ (K : Ops) (h : IsField K) where
   eliminates-zero n vectors j ps all e = record {
     fit = all.fit;
     come_from = all.come_from;
+    not_earlier = all.not_earlier;
     zero = below_more _ _ all.zero e;
   }
 
-  -- one more vector, which becomes a pivot
-  pub eliminates-pivot : (n : ℕ) (vectors : List (List ℕ)) (ps : List Pivot) (q : Pivot) → Eliminates K n vectors q.source ps → Fits K n q
-      → ComesFrom K vectors ps q → get_or q.row.items q.place 0 ≢ 0 → q.inverse ≡ K.inv (get_or q.row.items q.place 0)
-      → Eliminates K n vectors (q.source + 1) (ps ++ q ∷ [])
-  eliminates-pivot n vectors ps q all fit from not_zero inverse =
-      let at : ℕ = get_or q.row.items q.place 0 in
-      let low : at < K.order = All-get_or (λ a. a < K.order) q.row.items q.place 0 (omega (arith, fit.place, fit.row.size)) fit.row.scalars in
-      record {
-        fit = All-push (Fits K n) ps q all.fit fit;
-        come_from = λ k d l. pushed k d (cases_lt k (length ps)) l;
-        zero = below_more _ _
-            (λ j l. reduced-push K h ps q (get_or vectors j []) ∙ ap (cleared K q) (all.zero j l) ∙ cleared-zeros K h n q fit)
-            (reduced-push K h ps q (get_or vectors q.source []) ∙ ap (cleared K q) (sym from.row_is) ∙ cleared-row K h n q fit low not_zero inverse);
-      }
+  -- a pivot does not come from a vector that earlier ones give
+  source-not_earlier : (n : ℕ) (vectors : List (List ℕ)) (ps : List Pivot) (q : Pivot) → Matrix K (length vectors) n vectors → Eliminates K n vectors q.source ps
+      → Fits K n q → ComesFrom K vectors ps q → IsEarlier K n vectors q.source → ⊥
+  source-not_earlier n vectors ps q hv all fit from earlier =
+      let none : q.row.items ≡ zeros n =
+      from.row_is ∙ ap (reduced K ps) (sym earlier.is)
+      ∙ reduced-combination K h (length vectors) n q.source ps earlier.by vectors all.fit hv all.zero (omega (arith, from.source)) in
+      fit.not_zero (ap (λ t. get_or t q.place 0) none ∙ zeros-at K h n q.place)
+
+  -- what holds of each pivot holds of one more
+  one-more : (P : List Pivot → Pivot → Type 0) (ps : List Pivot) (q : Pivot) → ((k : ℕ) (d : Pivot) → k < length ps → P (take k ps) (get_or ps k d)) → P ps q
+      → (k : ℕ) (d : Pivot) → k < length (ps ++ q ∷ []) → P (take k (ps ++ q ∷ [])) (get_or (ps ++ q ∷ []) k d)
+  one-more P ps q each last k d l = go (cases_lt k (length ps))
     where
-      pushed : (k : ℕ) (d : Pivot) → (k < length ps) ⊎ (length ps ≤ k) → k < length (ps ++ q ∷ [])
-          → ComesFrom K vectors (take k (ps ++ q ∷ [])) (get_or (ps ++ q ∷ []) k d)
-      pushed k d (inl low) l =
-          subst₂ (ComesFrom K vectors) (sym (take-append-le k ps (q ∷ []) (omega arith))) (sym (get_or_append_left ps (q ∷ []) d k low)) (all.come_from k d low)
-      pushed k d (inr high) l =
+      go : (k < length ps) ⊎ (length ps ≤ k) → P (take k (ps ++ q ∷ [])) (get_or (ps ++ q ∷ []) k d)
+      go (inl low) = subst₂ P (sym (take-append-le k ps (q ∷ []) (omega arith))) (sym (get_or_append_left ps (q ∷ []) d k low)) (each k d low)
+      go (inr high) =
           let same : length ps ≡ k = omega (arith, length-append ps (q ∷ [])) in
-          subst₂ (ComesFrom K vectors) (sym (take_at ps (q ∷ []) k same)) (sym (get_or_push ps q d k same)) from
+          subst₂ P (sym (take_at ps (q ∷ []) k same)) (sym (get_or_push ps q d k same)) last
+
+  -- one more vector, which becomes a pivot
+  pub eliminates-pivot : (n : ℕ) (vectors : List (List ℕ)) (ps : List Pivot) (q : Pivot) → Matrix K (length vectors) n vectors → Eliminates K n vectors q.source ps
+      → Fits K n q → ComesFrom K vectors ps q → Eliminates K n vectors (q.source + 1) (ps ++ q ∷ [])
+  eliminates-pivot n vectors ps q hv all fit from = record {
+    fit = All-push (Fits K n) ps q all.fit fit;
+    come_from = one-more (ComesFrom K vectors) ps q all.come_from from;
+    not_earlier = one-more (λ before p. IsEarlier K n vectors p.source → ⊥) ps q all.not_earlier (source-not_earlier n vectors ps q hv all fit from);
+    zero = below_more _ _
+        (λ j l. reduced-push K h ps q (get_or vectors j []) ∙ ap (cleared K q) (all.zero j l) ∙ cleared-zeros K h n q fit)
+        (reduced-push K h ps q (get_or vectors q.source []) ∙ ap (cleared K q) (sym from.row_is) ∙ cleared-row K h n q fit);
+  }
+
+  -- coordinate i of each pivot's row is a combination of its earlier ones, if that is so for the vectors
+  rows-given : (n i : ℕ) (by : List ℕ) (vectors : List (List ℕ)) (count : ℕ) (ps : List Pivot) → i < n → Matrix K (length vectors) n vectors → Eliminates K n vectors count ps
+      → All (λ v. dot K by (take i v) ≡ get_or v i 0) vectors → (k : ℕ) → k ≤ length ps → All (λ p. Given K h by i p.row.items) (take k ps)
+  rows-given n i by vectors count ps l hv all given zero low = All-nil (λ p. Given K h by i p.row.items)
+  rows-given n i by vectors count [] l hv all given (suc k) low = absurd (omega arith)
+  rows-given n i by vectors count (p ∷ ps) l hv all given (suc k) low =
+      let all_ps : List Pivot = p ∷ ps in
+      let q : Pivot = get_or all_ps k p in
+      let before : All (λ p. Given K h by i p.row.items) (take k all_ps) = rows-given n i by vectors count all_ps l hv all given k (omega arith) in
+      let from : ComesFrom K vectors (take k all_ps) q = all.come_from k p (omega arith) in
+      let w : List ℕ = get_or vectors q.source [] in
+      let last : Given K h by i q.row.items =
+      subst (Given K h by i) (sym from.row_is)
+      (given-reduced K h n i by (take k all_ps) w l (All-take (Fits K n) k all_ps all.fit) before (row-vector K (length vectors) n vectors q.source hv from.source)
+      (record { is = All-get_or (λ v. dot K by (take i v) ≡ get_or v i 0) vectors q.source [] from.source given })) in
+      subst (All (λ p. Given K h by i p.row.items)) (sym (take_more all_ps k p (omega arith)) ∙ ap (λ t. take t all_ps) (add-one k))
+      (All-push (λ p. Given K h by i p.row.items) (take k all_ps) q before last)
+
+  -- a functional that is pulled back leaves out coordinates that earlier ones give
+  pub pulls_back-leading : (n : ℕ) (columns : List (List ℕ)) (count : ℕ) (ps : List Pivot) (v p : List ℕ) (place k i : ℕ) → Matrix K (length columns) n columns → Vector K n v
+      → Eliminates K n columns count ps → take place (reduced K ps v) ≡ zeros place → get_or (reduced K ps v) place 0 ≢ 0 → PullsBack K n ps place k p
+      → i < n → IsEarlierCoordinate K columns v i → get_or p i 0 ≡ 0
+  pulls_back-leading n columns count ps v p place k i hc hv all first not_zero pulls l earlier =
+      let rows_given : All (λ q. Given K h earlier.by i q.row.items) ps =
+      subst (All (λ q. Given K h earlier.by i q.row.items)) (take_all (length ps) ps (omega arith))
+      (rows-given n i earlier.by columns count ps l hc all earlier.of_columns (length ps) (omega arith)) in
+      let rest_given : Given K h earlier.by i (reduced K ps v) =
+      given-reduced K h n i earlier.by ps v l all.fit rows_given hv (record { is = earlier.of_v }) in
+      pulls.elsewhere i
+      (λ e. given-not_first K h i place earlier.by (reduced K ps v) first not_zero rest_given (sym e))
+      (λ j d low.
+      let q : Pivot = get_or ps j d in
+      let fit : Fits K n q = All-get_or (Fits K n) ps j d low all.fit in
+      given-not_first K h i q.place earlier.by q.row.items fit.first fit.not_zero (All-get_or (λ q. Given K h earlier.by i q.row.items) ps j d low rows_given))

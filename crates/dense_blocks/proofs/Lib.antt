@@ -11,3 +11,4 @@ pub mod RowSteps
 pub mod Reductions
 pub mod EliminationSteps
 pub mod Solutions
+pub mod Leading

@@ -18,22 +18,21 @@ product-append K n [] B C = refl
 product-append K n (r ∷ A) B C = ap (λ t. combination K n r C ∷ t) (product-append K n A B C)
 
 -- the row at i of a product
-pub product-row : (K : Ops) (m n : ℕ) (A B : List (List ℕ)) (l i : ℕ) → Matrix K l m A → i < l
+pub product-row : (K : Ops) (l m n i : ℕ) (A B : List (List ℕ)) → Matrix K l m A → i < l
     → get_or (product K n A B) i [] ≡ combination K n (get_or A i []) B
-product-row K m n [] B zero i h w = absurd (omega arith)
-product-row K m n (r ∷ A) B zero i h w = absurd h
-product-row K m n [] B (suc l) i h w = absurd h
-product-row K m n (r ∷ A) B (suc l) zero h w = refl
-product-row K m n (r ∷ A) B (suc l) (suc i) h w = product-row K m n A B l i h.1 (omega arith)
+product-row K zero m n i A B h w = absurd (omega arith)
+product-row K (suc l) m n i [] B h w = absurd h
+product-row K (suc l) m n zero (r ∷ A) B h w = refl
+product-row K (suc l) m n (suc i) (r ∷ A) B h w = product-row K l m n i A B h.1 (omega arith)
 
 -- the row at i of a sum
-pub matrix_sum-row : (K : Ops) (m n : ℕ) (A B : List (List ℕ)) (i : ℕ) → Matrix K m n A → Matrix K m n B → i < m
+pub matrix_sum-row : (K : Ops) (m n i : ℕ) (A B : List (List ℕ)) → Matrix K m n A → Matrix K m n B → i < m
     → get_or (matrix_sum K A B) i [] ≡ plus K (get_or A i []) (get_or B i [])
-matrix_sum-row K zero n A B i ha hb w = absurd (omega arith)
-matrix_sum-row K (suc m) n [] B i ha hb w = absurd ha
-matrix_sum-row K (suc m) n (a ∷ A) [] i ha hb w = absurd hb
-matrix_sum-row K (suc m) n (a ∷ A) (b ∷ B) zero ha hb w = refl
-matrix_sum-row K (suc m) n (a ∷ A) (b ∷ B) (suc i) ha hb w = matrix_sum-row K m n A B i ha.1 hb.1 (omega arith)
+matrix_sum-row K zero n i A B ha hb w = absurd (omega arith)
+matrix_sum-row K (suc m) n i [] B ha hb w = absurd ha
+matrix_sum-row K (suc m) n i (a ∷ A) [] ha hb w = absurd hb
+matrix_sum-row K (suc m) n zero (a ∷ A) (b ∷ B) ha hb w = refl
+matrix_sum-row K (suc m) n (suc i) (a ∷ A) (b ∷ B) ha hb w = matrix_sum-row K m n i A B ha.1 hb.1 (omega arith)
 
 -- a matrix without columns, and one without rows
 pub no-columns : (K : Ops) (m : ℕ) (A : List (List ℕ)) → Matrix K m 0 A → A ≡ zero_matrix m 0
@@ -266,12 +265,12 @@ module _ (K : Ops) (F : IsField K) where
       (ap₂ (plus K) (scaled-zeros K F a n) (combination-identity n v h.1) ∙ zeros-plus K F n v h.1)
 
   -- products: associative, with the identity on both sides
-  pub product-assoc : (l m n : ℕ) (A B C : List (List ℕ)) (k : ℕ) → Matrix K k l A → Matrix K l m B → Matrix K m n C
+  pub product-assoc : (k l m n : ℕ) (A B C : List (List ℕ)) → Matrix K k l A → Matrix K l m B → Matrix K m n C
       → product K n (product K m A B) C ≡ product K n A (product K n B C)
-  product-assoc l m n [] B C k ha hb hc = refl
-  product-assoc l m n (r ∷ A) B C zero ha hb hc = absurd ha
-  product-assoc l m n (r ∷ A) B C (suc k) ha hb hc =
-      ap₂ ◌∷◌ (combination-combination K F l m n r B C hb hc) (product-assoc l m n A B C k ha.1 hb hc)
+  product-assoc k l m n [] B C ha hb hc = refl
+  product-assoc zero l m n (r ∷ A) B C ha hb hc = absurd ha
+  product-assoc (suc k) l m n (r ∷ A) B C ha hb hc =
+      ap₂ ◌∷◌ (combination-combination K F l m n r B C hb hc) (product-assoc k l m n A B C ha.1 hb hc)
 
   pub product-identity : (m n : ℕ) (A : List (List ℕ)) → Matrix K m n A → product K n A (identity n) ≡ A
   product-identity zero n [] h = refl
@@ -297,10 +296,10 @@ module _ (K : Ops) (F : IsField K) where
       (shifted-product m n (identity m) r A h.0 h.1 ∙ identity-product m n A h.1)
 
   -- the coefficients of a unit vector pick a row
-  pub combination-unit_row : (m n : ℕ) (A : List (List ℕ)) (i : ℕ) → Matrix K m n A → i < m
+  pub combination-unit_row : (m n i : ℕ) (A : List (List ℕ)) → Matrix K m n A → i < m
       → combination K n (get_or (identity m) i []) A ≡ get_or A i []
-  combination-unit_row m n A i h l =
-      sym (product-row K m n (identity m) A m i (identity-matrix m) l) ∙ ap (λ t. get_or t i []) (identity-product m n A h)
+  combination-unit_row m n i A h l =
+      sym (product-row K m m n i (identity m) A (identity-matrix m) l) ∙ ap (λ t. get_or t i []) (identity-product m n A h)
 
   -- zero factors
   pub product-zero_matrix : (l m n : ℕ) (A : List (List ℕ)) → Matrix K l m A → product K n A (zero_matrix m n) ≡ zero_matrix l n
@@ -340,7 +339,7 @@ module _ (K : Ops) (F : IsField K) where
   pub left-inverse-right : (n : ℕ) (A B C : List (List ℕ)) → Matrix K n n A → Matrix K n n B → Matrix K n n C
       → product K n B A ≡ identity n → product K n A C ≡ identity n → B ≡ C
   left-inverse-right n A B C ha hb hc l r =
-      sym (product-identity n n B hb) ∙ ap (product K n B) (sym r) ∙ sym (product-assoc n n n B A C n hb ha hc)
+      sym (product-identity n n B hb) ∙ ap (product K n B) (sym r) ∙ sym (product-assoc n n n n B A C hb ha hc)
       ∙ ap (λ t. product K n t C) l ∙ identity-product n n C hc
 
   pub inverse-unique : (n : ℕ) (A B C : List (List ℕ)) → Matrix K n n A → IsInverse K n A B → IsInverse K n A C → B ≡ C

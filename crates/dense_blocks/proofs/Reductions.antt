@@ -1,6 +1,6 @@
 -- Vectors reduced by pivots, and what a reduction takes off.
-use Rattle.std.proofs.Common.{◌≡◌, ◌≢◌, ℕ, zero, suc, ◌<◌, ◌≤◌, List, [], ◌∷◌, ◌++◌, length, take, get_or, set, All, refl, sym, ap, ◌∙◌, arith}
-use Rattle.std.proofs.lemmas.List.Elements.{All-head, All-tail}
+use Rattle.std.proofs.Common.{◌≡◌, ℕ, zero, suc, ◌<◌, ◌≤◌, List, [], ◌∷◌, ◌++◌, length, take, get_or, set, All, refl, sym, ap, ◌∙◌, arith}
+use Rattle.std.proofs.lemmas.List.Elements.{All-head, All-tail, All-get_or}
 use Rattle.dense_blocks.specs.Field.{Ops, IsField}
 use Rattle.dense_blocks.specs.Vectors.{zeros, plus, negative, scaled, dot, combination}
 use Rattle.dense_blocks.specs.Elimination.{Fits, rows, part, cleared, reduced, parts}
@@ -17,7 +17,7 @@ combination-take K n (suc k) (c ∷ cs) [] l = refl
 combination-take K n (suc k) (c ∷ cs) (v ∷ vs) l = ap (plus K (scaled K c v)) (combination-take K n k cs vs (omega arith))
 
 module _ (K : Ops) (h : IsField K) where
-  cleared-vector : (n : ℕ) (p : Pivot) (u : List ℕ) → Fits K n p → Vector K n u → Vector K n (cleared K p u)
+  pub cleared-vector : (n : ℕ) (p : Pivot) (u : List ℕ) → Fits K n p → Vector K n u → Vector K n (cleared K p u)
   cleared-vector n p u fit hu =
       plus-vector K h n u (scaled K (K.neg (part K p u)) p.row.items) hu
       (scaled-vector K h n (K.neg (part K p u)) p.row.items (to_vector K n p.row.items fit.row))
@@ -71,13 +71,13 @@ module _ (K : Ops) (h : IsField K) where
       ∙ ap (plus K (zeros n)) (scaled-zero K h n p.row.items (to_vector K n p.row.items fit.row))
       ∙ zeros-plus-zeros K h n
 
-  pub cleared-row : (n : ℕ) (p : Pivot) → Fits K n p → get_or p.row.items p.place 0 < K.order → get_or p.row.items p.place 0 ≢ 0
-      → p.inverse ≡ K.inv (get_or p.row.items p.place 0) → cleared K p p.row.items ≡ zeros n
-  cleared-row n p fit low not_zero inverse =
+  pub cleared-row : (n : ℕ) (p : Pivot) → Fits K n p → cleared K p p.row.items ≡ zeros n
+  cleared-row n p fit =
       let row : List ℕ = p.row.items in
       let row_vector : Vector K n row = to_vector K n row fit.row in
-      ap (λ t. plus K row (scaled K (K.neg (K.mul (get_or row p.place 0) t)) row)) inverse
-      ∙ ap (λ t. plus K row (scaled K (K.neg t) row)) (h.mul_inv (get_or row p.place 0) low not_zero)
+      let low : get_or row p.place 0 < K.order = All-get_or (λ a. a < K.order) row p.place 0 (omega (arith, fit.place, fit.row.size)) fit.row.scalars in
+      ap (λ t. plus K row (scaled K (K.neg (K.mul (get_or row p.place 0) t)) row)) fit.inverse_is
+      ∙ ap (λ t. plus K row (scaled K (K.neg t) row)) (h.mul_inv (get_or row p.place 0) low fit.not_zero)
       ∙ ap (plus K row) (scaled-neg_one K h n row row_vector)
       ∙ plus-negative K h n row row_vector
 

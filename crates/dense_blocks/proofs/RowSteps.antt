@@ -4,7 +4,8 @@ use Rattle.std.proofs.lemmas.List.{length-map, take_more}
 use Rattle.dense_blocks.specs.Field.{Ops, IsField}
 use Rattle.dense_blocks.specs.Vectors.{zeros, plus, scaled, dot}
 use Rattle.dense_blocks.proofs.ScalarLaws.{zero_add}
-use Rattle.dense_blocks.proofs.VectorLaws.{dot-below}
+use Rattle.dense_blocks.proofs.Shapes.{Vector}
+use Rattle.dense_blocks.proofs.VectorLaws.{plus-zeros, scaled-zero, dot-below}
 
 -- the first i entries of w, and the later ones of u
 unfoldable pub changed : ℕ → List ℕ → List ℕ → List ℕ
@@ -122,6 +123,9 @@ dot_from-end K (a ∷ u) [] = refl
 dot_from-end K (a ∷ u) (b ∷ v) = dot_from-end K u v
 
 module _ (K : Ops) (h : IsField K) where
+  pub plus-scaled-zero : (n : ℕ) (u v : List ℕ) → Vector K n u → Vector K n v → plus K u (scaled K 0 v) ≡ u
+  plus-scaled-zero n u v hu hv = ap (plus K u) (scaled-zero K h n v hv) ∙ plus-zeros K h n u hu
+
   pub dot_from-start : (u v : List ℕ) → K.add 0 (dot_from K 0 u v) ≡ dot K u v
   unfolding dot_from
   dot_from-start u v = zero_add K h (dot K u v) (dot-below K h u v)

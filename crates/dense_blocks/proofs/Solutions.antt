@@ -1,7 +1,7 @@
 -- What an elimination says of a vector: a combination, or a functional that separates it.
-use Rattle.std.proofs.Common.{◌≡◌, ◌≢◌, ℕ, zero, suc, ◌<◌, List, [], ◌∷◌, Vec, length, get_or, All, sym, ap, ap₂, ◌∙◌, subst, arith}
+use Rattle.std.proofs.Common.{◌≡◌, ◌≢◌, ℕ, zero, suc, ◌<◌, List, [], ◌∷◌, Vec, length, take, get_or, All, refl, sym, ap, ap₂, ◌∙◌, subst, arith}
 use Rattle.std.proofs.lemmas.List.{length-map, get_or_default}
-use Rattle.std.proofs.lemmas.List.Elements.{All-head, All-tail}
+use Rattle.std.proofs.lemmas.List.Elements.{All-head, All-tail, All-get_or}
 use Rattle.dense_blocks.specs.Field.{Ops, IsField}
 use Rattle.dense_blocks.specs.Vectors.{IsVector, zeros, plus, scaled, dot, combination}
 use Rattle.dense_blocks.specs.Matrices.{IsMatrix}
@@ -9,10 +9,10 @@ use Rattle.dense_blocks.specs.Elimination.{Fits, rows, reduced, parts, PullsBack
 use Rattle.dense_blocks.specs.Solving.{lists, Separates}
 use Rattle.dense_blocks.specs.declared.solving.Pivot.{Pivot}
 use Rattle.dense_blocks.proofs.ScalarLaws.{zero_below, zero_add, mul_zero, inv_mul}
-use Rattle.dense_blocks.proofs.Shapes.{Matrix, to_vector}
+use Rattle.dense_blocks.proofs.Shapes.{Vector, Matrix, to_vector, matrix_of_rows, vector-size, vector-scalars}
 use Rattle.dense_blocks.proofs.VectorLaws.{zeros-plus, scaled-vector, combination-vector, dot-zeros, dot-plus, dot-scaled}
-use Rattle.dense_blocks.proofs.Reductions.{reduced-parts, zeros-at}
-use Rattle.dense_blocks.proofs.EliminationSteps.{rows-matrix}
+use Rattle.dense_blocks.proofs.Reductions.{reduced-parts, reduced-vector, zeros-at}
+use Rattle.dense_blocks.proofs.EliminationSteps.{rows-matrix, pulls_back-leading}
 
 -- lists of one length, of scalars each, are the rows of a matrix
 pub lists_matrix : {Z : Type 0} (K : Ops) (n : ℕ) (vs : List (Vec ℕ Z)) → All (λ c. length c.items ≡ n) vs → All (λ c. All (λ a. a < K.order) c.items) vs
@@ -57,12 +57,16 @@ module _ (K : Ops) (h : IsField K) where
       let none : dot K p v ≡ 0 = ap (dot K p) (sym e) ∙ dot-combination-zero m (length v) p c columns hc apart.zero in
       omega (arith, none, apart.one)
 
-  -- a functional that reads a coordinate after reduction separates
+  -- a functional that reads the first coordinate after reduction separates
   pub pulls_back-separates : (n : ℕ) (columns : List (List ℕ)) (ps : List Pivot) (v p : List ℕ) (place k : ℕ) → length v ≡ n → IsVector K n v → All (IsVector K n) columns
-      → Eliminates K n columns (length columns) ps → get_or (reduced K ps v) place 0 < K.order → get_or (reduced K ps v) place 0 ≢ 0
+      → Eliminates K n columns (length columns) ps → place < n → take place (reduced K ps v) ≡ zeros place → get_or (reduced K ps v) place 0 ≢ 0
       → k ≡ K.inv (get_or (reduced K ps v) place 0) → PullsBack K n ps place k p → Separates K columns v p
-  pulls_back-separates n columns ps v p place k size hv hc all low not_zero is_k pulls =
+  pulls_back-separates n columns ps v p place k size hv hc all inside first not_zero is_k pulls =
       let at : ℕ = get_or (reduced K ps v) place 0 in
+      let vector : Vector K n v = to_vector K n v hv in
+      let rest : Vector K n (reduced K ps v) = reduced-vector K h n ps v all.fit vector in
+      let low : at < K.order =
+      All-get_or (λ a. a < K.order) (reduced K ps v) place 0 (omega (arith, vector-size K n (reduced K ps v) rest)) (vector-scalars K n (reduced K ps v) rest) in
       record {
         functional = subst (λ t. IsVector K t p) (sym size) pulls.functional;
         zero = λ j d l.
@@ -72,4 +76,7 @@ module _ (K : Ops) (h : IsField K) where
             ∙ ap (K.mul k) (zeros-at K h n place)
             ∙ mul_zero K h k;
         one = pulls.gives v hv ∙ ap (λ t. K.mul t at) is_k ∙ inv_mul K h at low not_zero;
+        leading = λ i l earlier.
+            pulls_back-leading K h n columns (length columns) ps v p place k i (matrix_of_rows K (length columns) n columns refl hc) vector all first not_zero pulls
+            (omega arith) earlier;
       }

@@ -134,25 +134,41 @@ fn applies(rt: HostRuntime) -> Result<(), NoMemory> {
 }
 
 #[test]
-fn makes_blocks(rt: HostRuntime) -> Result<(), NoMemory> {
-    let none = Block::zero(rt.alloc(), 0, 3)?;
-    assert!(&rt; shows(&none, 0, 3, &[]));
-    let zero = Block::zero(rt.alloc(), 2, 3)?;
-    assert!(&rt; shows(&zero, 2, 3, &[0, 0, 0, 0, 0, 0]));
-    let long = Block::zero(rt.alloc(), 17, 1)?;
-    assert!(&rt; shows(&long, 17, 1, &[0; 17]));
-    let empty = Block::identity(rt.alloc(), 0)?;
-    assert!(&rt; shows(&empty, 0, 0, &[]));
-    let three = Block::identity(rt.alloc(), 3)?;
-    assert!(&rt; shows(&three, 3, 3, &[1, 0, 0, 0, 1, 0, 0, 0, 1]));
-    let five = Block::identity(rt.alloc(), 5)?;
-    let diagonal = [
-        1, 0, 0, 0, 0, 0, 1, 0, 0, 0, 0, 0, 1, 0, 0, 0, 0, 0, 1, 0, 0, 0, 0, 0, 1,
+fn makes_zeros(rt: HostRuntime) -> Result<(), NoMemory> {
+    let cases: [(u32, u32, &[u8]); 4] = [
+        (2, 3, &[0, 0, 0, 0, 0, 0]),
+        (0, 3, &[]),
+        (3, 0, &[]),
+        (17, 1, &[0; 17]),
     ];
-    assert!(&rt; shows(&five, 5, 5, &diagonal));
-    assert!(&rt; five.row(3) == [0, 0, 0, 1, 0].as_slice());
-    let twin = five.copy(rt.alloc())?;
-    assert!(&rt; shows(&twin, 5, 5, &diagonal));
+    for (rows, cols, want) in cases {
+        assert!(&rt; rows <= Block::MOST && cols <= Block::MOST);
+        let zero = Block::zero(rt.alloc(), rows, cols)?;
+        assert!(&rt; shows(&zero, rows, cols, want), "{rows} {cols}");
+    }
+    Ok(())
+}
+
+#[test]
+fn makes_identities(rt: HostRuntime) -> Result<(), NoMemory> {
+    let cases: [(u32, &[u8]); 4] = [
+        (0, &[]),
+        (1, &[1]),
+        (3, &[1, 0, 0, 0, 1, 0, 0, 0, 1]),
+        (
+            5,
+            &[
+                1, 0, 0, 0, 0, 0, 1, 0, 0, 0, 0, 0, 1, 0, 0, 0, 0, 0, 1, 0, 0, 0, 0, 0, 1,
+            ],
+        ),
+    ];
+    for (n, want) in cases {
+        assert!(&rt; n <= Block::MOST);
+        let identity = Block::identity(rt.alloc(), n)?;
+        assert!(&rt; shows(&identity, n, n, want), "{n}");
+        let twin = identity.copy(rt.alloc())?;
+        assert!(&rt; shows(&twin, n, n, want), "{n}");
+    }
     Ok(())
 }
 
@@ -170,7 +186,9 @@ fn tests_conditions(rt: HostRuntime) -> Result<(), NoMemory> {
     }
     let wide = Block::zero(rt.alloc(), 2, 3)?;
     let tall = Block::zero(rt.alloc(), 3, 2)?;
-    assert!(&rt; wide.same_shape(&wide));
+    let given = block(&rt, rt.alloc(), 2, 3, &[1, 0, 1, 0, 1, 1])?;
+    assert!(&rt; given.row(1) == [0, 1, 1].as_slice());
+    assert!(&rt; wide.same_shape(&given));
     assert!(&rt; !wide.same_shape(&tall));
     assert!(&rt; all_scalars(&Two, &[0, 1, 1]));
     assert!(&rt; !all_scalars(&Two, &[0, 2]));

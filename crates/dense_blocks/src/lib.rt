@@ -11,6 +11,8 @@ mod operations;
 mod rows;
 mod scalars;
 mod solving;
+#[cfg(test)]
+mod solving_tests;
 mod two;
 
 pub use block::Block;

@@ -1,5 +1,5 @@
-ghost use Rattle.std.specs.Prelude.{◌≡◌, ◌≢◌, ◌<◌, length, take, All, IfOk, IfSome, IfNone, slice_index, vec_len};
-ghost use Rattle.dense_blocks.specs.Vectors.{IsVector, zeros, plus, scaled, dot};
+ghost use Rattle.std.specs.Prelude.{◌≡◌, ◌≢◌, ◌<◌, length, take, IfOk, IfSome, IfNone, slice_index, vec_len};
+ghost use Rattle.dense_blocks.specs.Vectors.{AllScalars, zeros, plus, scaled, dot};
 
 use crate::scalars::Scalars;
 use std::alloc::{AllocError as NoMemory, Global};
@@ -16,11 +16,14 @@ pub fn zeros(alloc: Global, n: usize) -> Result<Vec<u8>, NoMemory>
 pub fn add_scaled<F: Scalars>(f: &F, target: &mut [u8], k: u8, row: &[u8])
     requires sizes { length row.now ≡ length target.old }
     requires scalar { k < (F.ops f.now).order }
-    requires target_scalars { All (λ a. a < (F.ops f.now).order) target.old }
-    requires row_scalars { All (λ a. a < (F.ops f.now).order) row.now }
+    requires target_scalars { AllScalars (F.ops f.now) target.old }
+    requires row_scalars { AllScalars (F.ops f.now) row.now }
     ensures sum { target.new ≡ plus (F.ops f.now) target.old (scaled (F.ops f.now) k row.now) }
-    ensures scalars { All (λ a. a < (F.ops f.now).order) target.new }
+    ensures scalars { AllScalars (F.ops f.now) target.new }
 {
+    if k == 0 {
+        return;
+    }
     for i in 0..target.len() {
         target[i] = f.add(target[i], f.mul(k, row[i]));
     }
@@ -29,9 +32,9 @@ pub fn add_scaled<F: Scalars>(f: &F, target: &mut [u8], k: u8, row: &[u8])
 /// Multiplies each entry of the target by `k`.
 pub fn scale<F: Scalars>(f: &F, target: &mut [u8], k: u8)
     requires scalar { k < (F.ops f.now).order }
-    requires target_scalars { All (λ a. a < (F.ops f.now).order) target.old }
+    requires target_scalars { AllScalars (F.ops f.now) target.old }
     ensures product { target.new ≡ scaled (F.ops f.now) k target.old }
-    ensures scalars { All (λ a. a < (F.ops f.now).order) target.new }
+    ensures scalars { AllScalars (F.ops f.now) target.new }
 {
     for entry in target.iter_mut() {
         *entry = f.mul(k, *entry);
@@ -41,8 +44,8 @@ pub fn scale<F: Scalars>(f: &F, target: &mut [u8], k: u8)
 /// The sum of the products of coordinates.
 pub fn dot_product<F: Scalars>(f: &F, u: &[u8], v: &[u8]) -> u8
     requires sizes { length u.now ≡ length v.now }
-    requires u_scalars { All (λ a. a < (F.ops f.now).order) u.now }
-    requires v_scalars { All (λ a. a < (F.ops f.now).order) v.now }
+    requires u_scalars { AllScalars (F.ops f.now) u.now }
+    requires v_scalars { AllScalars (F.ops f.now) v.now }
     ensures value { result ≡ dot (F.ops f.now) u.now v.now }
     ensures scalar { result < (F.ops f.now).order }
 {

@@ -1,7 +1,7 @@
 ghost use Rattle.std.specs.Prelude.{◌≡◌, ◌≢◌, ◌+◌, ◌<◌, length, All, IfOk, OnOk, slice_index};
-ghost use Rattle.dense_blocks.specs.Vectors.{IsVector, combination};
+ghost use Rattle.dense_blocks.specs.Vectors.{AllScalars, IsVector, combination};
 ghost use Rattle.dense_blocks.specs.Matrices.{IsMatrix};
-ghost use Rattle.dense_blocks.specs.Solving.{Combines, Solves, lists};
+ghost use Rattle.dense_blocks.specs.Solving.{Combines, Leads, Solves, lists};
 ghost use Rattle.dense_blocks.specs.Elimination.{Eliminates, Fits, PullsBack, parts, reduced, rows};
 
 use crate::rows::{add_scaled, dot_product, first_nonzero, zeros};
@@ -44,7 +44,7 @@ impl Pivot {
     fn of<F: Scalars>(f: &F, source: usize, place: usize, reduced: Reduced) -> Pivot
         requires place { place < length reduced.row.items }
         requires not_zero { slice_index reduced.row.items place ≢ 0 }
-        requires scalars { All (λ a. a < (F.ops f.now).order) reduced.row.items }
+        requires scalars { AllScalars (F.ops f.now) reduced.row.items }
         ensures source { result.source ≡ source }
         ensures place { result.place ≡ place }
         ensures inverse { result.inverse ≡ (F.ops f.now).inv (slice_index reduced.row.items place) }
@@ -146,6 +146,7 @@ impl Elimination {
         ensures scalars { IfOk result (λ c. IsVector (F.ops f.now) (length columns.now) c.items) }
         ensures same { IfOk result (λ c. combination (F.ops f.now) self.now.size c.items (lists columns.now)
             ≡ combination (F.ops f.now) self.now.size parts.items (rows self.now.pivots.items)) }
+        ensures leading { IfOk result (λ c. Leads (F.ops f.now) self.now.size (lists columns.now) c.items) }
     {
         let mut coefficients = zeros(alloc, columns.len())?;
         while let Some(last) = parts.pop() {
@@ -183,7 +184,9 @@ impl Elimination {
 
 /// Writes `v` as a combination of the columns, or gives a functional that is 0 on each of them and 1 on `v`.
 ///
-/// Each column has as many coordinates as `v`. The only error is want of memory.
+/// Each column has as many coordinates as `v`. The combination has the coefficient 0 at each column that is a combination
+/// of earlier ones, and the functional at each coordinate that, in the columns and `v`, is one combination of earlier ones.
+/// The only error is want of memory.
 pub fn solve<F: Scalars>(
     alloc: Global,
     f: &F,
@@ -191,8 +194,8 @@ pub fn solve<F: Scalars>(
     v: &[u8],
 ) -> Result<Solution, NoMemory>
     requires sizes { All (λ c. length c.items ≡ length v.now) columns.now }
-    requires column_scalars { All (λ c. All (λ a. a < (F.ops f.now).order) c.items) columns.now }
-    requires v_scalars { All (λ a. a < (F.ops f.now).order) v.now }
+    requires column_scalars { All (λ c. AllScalars (F.ops f.now) c.items) columns.now }
+    requires v_scalars { AllScalars (F.ops f.now) v.now }
     ensures { IfOk result (Solves (F.ops f.now) (lists columns.now) v.now) }
 {
     let elimination = Elimination::of(alloc, f, v.len(), columns)?;
@@ -205,32 +208,5 @@ pub fn solve<F: Scalars>(
             place,
             f.inv(row[place]),
         )?)),
-    }
-}
-
-#[cfg(test)]
-mod tests {
-    use super::{Solution, solve};
-    use crate::two::Two;
-    use std::test::Fail;
-
-    fn shown(s: &Solution) -> (bool, &[u8]) {
-        match s {
-            Solution::Combination(c) => (true, c.as_slice()),
-            Solution::Apart(p) => (false, p.as_slice()),
-        }
-    }
-
-    #[test]
-    fn small(rt: HostRuntime) -> Result<(), Fail> {
-        let alloc = rt.alloc();
-        let one = [1, 1].to_vec(alloc)?;
-        let two = [0, 1].to_vec(alloc)?;
-        let mut columns = Vec::new(alloc);
-        columns.push(one)?;
-        columns.push(two)?;
-        let answer = solve(alloc, &Two, columns.as_slice(), &[1, 0])?;
-        assert_eq!(rt; shown(&answer), (true, [1, 1].as_slice()));
-        Ok(())
     }
 }

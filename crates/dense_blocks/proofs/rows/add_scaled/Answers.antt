@@ -1,8 +1,9 @@
-use Rattle.std.proofs.Common.{◌≡◌, ℕ, ◌<◌, List, get_or, set, refl, sym, ap, ◌∙◌, arith}
+use Rattle.std.proofs.Common.{◌≡◌, ℕ, ◌<◌, List, length, get_or, set, refl, sym, ap, ◌∙◌, arith}
 use Rattle.std.proofs.lemmas.List.Elements.{All-set}
 use Rattle.dense_blocks.specs.Field.{Ops, IsField}
 use Rattle.dense_blocks.specs.Vectors.{plus, scaled}
-use Rattle.dense_blocks.proofs.RowSteps.{changed-none, add_scaled-next, add_scaled-all}
+use Rattle.dense_blocks.proofs.Shapes.{vector_of}
+use Rattle.dense_blocks.proofs.RowSteps.{changed-none, plus-scaled-zero, add_scaled-next, add_scaled-all}
 use Rattle.dense_blocks.proofs.rows.add_scaled.Goals as goal
 
 pub loop-i-init : goal.loop-i-init
@@ -31,3 +32,12 @@ pub returns-clause-sum : goal.returns-clause-sum
 returns-clause-sum g c =
     let K : Ops = g.F.Scalars.ops c.args.f.now in
     add_scaled-all K c.args.k c.loop-i.i c.loop-i.target c.args.target.now c.args.row.now c.requires.sizes (omega arith) c.loop-i.invariant.now
+
+pub returns-then-k-eq0-clause-sum : goal.returns-then-k-eq0-clause-sum
+returns-then-k-eq0-clause-sum g c =
+    let K : Ops = g.F.Scalars.ops c.args.f.now in
+    let h : IsField K = g.met.F.Scalars.is_field c.args.f.now in
+    let u : List ℕ = c.args.target.now in
+    let row : List ℕ = c.args.row.now in
+    sym (plus-scaled-zero K h (length u) u row (vector_of K (length u) u refl c.requires.target_scalars) (vector_of K (length u) row c.requires.sizes c.requires.row_scalars))
+    ∙ ap (λ t. plus K u (scaled K t row)) (sym c.if-k-eq0.true)

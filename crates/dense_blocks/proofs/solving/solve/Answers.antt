@@ -1,11 +1,10 @@
-use Rattle.std.proofs.Common.{◌≡◌, ℕ, ◌<◌, List, length, get_or, refl, sym, ap, ◌∙◌, subst, arith}
+use Rattle.std.proofs.Common.{◌≡◌, ℕ, ◌<◌, List, length, take, get_or, refl, sym, ap, ◌∙◌, subst, arith}
 use Rattle.std.proofs.lemmas.List.{get_or_read}
-use Rattle.std.proofs.lemmas.List.Elements.{All-get_or}
 use Rattle.dense_blocks.specs.Field.{Ops, IsField}
 use Rattle.dense_blocks.specs.Vectors.{IsVector, combination, zeros}
 use Rattle.dense_blocks.specs.Matrices.{IsMatrix}
 use Rattle.dense_blocks.specs.Elimination.{Eliminates, PullsBack, parts, reduced, rows}
-use Rattle.dense_blocks.specs.Solving.{lists, Separates}
+use Rattle.dense_blocks.specs.Solving.{lists, Leads, Separates}
 use Rattle.dense_blocks.specs.declared.solving.Pivot.{Pivot}
 use Rattle.dense_blocks.proofs.Shapes.{to_matrix, from_vector}
 use Rattle.dense_blocks.proofs.Reductions.{parts-vector}
@@ -51,6 +50,7 @@ returns-in-None g c =
           ∙ ap (λ m. combination K m c.in_ok-row.field-0.parts.items (rows ps)) size
           ∙ ap (λ t. combination K n t (rows ps)) c.in_ok-row.ensures.parts
           ∙ reduced-none K h n ps v c.in_ok-elimination.ensures.eliminates.fit (record { size = refl; scalars = c.requires.v_scalars }) nothing_left;
+      leading = subst (λ m. Leads K m vectors coefficients) size c.in_ok-combination-in-None.ensures.leading;
     }
 
 pub returns : goal.returns
@@ -69,12 +69,13 @@ returns g c =
     subst (λ m. Eliminates K n vectors m ps) (sym columns.size) c.in_ok-elimination.ensures.eliminates in
     let inside : at < length row = omega (arith, c.in-Some.ensures.inside, ap length c.as_slice.ensures.value) in
     let entry : get_or row at 0 ≡ get_or (reduced K ps v) at 0 = ap (λ t. get_or t at 0) c.in_ok-row.ensures.row in
-    let low : get_or (reduced K ps v) at 0 < K.order =
-    omega (arith, entry, All-get_or (λ a. a < K.order) row at 0 inside c.in_ok-row.ensures.vector.scalars) in
+    let is_v : IsVector K n v = record { size = refl; scalars = c.requires.v_scalars } in
     let pulls : PullsBack K n ps at c.inv.result p =
     subst (λ m. PullsBack K m ps at c.inv.result p) c.in_ok-elimination.ensures.size c.in_ok-functional-in-Some.ensures in
     let apart : Separates K vectors v p =
-    pulls_back-separates K h n vectors ps v p at c.inv.result refl (record { size = refl; scalars = c.requires.v_scalars }) columns.rows_are all low
+    pulls_back-separates K h n vectors ps v p at c.inv.result refl is_v columns.rows_are all
+    (omega (arith, inside, c.in_ok-row.ensures.vector.size, c.in_ok-elimination.ensures.size))
+    (ap (take at) (sym c.in_ok-row.ensures.row ∙ sym c.as_slice.ensures.value) ∙ c.in-Some.ensures.first)
     (λ e. c.in-Some.ensures.not_zero (ap (λ t. get_or t at 0) c.as_slice.ensures.value ∙ entry ∙ e))
     (c.inv.ensures ∙ ap K.inv (get_or_read row at c.index.result.now inside c.index.ensures 0 ∙ entry)) pulls in
     (apart, λ d. separates-none K h (length c.args.columns.now) vectors v p d (to_matrix K (length c.args.columns.now) n vectors columns) apart)

@@ -1,11 +1,11 @@
-use Rattle.std.proofs.Common.{◌≡◌, ℕ, ◌+◌, List, [], length, get_or, sym, ap, ◌∙◌, subst, subst₂, arith}
+use Rattle.std.proofs.Common.{◌≡◌, ℕ, ◌+◌, List, [], length, take, get_or, sym, ap, ap₂, ◌∙◌, subst, subst₂, arith}
 use Rattle.std.proofs.lemmas.List.Elements.{All-get_or}
 use Rattle.dense_blocks.specs.Field.{Ops, IsField}
 use Rattle.dense_blocks.specs.Vectors.{IsVector, zeros}
 use Rattle.dense_blocks.specs.Elimination.{ComesFrom, Eliminates, Fits, parts, reduced}
 use Rattle.dense_blocks.specs.Solving.{lists}
 use Rattle.dense_blocks.specs.declared.solving.Pivot.{Pivot}
-use Rattle.dense_blocks.proofs.EliminationSteps.{list_at, eliminates-zero, eliminates-pivot}
+use Rattle.dense_blocks.proofs.EliminationSteps.{list_at, own_matrix, eliminates-zero, eliminates-pivot}
 use Rattle.dense_blocks.proofs.solving.Elimination.add_column.Goals as goal
 
 pub reduce-requires-clause-vector : goal.reduce-requires-clause-vector
@@ -35,7 +35,11 @@ returns-in_ok-push-clause-after g c =
     let fit : Fits K n q = record {
       place = omega (arith, c.of-pivot.ensures.place, c.in-Some.ensures.inside, ap length c.as_slice-2.ensures.value, c.in_ok-reduced.ensures.vector.size);
       row = subst (IsVector K n) (sym c.of-pivot.ensures.row) c.in_ok-reduced.ensures.vector;
+      first = ap₂ take c.of-pivot.ensures.place (c.of-pivot.ensures.row ∙ sym c.as_slice-2.ensures.value)
+          ∙ c.in-Some.ensures.first ∙ ap zeros (sym c.of-pivot.ensures.place);
+      not_zero = λ e. c.in-Some.ensures.not_zero (ap (λ t. get_or t at 0) c.as_slice-2.ensures.value ∙ place_is ∙ e);
       inverse = omega (arith, c.of-pivot.ensures.inverse, h.inv_below (get_or row at 0));
+      inverse_is = c.of-pivot.ensures.inverse ∙ ap K.inv place_is;
     } in
     let from : ComesFrom K vectors ps q = record {
       source = omega (arith, c.of-pivot.ensures.source, c.requires.source, c.requires.columns.size);
@@ -43,9 +47,8 @@ returns-in_ok-push-clause-after g c =
       parts_are = c.of-pivot.ensures.parts ∙ c.in_ok-reduced.ensures.parts ∙ ap (parts K ps) is;
     } in
     subst₂ (Eliminates K n vectors) (ap (λ t. t + 1) c.of-pivot.ensures.source) (sym c.in_ok-push.ensures.items)
-    (eliminates-pivot K h n vectors ps q (subst (λ t. Eliminates K n vectors t ps) (sym c.of-pivot.ensures.source) c.requires.before) fit from
-    (λ e. c.in-Some.ensures.not_zero (ap (λ t. get_or t at 0) c.as_slice-2.ensures.value ∙ place_is ∙ e))
-    (c.of-pivot.ensures.inverse ∙ ap K.inv place_is))
+    (eliminates-pivot K h n vectors ps q (own_matrix K (length c.args.columns.now) n vectors c.requires.columns)
+    (subst (λ t. Eliminates K n vectors t ps) (sym c.of-pivot.ensures.source) c.requires.before) fit from)
 
 pub returns-in_default-clause-after : goal.returns-in_default-clause-after
 returns-in_default-clause-after g c =

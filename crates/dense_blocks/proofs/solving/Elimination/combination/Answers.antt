@@ -7,7 +7,7 @@ use Rattle.dense_blocks.specs.Elimination.{ComesFrom, rows}
 use Rattle.dense_blocks.specs.Solving.{lists}
 use Rattle.dense_blocks.specs.declared.solving.Pivot.{Pivot}
 use Rattle.dense_blocks.proofs.Shapes.{vector-size, vector-scalars}
-use Rattle.dense_blocks.proofs.EliminationSteps.{Rebuilding, own_matrix, come_from_at, front_all, last_all, parts-are, rebuilding-start, rebuilding-next, rebuilding-end}
+use Rattle.dense_blocks.proofs.EliminationSteps.{Rebuilding, own_matrix, come_from_at, front_all, last_all, parts-are, rebuilding-start, rebuilding-next, rebuilding-end, rebuilding-leads}
 use Rattle.dense_blocks.proofs.solving.Elimination.combination.Goals as goal
 
 pub loop-last-init : goal.loop-last-init
@@ -108,3 +108,12 @@ returns-clause-same g c =
     let ps : List Pivot = c.args.self.now.pivots.items in
     rebuilding-end K h n vectors ps (combination K n c.args.parts.items (rows ps)) c.loop-last.coefficients.items c.loop-last.parts.items
     (own_matrix K (length c.args.columns.now) n vectors c.requires.columns) (omega (arith, c.in_default.ensures.cases.0)) c.loop-last.invariant
+
+pub returns-clause-leading : goal.returns-clause-leading
+returns-clause-leading g c =
+    let K : Ops = g.F.Scalars.ops c.args.f.now in
+    let h : IsField K = g.met.F.Scalars.is_field c.args.f.now in
+    let n : ℕ = c.args.self.now.size in
+    let ps : List Pivot = c.args.self.now.pivots.items in
+    rebuilding-leads K h n (lists c.args.columns.now) (length c.args.columns.now) ps (combination K n c.args.parts.items (rows ps))
+    c.loop-last.coefficients.items c.loop-last.parts.items c.requires.pivots c.loop-last.invariant
