@@ -1,0 +1,14 @@
+pub mod ScalarLaws
+pub mod Shapes
+pub mod VectorLaws
+pub mod MatrixLaws
+pub mod SpanLaws
+pub mod Cutting
+pub mod AddingRows
+pub mod Tails
+pub mod BlockLaws
+pub mod RowSteps
+pub mod Reductions
+pub mod EliminationSteps
+pub mod Solutions
+pub mod Leading

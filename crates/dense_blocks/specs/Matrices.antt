@@ -1,5 +1,5 @@
 -- Matrices over a field, as lists of rows.
-use Rattle.std.specs.Prelude.{◌≡◌, ℕ, zero, suc, List, [], ◌∷◌, length, map, All}
+use Rattle.std.specs.Prelude.{◌≡◌, ℕ, zero, suc, List, [], ◌∷◌, length, map, take, drop, All}
 use Rattle.dense_blocks.specs.Field.{Ops}
 use Rattle.dense_blocks.specs.Vectors.{IsVector, zeros, plus, negative, dot, combination}
 
@@ -7,6 +7,11 @@ use Rattle.dense_blocks.specs.Vectors.{IsVector, zeros, plus, negative, dot, com
 pub record IsMatrix (K : Ops) (rows columns : ℕ) (A : List (List ℕ)) : Type 0 where
   pub size : length A ≡ rows
   pub rows_are : All (IsVector K columns) A
+
+-- a list of entries cut into so many rows of n
+abbrev pub cut : ℕ → ℕ → List ℕ → List (List ℕ)
+cut zero n entries = []
+cut (suc m) n entries = take n entries ∷ cut m n (drop n entries)
 
 -- A v: the product of each row with v
 abbrev pub applied : Ops → List (List ℕ) → List ℕ → List ℕ

@@ -2,10 +2,14 @@
 use Rattle.std.specs.Prelude.{◌≡◌, ℕ, zero, suc, ◌<◌, List, [], ◌∷◌, length, map, All}
 use Rattle.dense_blocks.specs.Field.{Ops}
 
+-- each number is a scalar
+abbrev pub AllScalars : Ops → List ℕ → Type 0
+AllScalars K v = All (λ a. a < K.order) v
+
 -- n scalars
 pub record IsVector (K : Ops) (n : ℕ) (v : List ℕ) : Type 0 where
   pub size : length v ≡ n
-  pub scalars : All (λ a. a < K.order) v
+  pub scalars : AllScalars K v
 
 -- the zero vector of n coordinates
 abbrev pub zeros : ℕ → List ℕ

@@ -1,5 +1,9 @@
-ghost use Rattle.std.specs.Prelude.{◌≡◌, IfOk};
+ghost use Rattle.std.specs.Prelude.{◌≡◌, [], ◌∷◌, ◌++◌, ◌*◌, length, IfOk, OnOk, OnErr};
+ghost use Rattle.dense_blocks.specs.Vectors.{AllScalars, zeros, combination};
+ghost use Rattle.dense_blocks.specs.Matrices.{cut};
 
+use crate::combining::add_combination;
+use crate::scalars::Scalars;
 use smallvec::SmallVec;
 use std::alloc::{AllocError as NoMemory, Global};
 use std::marker::Model;
@@ -33,5 +37,63 @@ impl Entries {
         ensures { result.now ≡ self.now }
     {
         self.items.as_slice()
+    }
+
+    /// The number of entries.
+    pub fn len(&self) -> usize
+        ensures { result ≡ length self.now }
+    {
+        self.items.len()
+    }
+
+    /// No entries, with room for `count`.
+    pub fn with_room(alloc: Global, count: usize) -> Result<Entries, NoMemory>
+        ensures { IfOk result (λ e. e ≡ []) }
+    {
+        Ok(Entries {
+            items: SmallVec::with_capacity(alloc, count)?,
+        })
+    }
+
+    /// Adds an entry at the end; without memory nothing changes.
+    pub fn push(&mut self, entry: u8) -> Result<(), NoMemory>
+        ensures ok { OnOk result (self.new ≡ self.old ++ entry ∷ []) }
+        ensures err { OnErr result (self.new ≡ self.old) }
+    {
+        self.items.push(entry)?;
+        Ok(())
+    }
+
+    /// Adds `count` zeros at the end; without memory some may have been added.
+    #[tactic(auto, using(crate::proofs::VectorLaws::pushing))]
+    pub fn push_zeros(&mut self, count: usize) -> Result<(), NoMemory>
+        ensures { OnOk result (self.new ≡ self.old ++ zeros count) }
+    {
+        for _added in 0..count {
+            self.push(0)?;
+        }
+        Ok(())
+    }
+
+    /// Adds at the end the linear combination, by the coefficients, of rows of `columns` entries
+    /// that are given one after another; without memory some entries may have been added.
+    pub(crate) fn push_combination<F: Scalars>(
+        &mut self,
+        f: &F,
+        columns: usize,
+        coefficients: &[u8],
+        rows: &[u8],
+    ) -> Result<(), NoMemory>
+        requires full { length rows.now ≡ length coefficients.now * columns }
+        requires coefficient_scalars { AllScalars (F.ops f.now) coefficients.now }
+        requires row_scalars { AllScalars (F.ops f.now) rows.now }
+        ensures { OnOk result (self.new ≡ self.old ++
+            combination (F.ops f.now) columns coefficients.now (cut (length coefficients.now) columns rows.now)) }
+    {
+        let start = self.len();
+        self.push_zeros(columns)?;
+        let all = self.items.as_mut_slice();
+        add_combination(f, &mut all[start..], coefficients, rows);
+        Ok(())
     }
 }

@@ -1,10 +1,24 @@
 //! Scalars of a finite field, vectors and small matrices over them, and vectors that solve.
 #![tactic(auto)]
 
+mod block;
+#[cfg(test)]
+mod block_tests;
+mod combining;
 mod entries;
 mod listed;
+mod operations;
+mod rows;
 mod scalars;
+mod solving;
+#[cfg(test)]
+mod solving_tests;
+mod two;
 
+pub use block::Block;
 pub use entries::Entries;
 pub use listed::Listed;
-pub use scalars::Scalars;
+pub use operations::{apply, minus, product, sum};
+pub use rows::{add_scaled, dot_product, first_nonzero, scale, zeros};
+pub use scalars::{Scalars, all_scalars};
+pub use solving::{Solution, solve};

@@ -1,5 +1,6 @@
-ghost use Rattle.std.specs.Prelude.{◌≡◌, ◌≢◌, ◌<◌};
+ghost use Rattle.std.specs.Prelude.{◌≡◌, ◌≢◌, ◌<◌, ◌↔◌, IsTrue};
 ghost use Rattle.dense_blocks.specs.Field.{Ops, IsField};
+ghost use Rattle.dense_blocks.specs.Vectors.{AllScalars};
 
 /// A finite field, whose scalars are the numbers below its order; 0 and 1 are neutral.
 ///
@@ -37,4 +38,12 @@ pub trait Scalars: Copy {
 
     /// The operations are those of a field.
     ghost is_field: { (f : Self) → IsField (ops f) };
+}
+
+/// Whether each entry is a scalar of the field.
+pub fn all_scalars<F: Scalars>(f: &F, entries: &[u8]) -> bool
+    ensures { IsTrue result ↔ AllScalars (F.ops f.now) entries.now }
+{
+    let order = f.order();
+    entries.iter().all(|entry| u32::from(*entry) < order)
 }

@@ -1,0 +1,2 @@
+pub mod CoboundaryLaws
+pub mod StalklessLaws

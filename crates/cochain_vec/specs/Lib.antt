@@ -1,0 +1,3 @@
+pub mod Complexes
+pub mod Cohomology
+pub mod Stalkless

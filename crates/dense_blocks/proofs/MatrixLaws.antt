@@ -1,0 +1,355 @@
+-- Laws of matrices as lists of rows: shapes, the commutative group, matrices applied to vectors, products.
+-- A law is named by its left side, the outermost word first.
+use Rattle.std.proofs.Common.{◌≡◌, ℕ, zero, suc, ◌<◌, List, [], ◌∷◌, ◌++◌, map, get_or, refl, sym, ap, ap₂, ◌∙◌, arith}
+use Rattle.dense_blocks.specs.Field.{Ops, IsField}
+use Rattle.dense_blocks.specs.Vectors.{zeros, plus, negative, scaled, dot, combination}
+use Rattle.dense_blocks.specs.Matrices.{applied, product, identity, zero_matrix, matrix_sum, matrix_negative, IsInverse}
+use Rattle.dense_blocks.proofs.ScalarLaws.{zero_below, one_below, zero_add, mul_zero, zero_mul, one_mul}
+use Rattle.dense_blocks.proofs.Shapes.{Vector, Matrix, to_matrix}
+use Rattle.dense_blocks.proofs.VectorLaws.{zeros-vector, plus-vector, negative-vector, scaled-vector, combination-vector, plus-assoc, plus-comm, plus-cross, zeros-plus, plus-zeros, zeros-plus-zeros, negative-plus, negative-of-plus, negative-zeros, negative-negative, scaled-plus, scaled-negative, scaled-zeros, scaled-zero, scaled-one, dot-below, dot-plus, plus-dot, dot-scaled, dot-negative, negative-dot, dot-zeros, zeros-dot, vector-ext, combination-plus, combination-negative, combination-zeros, combination-combination, combination-dot}
+
+-- lists of rows, of whatever shape
+pub applied-append : (K : Ops) (A B : List (List ℕ)) (v : List ℕ) → applied K (A ++ B) v ≡ applied K A v ++ applied K B v
+applied-append K [] B v = refl
+applied-append K (r ∷ A) B v = ap (λ t. dot K r v ∷ t) (applied-append K A B v)
+
+pub product-append : (K : Ops) (n : ℕ) (A B C : List (List ℕ)) → product K n (A ++ B) C ≡ product K n A C ++ product K n B C
+product-append K n [] B C = refl
+product-append K n (r ∷ A) B C = ap (λ t. combination K n r C ∷ t) (product-append K n A B C)
+
+-- the row at i of a product
+pub product-row : (K : Ops) (l m n i : ℕ) (A B : List (List ℕ)) → Matrix K l m A → i < l
+    → get_or (product K n A B) i [] ≡ combination K n (get_or A i []) B
+product-row K zero m n i A B h w = absurd (omega arith)
+product-row K (suc l) m n i [] B h w = absurd h
+product-row K (suc l) m n zero (r ∷ A) B h w = refl
+product-row K (suc l) m n (suc i) (r ∷ A) B h w = product-row K l m n i A B h.1 (omega arith)
+
+-- the row at i of a sum
+pub matrix_sum-row : (K : Ops) (m n i : ℕ) (A B : List (List ℕ)) → Matrix K m n A → Matrix K m n B → i < m
+    → get_or (matrix_sum K A B) i [] ≡ plus K (get_or A i []) (get_or B i [])
+matrix_sum-row K zero n i A B ha hb w = absurd (omega arith)
+matrix_sum-row K (suc m) n i [] B ha hb w = absurd ha
+matrix_sum-row K (suc m) n i (a ∷ A) [] ha hb w = absurd hb
+matrix_sum-row K (suc m) n zero (a ∷ A) (b ∷ B) ha hb w = refl
+matrix_sum-row K (suc m) n (suc i) (a ∷ A) (b ∷ B) ha hb w = matrix_sum-row K m n i A B ha.1 hb.1 (omega arith)
+
+-- a matrix without columns, and one without rows
+pub no-columns : (K : Ops) (m : ℕ) (A : List (List ℕ)) → Matrix K m 0 A → A ≡ zero_matrix m 0
+no-columns K zero [] h = refl
+no-columns K zero (r ∷ A) h = absurd h
+no-columns K (suc m) [] h = absurd h
+no-columns K (suc m) ([] ∷ A) h = ap (λ t. [] ∷ t) (no-columns K m A h.1)
+no-columns K (suc m) ((a ∷ r) ∷ A) h = absurd h.0
+
+pub no-rows : (K : Ops) (n : ℕ) (A : List (List ℕ)) → Matrix K 0 n A → A ≡ []
+no-rows K n [] h = refl
+no-rows K n (r ∷ A) h = absurd h
+
+module _ (K : Ops) (F : IsField K) where
+  -- shapes
+  pub zero_matrix-matrix : (m n : ℕ) → Matrix K m n (zero_matrix m n)
+  zero_matrix-matrix zero n = tt
+  zero_matrix-matrix (suc m) n = (zeros-vector K F n, zero_matrix-matrix m n)
+
+  shifted-matrix : (m n : ℕ) (A : List (List ℕ)) → Matrix K m n A → Matrix K m (suc n) (map (λ row. 0 ∷ row) A)
+  shifted-matrix zero n [] h = tt
+  shifted-matrix zero n (r ∷ A) h = absurd h
+  shifted-matrix (suc m) n [] h = absurd h
+  shifted-matrix (suc m) n (r ∷ A) h = ((zero_below K F, h.0), shifted-matrix m n A h.1)
+
+  pub identity-matrix : (n : ℕ) → Matrix K n n (identity n)
+  identity-matrix zero = tt
+  identity-matrix (suc n) = ((one_below K F, zeros-vector K F n), shifted-matrix n n (identity n) (identity-matrix n))
+
+  pub matrix_sum-matrix : (m n : ℕ) (A B : List (List ℕ)) → Matrix K m n A → Matrix K m n B → Matrix K m n (matrix_sum K A B)
+  matrix_sum-matrix zero n [] B ha hb = tt
+  matrix_sum-matrix zero n (a ∷ A) B ha hb = absurd ha
+  matrix_sum-matrix (suc m) n [] B ha hb = absurd ha
+  matrix_sum-matrix (suc m) n (a ∷ A) [] ha hb = absurd hb
+  matrix_sum-matrix (suc m) n (a ∷ A) (b ∷ B) ha hb = (plus-vector K F n a b ha.0 hb.0, matrix_sum-matrix m n A B ha.1 hb.1)
+
+  pub matrix_negative-matrix : (m n : ℕ) (A : List (List ℕ)) → Matrix K m n A → Matrix K m n (matrix_negative K A)
+  matrix_negative-matrix zero n [] h = tt
+  matrix_negative-matrix zero n (r ∷ A) h = absurd h
+  matrix_negative-matrix (suc m) n [] h = absurd h
+  matrix_negative-matrix (suc m) n (r ∷ A) h = (negative-vector K F n r h.0, matrix_negative-matrix m n A h.1)
+
+  pub product-matrix : (l m n : ℕ) (A B : List (List ℕ)) → Matrix K l m A → Matrix K m n B → Matrix K l n (product K n A B)
+  product-matrix zero m n [] B ha hb = tt
+  product-matrix zero m n (r ∷ A) B ha hb = absurd ha
+  product-matrix (suc l) m n [] B ha hb = absurd ha
+  product-matrix (suc l) m n (r ∷ A) B ha hb = (combination-vector K F m n r B hb, product-matrix l m n A B ha.1 hb)
+
+  pub applied-vector : (m n : ℕ) (A : List (List ℕ)) (v : List ℕ) → Matrix K m n A → Vector K m (applied K A v)
+  applied-vector zero n [] v h = tt
+  applied-vector zero n (r ∷ A) v h = absurd h
+  applied-vector (suc m) n [] v h = absurd h
+  applied-vector (suc m) n (r ∷ A) v h = (dot-below K F r v, applied-vector m n A v h.1)
+
+  -- the commutative group of matrices
+  pub matrix_sum-assoc : (A B C : List (List ℕ)) → matrix_sum K (matrix_sum K A B) C ≡ matrix_sum K A (matrix_sum K B C)
+  matrix_sum-assoc [] B C = refl
+  matrix_sum-assoc (a ∷ A) [] C = refl
+  matrix_sum-assoc (a ∷ A) (b ∷ B) [] = refl
+  matrix_sum-assoc (a ∷ A) (b ∷ B) (c ∷ C) = ap₂ ◌∷◌ (plus-assoc K F a b c) (matrix_sum-assoc A B C)
+
+  pub matrix_sum-comm : (A B : List (List ℕ)) → matrix_sum K A B ≡ matrix_sum K B A
+  matrix_sum-comm [] [] = refl
+  matrix_sum-comm [] (b ∷ B) = refl
+  matrix_sum-comm (a ∷ A) [] = refl
+  matrix_sum-comm (a ∷ A) (b ∷ B) = ap₂ ◌∷◌ (plus-comm K F a b) (matrix_sum-comm A B)
+
+  pub zero_matrix-sum : (m n : ℕ) (A : List (List ℕ)) → Matrix K m n A → matrix_sum K (zero_matrix m n) A ≡ A
+  zero_matrix-sum zero n [] h = refl
+  zero_matrix-sum zero n (r ∷ A) h = absurd h
+  zero_matrix-sum (suc m) n [] h = absurd h
+  zero_matrix-sum (suc m) n (r ∷ A) h = ap₂ ◌∷◌ (zeros-plus K F n r h.0) (zero_matrix-sum m n A h.1)
+
+  pub matrix_sum-zero_matrix : (m n : ℕ) (A : List (List ℕ)) → Matrix K m n A → matrix_sum K A (zero_matrix m n) ≡ A
+  matrix_sum-zero_matrix m n A h = matrix_sum-comm A (zero_matrix m n) ∙ zero_matrix-sum m n A h
+
+  pub matrix_negative-sum : (m n : ℕ) (A : List (List ℕ)) → Matrix K m n A → matrix_sum K (matrix_negative K A) A ≡ zero_matrix m n
+  matrix_negative-sum zero n [] h = refl
+  matrix_negative-sum zero n (r ∷ A) h = absurd h
+  matrix_negative-sum (suc m) n [] h = absurd h
+  matrix_negative-sum (suc m) n (r ∷ A) h = ap₂ ◌∷◌ (negative-plus K F n r h.0) (matrix_negative-sum m n A h.1)
+
+  pub matrix_sum-negative : (m n : ℕ) (A : List (List ℕ)) → Matrix K m n A → matrix_sum K A (matrix_negative K A) ≡ zero_matrix m n
+  matrix_sum-negative m n A h = matrix_sum-comm A (matrix_negative K A) ∙ matrix_negative-sum m n A h
+
+  pub matrix_negative-of-sum : (A B : List (List ℕ)) → matrix_negative K (matrix_sum K A B) ≡ matrix_sum K (matrix_negative K A) (matrix_negative K B)
+  matrix_negative-of-sum [] B = refl
+  matrix_negative-of-sum (a ∷ A) [] = refl
+  matrix_negative-of-sum (a ∷ A) (b ∷ B) = ap₂ ◌∷◌ (negative-of-plus K F a b) (matrix_negative-of-sum A B)
+
+  pub matrix_negative-negative : (m n : ℕ) (A : List (List ℕ)) → Matrix K m n A → matrix_negative K (matrix_negative K A) ≡ A
+  matrix_negative-negative zero n [] h = refl
+  matrix_negative-negative zero n (r ∷ A) h = absurd h
+  matrix_negative-negative (suc m) n [] h = absurd h
+  matrix_negative-negative (suc m) n (r ∷ A) h = ap₂ ◌∷◌ (negative-negative K F n r h.0) (matrix_negative-negative m n A h.1)
+
+  pub matrix_negative-zero_matrix : (m n : ℕ) → matrix_negative K (zero_matrix m n) ≡ zero_matrix m n
+  matrix_negative-zero_matrix zero n = refl
+  matrix_negative-zero_matrix (suc m) n = ap₂ ◌∷◌ (negative-zeros K F n) (matrix_negative-zero_matrix m n)
+
+  -- a matrix applied is linear in the vector
+  pub applied-plus : (n : ℕ) (A : List (List ℕ)) (u v : List ℕ) → Vector K n u → Vector K n v
+      → applied K A (plus K u v) ≡ plus K (applied K A u) (applied K A v)
+  applied-plus n [] u v hu hv = refl
+  applied-plus n (r ∷ A) u v hu hv = ap₂ ◌∷◌ (dot-plus K F n r u v hu hv) (applied-plus n A u v hu hv)
+
+  pub applied-scaled : (k : ℕ) (A : List (List ℕ)) (v : List ℕ) → applied K A (scaled K k v) ≡ scaled K k (applied K A v)
+  applied-scaled k [] v = refl
+  applied-scaled k (r ∷ A) v = ap₂ ◌∷◌ (dot-scaled K F k r v) (applied-scaled k A v)
+
+  pub applied-negative : (A : List (List ℕ)) (v : List ℕ) → applied K A (negative K v) ≡ negative K (applied K A v)
+  applied-negative [] v = refl
+  applied-negative (r ∷ A) v = ap₂ ◌∷◌ (dot-negative K F r v) (applied-negative A v)
+
+  pub applied-zeros : (k m n : ℕ) (A : List (List ℕ)) → Matrix K m n A → applied K A (zeros k) ≡ zeros m
+  applied-zeros k zero n [] h = refl
+  applied-zeros k zero n (r ∷ A) h = absurd h
+  applied-zeros k (suc m) n [] h = absurd h
+  applied-zeros k (suc m) n (r ∷ A) h = ap₂ ◌∷◌ (dot-zeros K F k r) (applied-zeros k m n A h.1)
+
+  pub applied-nil : (m n : ℕ) (A : List (List ℕ)) → Matrix K m n A → applied K A [] ≡ zeros m
+  applied-nil m n A h = applied-zeros 0 m n A h
+
+  -- a matrix carries a combination to the combination of what it gives
+  pub applied-combination : (l m n : ℕ) (A : List (List ℕ)) (cs : List ℕ) (vs : List (List ℕ)) → Matrix K m n A → Matrix K l n vs
+      → applied K A (combination K n cs vs) ≡ combination K m cs (map (applied K A) vs)
+  applied-combination l m n A [] vs h hv = applied-zeros n m n A h
+  applied-combination l m n A (c ∷ cs) [] h hv = applied-zeros n m n A h
+  applied-combination zero m n A (c ∷ cs) (v ∷ vs) h hv = absurd hv
+  applied-combination (suc l) m n A (c ∷ cs) (v ∷ vs) h hv =
+      applied-plus n A (scaled K c v) (combination K n cs vs) (scaled-vector K F n c v hv.0) (combination-vector K F l n cs vs hv.1)
+      ∙ ap₂ (plus K) (applied-scaled c A v) (applied-combination l m n A cs vs h hv.1)
+
+  -- and in the matrix
+  pub matrix_sum-applied : (m n : ℕ) (A B : List (List ℕ)) (v : List ℕ) → Matrix K m n A → Matrix K m n B
+      → applied K (matrix_sum K A B) v ≡ plus K (applied K A v) (applied K B v)
+  matrix_sum-applied m n [] B v ha hb = refl
+  matrix_sum-applied zero n (a ∷ A) B v ha hb = absurd ha
+  matrix_sum-applied (suc m) n (a ∷ A) [] v ha hb = absurd hb
+  matrix_sum-applied (suc m) n (a ∷ A) (b ∷ B) v ha hb = ap₂ ◌∷◌ (plus-dot K F n a b v ha.0 hb.0) (matrix_sum-applied m n A B v ha.1 hb.1)
+
+  pub matrix_negative-applied : (A : List (List ℕ)) (v : List ℕ) → applied K (matrix_negative K A) v ≡ negative K (applied K A v)
+  matrix_negative-applied [] v = refl
+  matrix_negative-applied (r ∷ A) v = ap₂ ◌∷◌ (negative-dot K F r v) (matrix_negative-applied A v)
+
+  pub zero_matrix-applied : (m n : ℕ) (v : List ℕ) → applied K (zero_matrix m n) v ≡ zeros m
+  zero_matrix-applied zero n v = refl
+  zero_matrix-applied (suc m) n v = ap₂ ◌∷◌ (zeros-dot K F n v) (zero_matrix-applied m n v)
+
+  shifted-applied : (A : List (List ℕ)) (a : ℕ) (v : List ℕ) → applied K (map (λ row. 0 ∷ row) A) (a ∷ v) ≡ applied K A v
+  shifted-applied [] a v = refl
+  shifted-applied (r ∷ A) a v =
+      ap₂ ◌∷◌ (ap (λ t. K.add t (dot K r v)) (zero_mul K F a) ∙ zero_add K F (dot K r v) (dot-below K F r v)) (shifted-applied A a v)
+
+  pub identity-applied : (n : ℕ) (v : List ℕ) → Vector K n v → applied K (identity n) v ≡ v
+  identity-applied zero [] h = refl
+  identity-applied zero (a ∷ v) h = absurd h
+  identity-applied (suc n) [] h = absurd h
+  identity-applied (suc n) (a ∷ v) h =
+      ap₂ ◌∷◌ (ap₂ K.add (one_mul K F a h.0) (zeros-dot K F n v) ∙ F.add_zero a h.0)
+      (shifted-applied (identity n) a v ∙ identity-applied n v h.1)
+
+  -- a product acts as one factor after the other
+  pub product-applied : (m n : ℕ) (A B : List (List ℕ)) (v : List ℕ) → Matrix K m n B
+      → applied K (product K n A B) v ≡ applied K A (applied K B v)
+  product-applied m n [] B v h = refl
+  product-applied m n (r ∷ A) B v h = ap₂ ◌∷◌ (combination-dot K F m n r B v h) (product-applied m n A B v h)
+
+  -- matrices that act alike are one
+  pub matrix-ext : (m n : ℕ) (A B : List (List ℕ)) → Matrix K m n A → Matrix K m n B
+      → ((v : List ℕ) → Vector K n v → applied K A v ≡ applied K B v) → A ≡ B
+  matrix-ext zero n [] [] ha hb e = refl
+  matrix-ext zero n [] (s ∷ B) ha hb e = absurd hb
+  matrix-ext zero n (r ∷ A) B ha hb e = absurd ha
+  matrix-ext (suc m) n [] B ha hb e = absurd ha
+  matrix-ext (suc m) n (r ∷ A) [] ha hb e = absurd hb
+  matrix-ext (suc m) n (r ∷ A) (s ∷ B) ha hb e =
+      ap₂ ◌∷◌
+      (vector-ext K F n r s ha.0 hb.0 (λ v h. first (dot K r v) (dot K s v) (applied K A v) (applied K B v) (e v h)))
+      (matrix-ext m n A B ha.1 hb.1 (λ v h. rest (dot K r v) (dot K s v) (applied K A v) (applied K B v) (e v h)))
+    where
+      first : (a b : ℕ) (u v : List ℕ) → ◌≡◌ {A = List ℕ} (a ∷ u) (b ∷ v) → a ≡ b
+      first a b u v e = cc
+
+      rest : (a b : ℕ) (u v : List ℕ) → ◌≡◌ {A = List ℕ} (a ∷ u) (b ∷ v) → u ≡ v
+      rest a b u v e = cc
+
+  -- a combination is linear in the vectors that it combines
+  pub combination-matrix_sum : (m n : ℕ) (cs : List ℕ) (A B : List (List ℕ)) → Matrix K m n A → Matrix K m n B
+      → combination K n cs (matrix_sum K A B) ≡ plus K (combination K n cs A) (combination K n cs B)
+  combination-matrix_sum m n [] A B ha hb = sym (zeros-plus-zeros K F n)
+  combination-matrix_sum zero n (c ∷ cs) [] [] ha hb = sym (zeros-plus-zeros K F n)
+  combination-matrix_sum zero n (c ∷ cs) [] (b ∷ B) ha hb = absurd hb
+  combination-matrix_sum zero n (c ∷ cs) (a ∷ A) B ha hb = absurd ha
+  combination-matrix_sum (suc m) n (c ∷ cs) [] B ha hb = absurd ha
+  combination-matrix_sum (suc m) n (c ∷ cs) (a ∷ A) [] ha hb = absurd hb
+  combination-matrix_sum (suc m) n (c ∷ cs) (a ∷ A) (b ∷ B) ha hb =
+      ap₂ (plus K) (scaled-plus K F c a b) (combination-matrix_sum m n cs A B ha.1 hb.1)
+      ∙ plus-cross K F (scaled K c a) (scaled K c b) (combination K n cs A) (combination K n cs B)
+
+  pub combination-matrix_negative : (n : ℕ) (cs : List ℕ) (A : List (List ℕ))
+      → combination K n cs (matrix_negative K A) ≡ negative K (combination K n cs A)
+  combination-matrix_negative n [] A = sym (negative-zeros K F n)
+  combination-matrix_negative n (c ∷ cs) [] = sym (negative-zeros K F n)
+  combination-matrix_negative n (c ∷ cs) (a ∷ A) =
+      ap₂ (plus K) (scaled-negative K F c a) (combination-matrix_negative n cs A)
+      ∙ sym (negative-of-plus K F (scaled K c a) (combination K n cs A))
+
+  pub combination-zero_matrix : (m n : ℕ) (cs : List ℕ) → combination K n cs (zero_matrix m n) ≡ zeros n
+  combination-zero_matrix m n [] = refl
+  combination-zero_matrix zero n (c ∷ cs) = refl
+  combination-zero_matrix (suc m) n (c ∷ cs) =
+      ap₂ (plus K) (scaled-zeros K F c n) (combination-zero_matrix m n cs) ∙ zeros-plus-zeros K F n
+
+  combination-shifted : (n : ℕ) (cs : List ℕ) (A : List (List ℕ)) → combination K (suc n) cs (map (λ row. 0 ∷ row) A) ≡ 0 ∷ combination K n cs A
+  combination-shifted n [] A = refl
+  combination-shifted n (c ∷ cs) [] = refl
+  combination-shifted n (c ∷ cs) (a ∷ A) =
+      ap (plus K (K.mul c 0 ∷ scaled K c a)) (combination-shifted n cs A)
+      ∙ ap (λ t. t ∷ plus K (scaled K c a) (combination K n cs A)) (ap (λ t. K.add t 0) (mul_zero K F c) ∙ F.add_zero 0 (zero_below K F))
+
+  -- a vector is the combination of the unit vectors by its coordinates
+  pub combination-identity : (n : ℕ) (v : List ℕ) → Vector K n v → combination K n v (identity n) ≡ v
+  combination-identity zero [] h = refl
+  combination-identity zero (a ∷ v) h = absurd h
+  combination-identity (suc n) [] h = absurd h
+  combination-identity (suc n) (a ∷ v) h =
+      ap (plus K (K.mul a 1 ∷ scaled K a (zeros n))) (combination-shifted n v (identity n))
+      ∙ ap₂ ◌∷◌ (ap (λ t. K.add t 0) (F.mul_one a h.0) ∙ F.add_zero a h.0)
+      (ap₂ (plus K) (scaled-zeros K F a n) (combination-identity n v h.1) ∙ zeros-plus K F n v h.1)
+
+  -- products: associative, with the identity on both sides
+  pub product-assoc : (k l m n : ℕ) (A B C : List (List ℕ)) → Matrix K k l A → Matrix K l m B → Matrix K m n C
+      → product K n (product K m A B) C ≡ product K n A (product K n B C)
+  product-assoc k l m n [] B C ha hb hc = refl
+  product-assoc zero l m n (r ∷ A) B C ha hb hc = absurd ha
+  product-assoc (suc k) l m n (r ∷ A) B C ha hb hc =
+      ap₂ ◌∷◌ (combination-combination K F l m n r B C hb hc) (product-assoc k l m n A B C ha.1 hb hc)
+
+  pub product-identity : (m n : ℕ) (A : List (List ℕ)) → Matrix K m n A → product K n A (identity n) ≡ A
+  product-identity zero n [] h = refl
+  product-identity zero n (r ∷ A) h = absurd h
+  product-identity (suc m) n [] h = absurd h
+  product-identity (suc m) n (r ∷ A) h = ap₂ ◌∷◌ (combination-identity n r h.0) (product-identity m n A h.1)
+
+  shifted-product : (m n : ℕ) (A : List (List ℕ)) (b : List ℕ) (B : List (List ℕ)) → Vector K n b → Matrix K m n B
+      → product K n (map (λ row. 0 ∷ row) A) (b ∷ B) ≡ product K n A B
+  shifted-product m n [] b B h hb = refl
+  shifted-product m n (r ∷ A) b B h hb =
+      ap₂ ◌∷◌
+      (ap (λ t. plus K t (combination K n r B)) (scaled-zero K F n b h) ∙ zeros-plus K F n (combination K n r B) (combination-vector K F m n r B hb))
+      (shifted-product m n A b B h hb)
+
+  pub identity-product : (m n : ℕ) (A : List (List ℕ)) → Matrix K m n A → product K n (identity m) A ≡ A
+  identity-product zero n [] h = refl
+  identity-product zero n (r ∷ A) h = absurd h
+  identity-product (suc m) n [] h = absurd h
+  identity-product (suc m) n (r ∷ A) h =
+      ap₂ ◌∷◌
+      (ap₂ (plus K) (scaled-one K F n r h.0) (combination-zeros K F m m n A h.1) ∙ plus-zeros K F n r h.0)
+      (shifted-product m n (identity m) r A h.0 h.1 ∙ identity-product m n A h.1)
+
+  -- the coefficients of a unit vector pick a row
+  pub combination-unit_row : (m n i : ℕ) (A : List (List ℕ)) → Matrix K m n A → i < m
+      → combination K n (get_or (identity m) i []) A ≡ get_or A i []
+  combination-unit_row m n i A h l =
+      sym (product-row K m m n i (identity m) A (identity-matrix m) l) ∙ ap (λ t. get_or t i []) (identity-product m n A h)
+
+  -- zero factors
+  pub product-zero_matrix : (l m n : ℕ) (A : List (List ℕ)) → Matrix K l m A → product K n A (zero_matrix m n) ≡ zero_matrix l n
+  product-zero_matrix zero m n [] h = refl
+  product-zero_matrix zero m n (r ∷ A) h = absurd h
+  product-zero_matrix (suc l) m n [] h = absurd h
+  product-zero_matrix (suc l) m n (r ∷ A) h = ap₂ ◌∷◌ (combination-zero_matrix m n r) (product-zero_matrix l m n A h.1)
+
+  pub zero_matrix-product : (l m n : ℕ) (B : List (List ℕ)) → Matrix K m n B → product K n (zero_matrix l m) B ≡ zero_matrix l n
+  zero_matrix-product zero m n B h = refl
+  zero_matrix-product (suc l) m n B h = ap₂ ◌∷◌ (combination-zeros K F m m n B h) (zero_matrix-product l m n B h)
+
+  -- sums of factors
+  pub product-matrix_sum : (m n : ℕ) (A B C : List (List ℕ)) → Matrix K m n B → Matrix K m n C
+      → product K n A (matrix_sum K B C) ≡ matrix_sum K (product K n A B) (product K n A C)
+  product-matrix_sum m n [] B C hb hc = refl
+  product-matrix_sum m n (r ∷ A) B C hb hc = ap₂ ◌∷◌ (combination-matrix_sum m n r B C hb hc) (product-matrix_sum m n A B C hb hc)
+
+  pub matrix_sum-product : (l m n : ℕ) (A B C : List (List ℕ)) → Matrix K l m A → Matrix K l m B
+      → product K n (matrix_sum K A B) C ≡ matrix_sum K (product K n A C) (product K n B C)
+  matrix_sum-product l m n [] B C ha hb = refl
+  matrix_sum-product zero m n (a ∷ A) B C ha hb = absurd ha
+  matrix_sum-product (suc l) m n (a ∷ A) [] C ha hb = absurd hb
+  matrix_sum-product (suc l) m n (a ∷ A) (b ∷ B) C ha hb =
+      ap₂ ◌∷◌ (combination-plus K F m n a b C ha.0 hb.0) (matrix_sum-product l m n A B C ha.1 hb.1)
+
+  -- signs come out of a product
+  pub product-matrix_negative : (n : ℕ) (A B : List (List ℕ)) → product K n A (matrix_negative K B) ≡ matrix_negative K (product K n A B)
+  product-matrix_negative n [] B = refl
+  product-matrix_negative n (r ∷ A) B = ap₂ ◌∷◌ (combination-matrix_negative n r B) (product-matrix_negative n A B)
+
+  pub matrix_negative-product : (n : ℕ) (A B : List (List ℕ)) → product K n (matrix_negative K A) B ≡ matrix_negative K (product K n A B)
+  matrix_negative-product n [] B = refl
+  matrix_negative-product n (r ∷ A) B = ap₂ ◌∷◌ (combination-negative K F n r B) (matrix_negative-product n A B)
+
+  -- a left and a right inverse of one matrix are the same
+  pub left-inverse-right : (n : ℕ) (A B C : List (List ℕ)) → Matrix K n n A → Matrix K n n B → Matrix K n n C
+      → product K n B A ≡ identity n → product K n A C ≡ identity n → B ≡ C
+  left-inverse-right n A B C ha hb hc l r =
+      sym (product-identity n n B hb) ∙ ap (product K n B) (sym r) ∙ sym (product-assoc n n n n B A C hb ha hc)
+      ∙ ap (λ t. product K n t C) l ∙ identity-product n n C hc
+
+  pub inverse-unique : (n : ℕ) (A B C : List (List ℕ)) → Matrix K n n A → IsInverse K n A B → IsInverse K n A C → B ≡ C
+  inverse-unique n A B C ha hb hc =
+      left-inverse-right n A B C ha (to_matrix K n n B hb.shape) (to_matrix K n n C hc.shape) hb.left hc.right
+
+  pub inverse-applied : (n : ℕ) (A B : List (List ℕ)) (v : List ℕ) → Matrix K n n A → IsInverse K n A B → Vector K n v
+      → applied K B (applied K A v) ≡ v
+  inverse-applied n A B v ha h hv = sym (product-applied n n B A v ha) ∙ ap (λ t. applied K t v) h.left ∙ identity-applied n v hv
+
+  pub applied-inverse : (n : ℕ) (A B : List (List ℕ)) (v : List ℕ) → IsInverse K n A B → Vector K n v
+      → applied K A (applied K B v) ≡ v
+  applied-inverse n A B v h hv = sym (product-applied n n A B v (to_matrix K n n B h.shape)) ∙ ap (λ t. applied K t v) h.right ∙ identity-applied n v hv

@@ -1,0 +1,37 @@
+use Rattle.std.proofs.Common.{◌∙◌, sym, subst, ap}
+use Rattle.dense_blocks.specs.Vectors.{AllScalars, IsVector}
+use Rattle.dense_blocks.specs.Matrices.{applied}
+use Rattle.dense_blocks.specs.Blocks.{matrix_of}
+use Rattle.dense_blocks.proofs.Shapes.{from_vector}
+use Rattle.dense_blocks.proofs.VectorLaws.{zeros-vector}
+use Rattle.dense_blocks.proofs.Cutting.{cut-size}
+use Rattle.cochain_vec.proofs.CoboundaryLaws.{applied-rows}
+use Rattle.plain_bases.proofs.PartLaws.{value_scalars, applied-nothing}
+use Rattle.plain_bases.proofs.coboundary.arriving.Goals as goal
+
+pub apply-requires-clause-v_scalars : goal.apply-requires-clause-v_scalars
+apply-requires-clause-v_scalars g c =
+    let K = g.F.Scalars.ops c.args.f.now in
+    subst (AllScalars K) (sym c.in-Some.ensures.found)
+    (value_scalars K (g.met.F.Scalars.is_field c.args.f.now) c.args.source.now c.args.z.now c.args.arrow.now.from c.requires.size c.requires.z_scalars)
+
+pub returns-in_ok-apply-in-Some-clause-vector : goal.returns-in_ok-apply-in-Some-clause-vector
+returns-in_ok-apply-in-Some-clause-vector g c =
+    let K = g.F.Scalars.ops c.args.f.now in
+    let block = c.args.arrow.now.block in
+    let rows = cut-size block.rows block.cols block.entries in
+    subst (IsVector K block.rows) (sym c.in_ok-apply-in-Some.ensures.image)
+    (from_vector K block.rows (applied K (matrix_of block) c.in-Some.value.now) (applied-rows K (g.met.F.Scalars.is_field c.args.f.now) block.rows (matrix_of block) c.in-Some.value.now rows))
+
+pub returns-in_ok-zeros-in-None-clause-image : goal.returns-in_ok-zeros-in-None-clause-image
+returns-in_ok-zeros-in-None-clause-image g c =
+    let K = g.F.Scalars.ops c.args.f.now in
+    let block = c.args.arrow.now.block in
+    c.in_ok-zeros-in-None.ensures.items ∙ sym (applied-nothing K block.rows (matrix_of block) (cut-size block.rows block.cols block.entries))
+    ∙ ap (applied K (matrix_of block)) (sym c.in-None.ensures.absent)
+
+pub returns-in_ok-zeros-in-None-clause-vector : goal.returns-in_ok-zeros-in-None-clause-vector
+returns-in_ok-zeros-in-None-clause-vector g c =
+    let K = g.F.Scalars.ops c.args.f.now in
+    let rows = c.args.arrow.now.block.rows in
+    subst (IsVector K rows) (sym c.in_ok-zeros-in-None.ensures.items) (from_vector K rows _ (zeros-vector K (g.met.F.Scalars.is_field c.args.f.now) rows))

@@ -1,0 +1,5 @@
+pub mod Relations
+pub mod Complements
+pub mod Columns
+pub mod View
+pub mod Parts
