@@ -1,7 +1,7 @@
 -- The number of degrees, cell by cell.
 use Rattle.std.proofs.Common.{◌≡◌, ℕ, zero, suc, ◌+◌, ◌<◌, List, [], ◌∷◌, length, take, get_or, max, ap, ◌∙◌, arith, add-one}
 use Rattle.sheaf_text.specs.declared.input.Cell.{Cell}
-use Rattle.sheaf_run.specs.Answers.{degree_count}
+use Rattle.sheaf_run.specs.Sheaves.{degree_count}
 
 count_next : (cs : List Cell) (i : ℕ) (d : Cell) → i < length cs → degree_count (take (suc i) cs) ≡ max (degree_count (take i cs)) ((get_or cs i d).dimension + 1)
 count_next [] i d h = absurd (omega arith)

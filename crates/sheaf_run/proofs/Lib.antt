@@ -1,2 +1,3 @@
 pub mod Degrees
 pub mod RunLaws
+pub mod SheafLaws

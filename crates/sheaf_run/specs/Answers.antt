@@ -1,11 +1,11 @@
 -- What the words and the bytes of the input are answered.
-use Rattle.std.specs.Prelude.{◌≡◌, ◌⊎◌, ℕ, ◌+◌, max, List, [], ◌∷◌, ◌++◌, length, Option, Some, None, codes, decimal, if◌then◌else◌}
+use Rattle.std.specs.Prelude.{◌≡◌, ◌⊎◌, ℕ, List, [], ◌∷◌, ◌++◌, Option, Some, None, codes, decimal, if◌then◌else◌}
 use Rattle.std.specs.List.{flat_map}
 use Rattle.std.specs.Str.{bytes_eq}
-use Rattle.sheaf_text.specs.declared.input.Cell.{Cell}
 use Rattle.sheaf_text.specs.declared.input.Input.{Input}
 use Rattle.sheaf_text.specs.Text.{text_of}
 use Rattle.sheaf_text.specs.Small.{IsSmall, IsSmallText}
+use Rattle.sheaf_run.specs.Sheaves.{AreBetti}
 use Rattle.sheaf_run.specs.declared.job.Job.{Job}
 use Rattle.sheaf_run.specs.declared.job.Job.TheVariants.{Solve}
 use Rattle.sheaf_run.specs.declared.status.Status.{Status}
@@ -36,15 +36,6 @@ bad_words = record { status = BadWords; text = codes "bad words\n" }
 
 abbrev pub bad_input : Outcome
 bad_input = record { status = BadInput; text = codes "bad input\n" }
-
--- one more than the largest dimension of a cell, and 0 where there are no cells
-abbrev pub degree_count : List Cell → ℕ
-degree_count [] = 0
-degree_count (c ∷ cs) = max (c.dimension + 1) (degree_count cs)
-
--- one number per degree
-pub record AreBetti (input : Input) (numbers : List ℕ) : Type 0 where
-  pub one_each : length numbers ≡ degree_count input.cells
 
 -- the transcript of one client that asks once for the Betti numbers and is answered these
 abbrev pub transcript : List ℕ → List ℕ

@@ -1,3 +1,4 @@
+pub mod Sheaves
 pub mod Answers
 pub mod Replies
 pub mod Runs

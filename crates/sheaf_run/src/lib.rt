@@ -1,11 +1,13 @@
 //! The top call: words and bytes in, one line or a transcript out.
 #![tactic(auto)]
 
+mod betti;
 mod job;
 mod sending;
 mod status;
 mod top;
 mod transcript;
+mod two;
 
 pub use job::Job;
 pub use status::Status;

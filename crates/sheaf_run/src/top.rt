@@ -2,40 +2,23 @@ ghost use Rattle.std.specs.Prelude.{◌≡◌, ◌≢◌, ◌↔◌, ◌⊎◌, 
 ghost use Rattle.std.specs.Io.KnownBytes.{IsAtEnd};
 ghost use Rattle.io_edge.specs.Faults.{Rose};
 ghost use Rattle.io_edge.specs.Bytes.{TookFront, IsFlushed};
-ghost use Rattle.sheaf_text.specs.Small.{IsSmallText};
-ghost use Rattle.sheaf_run.specs.Answers.{Outcome, IsAnswer, IsSolution, AnswersBytes, Answers, AreBetti, degree_count, bad_words, bad_input, job_of};
+ghost use Rattle.sheaf_text.specs.Small.{IsSmallSheaf, IsSmallText};
+ghost use Rattle.sheaf_run.specs.Answers.{Outcome, IsAnswer, IsSolution, AnswersBytes, Answers, bad_words, bad_input, job_of};
 ghost use Rattle.sheaf_run.specs.Replies.{Replies, Sent};
 ghost use Rattle.sheaf_run.specs.Runs.{Answered, Broken, Ran, Serves};
 
+use crate::betti::betti;
 use crate::job::{Job, job_of};
 use crate::sending::send;
 use crate::status::Status;
 use crate::transcript::transcript;
 use io_edge::{ReadAll, Sink, Source, read_all};
-use sheaf_text::{Cell, Input, MOST_BYTES, TextFault, read};
+use sheaf_text::{Input, MOST_BYTES, TextFault, read};
 use std::alloc::{AllocError as NoMemory, Global};
-
-/// One number for each degree.
-fn betti(alloc: Global, input: &Input) -> Result<Vec<u32>, NoMemory>
-    ensures { IfOk result (λ numbers. AreBetti input.now numbers.items) }
-{
-    vec![in alloc; 0; degree_count(input.cells.as_slice())]
-}
-
-/// One more than the largest dimension of a cell, and 0 where there are no cells.
-#[tactic(auto, using(crate::proofs::Degrees::degree_count_next))]
-fn degree_count(cells: &[Cell]) -> usize
-    ensures { result ≡ degree_count cells.now }
-{
-    let mut count: usize = 0;
-    for cell in cells {
-        count = count.max(cell.dimension as usize + 1);
-    }
-    count
-}
 
 /// The text of the solution of an input.
 fn solution(alloc: Global, input: &Input) -> Result<Vec<u8>, NoMemory>
+    requires { IsSmallSheaf input.now }
     ensures { IfOk result (λ text. IsSolution input.now (record { status = Status.Done; text = text.items })) }
 {
     let numbers = betti(alloc, input)?;
@@ -44,6 +27,7 @@ fn solution(alloc: Global, input: &Input) -> Result<Vec<u8>, NoMemory>
 
 /// Writes the solution of an input.
 fn solve<K: Sink>(alloc: Global, input: &Input, sink: &mut K) -> Status
+    requires { IsSmallSheaf input.now }
     ensures { Replies (IsSolution input.now)
         (K.taken sink.old) (K.taken sink.new) (K.flushed sink.new) (K.fault_count sink.old) (K.fault_count sink.new) result }
 {

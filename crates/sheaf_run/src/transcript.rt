@@ -5,7 +5,7 @@ use itoa::Buffer;
 use std::alloc::{AllocError as NoMemory, Global};
 
 /// Appends a space and the number.
-fn put_number(text: &mut Vec<u8>, number: u32) -> Result<(), NoMemory>
+fn put_number(text: &mut Vec<u8>, number: usize) -> Result<(), NoMemory>
     ensures { OnOk result (text.new.items ≡ text.old.items ++ (codes " " ++ decimal number)) }
 {
     let mut buffer = Buffer::new();
@@ -15,7 +15,7 @@ fn put_number(text: &mut Vec<u8>, number: u32) -> Result<(), NoMemory>
 }
 
 /// The transcript of one client that asks once for the Betti numbers and is answered these.
-pub fn transcript(alloc: Global, numbers: &[u32]) -> Result<Vec<u8>, NoMemory>
+pub fn transcript(alloc: Global, numbers: &[usize]) -> Result<Vec<u8>, NoMemory>
     ensures { IfOk result (λ text. text.items ≡ transcript numbers.now) }
 {
     let mut text = Vec::from_slice(alloc, b"client 0\n1 v0 betti")?;

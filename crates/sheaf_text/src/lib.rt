@@ -28,4 +28,4 @@ pub use input::{Cell, Face, Input, Sign};
 pub use limits::{FIELD_ORDER, MOST_BYTES, MOST_CELLS, MOST_DIMENSION, MOST_STALK, MOST_TOTAL};
 pub use printing::print;
 pub use reading::read;
-pub use small::is_small_sheaf;
+pub use small::{is_small_sheaf, stalk_at};

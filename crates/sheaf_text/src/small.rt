@@ -29,7 +29,8 @@ fn has_dimension(cells: &[Cell], cell: u32, dimension: u32) -> bool
     }
 }
 
-fn stalk_at(cells: &[Cell], cell: u32) -> u32
+/// The dimension of the stalk of a cell, and 0 where there is no such cell.
+pub fn stalk_at(cells: &[Cell], cell: u32) -> u32
     ensures { result ≡ stalk_at cells.now cell }
 {
     match cells.get(cell as usize) {
