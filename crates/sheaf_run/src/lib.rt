@@ -12,3 +12,6 @@ mod two;
 pub use job::Job;
 pub use status::Status;
 pub use top::{run, run_solo};
+
+#[cfg(test)]
+mod tests;

@@ -81,7 +81,12 @@ fn refuse_words<K: Sink>(sink: &mut K) -> Status
 }
 
 /// Does the job that the words ask for, and says all that holds then.
-fn solo<S: Source, K: Sink>(alloc: Global, words: &[String], source: &mut S, sink: &mut K) -> Status
+fn served<S: Source, K: Sink>(
+    alloc: Global,
+    words: &[String],
+    source: &mut S,
+    sink: &mut K,
+) -> Status
     ensures answered { IsAnswer result →
         Answered (Answers (map string_bytes words.now)) (S.left source.old) (K.taken sink.old) (K.taken sink.new) (K.flushed sink.new) result }
     ensures flushed { IsAnswer result → IsFlushed (K.taken sink.new) (K.flushed sink.new) }
@@ -125,7 +130,7 @@ pub fn run_solo<S: Source, K: Sink>(
     // With refused words nothing is read.
     ensures unread { job_of (map string_bytes words.now) ≡ None → source.new ≡ source.old }
 {
-    solo(alloc, words, source, sink)
+    served(alloc, words, source, sink)
 }
 
 /// Does all that the program does: for now what `run_solo` does.

@@ -21,7 +21,7 @@ loop-face-preserved c =
       arrows =
           ap (map arrow_of) grown ∙ map-append arrow_of before (new ∷ [])
           ∙ ap₂ (λ (front : List complexes.Arrow) (last : complexes.Arrow). front ++ last ∷ []) c.loop-face.invariant.arrows
-              (c.in_ok-arrow.ensures.arrow ∙ ap (arrow_of_face cells) c.face-item.is)
+          (c.in_ok-arrow.ensures.arrow ∙ ap (arrow_of_face cells) c.face-item.is)
           ∙ sym (ap (map (arrow_of_face cells)) (take_more faces i face c.loop-face-test.true) ∙ map-append (arrow_of_face cells) (take i faces) (_ ∷ []));
       fits = subst (λ (arrows : List Arrow). All (FitsCells two (numbered 0 cells)) arrows) (sym grown)
           (All-push (FitsCells two (numbered 0 cells)) before new c.loop-face.invariant.fits c.in_ok-arrow.ensures.fits);

@@ -19,7 +19,7 @@ loop-degree-preserved c =
     let is_basis : IsBasis two F k (lists basis) = subst (λ (G : CellularComplex). IsBasis two G k (lists basis)) c.in_ok-complex.ensures.complex c.in_ok-basis.ensures in
     let size : length (lists basis) ≡ c.len.result = length-map basis (λ v. v.items) ∙ search rules in
     let last : HasDimension two F (length before) c.len.result =
-        subst (λ (j : ℕ). HasDimension two F j c.len.result) (sym c.loop-degree.invariant.one_each) (lists basis, size, is_basis) in
+    subst (λ (j : ℕ). HasDimension two F j c.len.result) (sym c.loop-degree.invariant.one_each) (lists basis, size, is_basis) in
     let grown = c.in_ok-push.ensures.items in
     record {
       one_each = ap length grown ∙ length-append before (c.len.result ∷ []) ∙ ap (λ n. n + 1) c.loop-degree.invariant.one_each;

@@ -1,0 +1,88 @@
+use crate::{Status, run, run_solo};
+use io_edge::{MemSink, MemSource};
+use std::alloc::Global;
+use std::test::Fail;
+
+const CIRCLE: &[u8] =
+    b"field 2\ncell 0 1\ncell 0 1\ncell 0 1\ncell 1 1\ncell 1 1\ncell 1 1\nface 0 3 - 1\nface 1 3 + 1\nface 1 4 - 1\nface 2 4 + 1\nface 0 5 - 1\nface 2 5 + 1\nclient\nbetti\ndone\n";
+
+/// The words `solve`.
+fn solve(alloc: Global) -> Result<Vec<String>, Fail> {
+    let mut words = Vec::new(alloc);
+    words.push(String::from_str(alloc, "solve")?)?;
+    Ok(words)
+}
+
+#[test]
+fn answers(rt: HostRuntime) -> Result<(), Fail> {
+    let alloc = rt.alloc();
+    let words = solve(alloc)?;
+    let over_three = b"field 3\ncell 0 1\nclient\nbetti\ndone\n".as_slice();
+    let entry_two =
+        b"field 2\ncell 0 1\ncell 0 1\ncell 1 1\nface 0 2 - 2\nface 1 2 + 1\nclient\nbetti\ndone\n".as_slice();
+    let no_cells = b"field 2\nclient\nbetti\ndone\n".as_slice();
+    for (input, status, output) in [
+        (
+            CIRCLE,
+            Status::Done,
+            b"client 0\n1 v0 betti 1 1\norder\nask 0 1\nreply 0 1\nend\n".as_slice(),
+        ),
+        (
+            no_cells,
+            Status::Done,
+            b"client 0\n1 v0 betti\norder\nask 0 1\nreply 0 1\nend\n".as_slice(),
+        ),
+        (over_three, Status::BadInput, b"bad input\n".as_slice()),
+        (entry_two, Status::BadInput, b"bad input\n".as_slice()),
+    ] {
+        let mut source = MemSource::new(alloc, input, 10, [].as_slice())?;
+        let mut sink = MemSink::new(alloc, 100, 8, [].as_slice())?;
+        assert_eq!(rt; run_solo(alloc, &words, &mut source, &mut sink), status);
+        assert_eq!(rt; sink.taken(), output);
+    }
+    Ok(())
+}
+
+#[test]
+fn refuses_words(rt: HostRuntime) -> Result<(), Fail> {
+    let alloc = rt.alloc();
+    let mut source = MemSource::new(alloc, CIRCLE, 10, [].as_slice())?;
+    let mut sink = MemSink::new(alloc, 100, 8, [].as_slice())?;
+    assert_eq!(rt;
+        run(alloc, [].as_slice(), &mut source, &mut sink),
+        Status::BadWords
+    );
+    assert_eq!(rt; sink.taken(), b"bad words\n".as_slice());
+    Ok(())
+}
+
+#[test]
+fn faults(rt: HostRuntime) -> Result<(), Fail> {
+    let alloc = rt.alloc();
+    let words = solve(alloc)?;
+    // The second write fails.
+    let mut source = MemSource::new(alloc, CIRCLE, 10, [].as_slice())?;
+    let mut sink = MemSink::new(alloc, 100, 8, [2u64].as_slice())?;
+    assert_eq!(rt;
+        run(alloc, &words, &mut source, &mut sink),
+        Status::WriteFault
+    );
+    assert_eq!(rt; sink.taken(), b"client 0".as_slice());
+    // The flush, after seven writes, fails.
+    let mut source = MemSource::new(alloc, CIRCLE, 10, [].as_slice())?;
+    let mut sink = MemSink::new(alloc, 100, 8, [8u64].as_slice())?;
+    assert_eq!(rt;
+        run(alloc, &words, &mut source, &mut sink),
+        Status::WriteFault
+    );
+    assert_eq!(rt; sink.taken().len(), 52);
+    // The second read fails.
+    let mut source = MemSource::new(alloc, CIRCLE, 10, [2u64].as_slice())?;
+    let mut sink = MemSink::new(alloc, 100, 8, [].as_slice())?;
+    assert_eq!(rt;
+        run(alloc, &words, &mut source, &mut sink),
+        Status::ReadFault
+    );
+    assert_eq!(rt; sink.taken(), [].as_slice());
+    Ok(())
+}
