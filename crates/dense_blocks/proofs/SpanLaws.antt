@@ -46,8 +46,8 @@ module _ (K : Ops) (F : IsField K) (n : ℕ) where
       combines K n (vs ++ ws) v (s.coefficients ++ zeros (length ws))
       (subst (λ k. Vector K k (s.coefficients ++ zeros (length ws))) (sym (length-append vs ws)) (append-vector K (length vs) (length ws) s.coefficients (zeros (length ws)) hs (zeros-vector K F (length ws))))
       (combination-append K F (length ws) n s.coefficients (zeros (length ws)) vs ws (vector-size K (length vs) s.coefficients hs) hw
-       ∙ ap (plus K (combination K n s.coefficients vs)) (combination-zeros K F (length ws) (length ws) n ws hw)
-       ∙ ap (λ x. plus K x (zeros n)) s.gives ∙ plus-zeros K F n v (combination_is_vector m vs v hv s))
+      ∙ ap (plus K (combination K n s.coefficients vs)) (combination-zeros K F (length ws) (length ws) n ws hw)
+      ∙ ap (λ x. plus K x (zeros n)) s.gives ∙ plus-zeros K F n v (combination_is_vector m vs v hv s))
 
   -- earlier vectors take no coefficient
   pub spans-behind : (vs ws : List (List ℕ)) (v : List ℕ) → Matrix K (length vs) n vs → Matrix K (length ws) n ws → IsCombination K n ws v → IsCombination K n (vs ++ ws) v
@@ -56,18 +56,18 @@ module _ (K : Ops) (F : IsField K) (n : ℕ) where
       combines K n (vs ++ ws) v (zeros (length vs) ++ s.coefficients)
       (subst (λ k. Vector K k (zeros (length vs) ++ s.coefficients)) (sym (length-append vs ws)) (append-vector K (length vs) (length ws) (zeros (length vs)) s.coefficients (zeros-vector K F (length vs)) hs))
       (combination-append K F (length ws) n (zeros (length vs)) s.coefficients vs ws (zeros-size (length vs)) hw
-       ∙ ap (λ x. plus K x (combination K n s.coefficients ws)) (combination-zeros K F (length vs) (length vs) n vs hv)
-       ∙ ap (plus K (zeros n)) s.gives ∙ zeros-plus K F n v (combination_is_vector (length ws) ws v hw s))
+      ∙ ap (λ x. plus K x (combination K n s.coefficients ws)) (combination-zeros K F (length vs) (length vs) n vs hv)
+      ∙ ap (plus K (zeros n)) s.gives ∙ zeros-plus K F n v (combination_is_vector (length ws) ws v hw s))
 
   -- the last vector is a combination of all
   pub spans-last : (m : ℕ) (vs : List (List ℕ)) (v : List ℕ) → Matrix K m n vs → Vector K n v → IsCombination K n (vs ++ v ∷ []) v
   spans-last m vs v hv h =
       combines K n (vs ++ v ∷ []) v (zeros (length vs) ++ 1 ∷ [])
       (subst (λ k. Vector K k (zeros (length vs) ++ 1 ∷ [])) (sym (length-append vs (v ∷ [])))
-          (append-vector K (length vs) 1 (zeros (length vs)) (1 ∷ []) (zeros-vector K F (length vs)) (one_below K F, tt)))
+      (append-vector K (length vs) 1 (zeros (length vs)) (1 ∷ []) (zeros-vector K F (length vs)) (one_below K F, tt)))
       (combination-push K F n (zeros (length vs)) vs 1 v (zeros-size (length vs)) h
-       ∙ ap (λ x. plus K x (scaled K 1 v)) (combination-zeros K F (length vs) m n vs hv)
-       ∙ ap (plus K (zeros n)) (scaled-one K F n v h) ∙ zeros-plus K F n v h)
+      ∙ ap (λ x. plus K x (scaled K 1 v)) (combination-zeros K F (length vs) m n vs hv)
+      ∙ ap (plus K (zeros n)) (scaled-one K F n v h) ∙ zeros-plus K F n v h)
 
   -- a combination of combinations of vs is one of vs
   pub spans-combination : (l m : ℕ) (cs : List ℕ) (us vs : List (List ℕ)) → Matrix K l n us → Matrix K m n vs

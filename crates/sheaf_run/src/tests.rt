@@ -46,10 +46,11 @@ fn answers(rt: HostRuntime) -> Result<(), Fail> {
 #[test]
 fn refuses_words(rt: HostRuntime) -> Result<(), Fail> {
     let alloc = rt.alloc();
+    let words = Vec::new(alloc);
     let mut source = MemSource::new(alloc, CIRCLE, 10, [].as_slice())?;
     let mut sink = MemSink::new(alloc, 100, 8, [].as_slice())?;
     assert_eq!(rt;
-        run(alloc, [].as_slice(), &mut source, &mut sink),
+        run(alloc, &words, &mut source, &mut sink),
         Status::BadWords
     );
     assert_eq!(rt; sink.taken(), b"bad words\n".as_slice());
