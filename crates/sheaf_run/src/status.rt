@@ -7,7 +7,7 @@ pub enum Status {
     ReadFault = 1,
     /// The sink failed; it took a prefix of what was to be written.
     WriteFault = 2,
-    /// Memory ran out; the sink took a prefix of what was to be written, often nothing.
+    /// Memory ran out; nothing was written.
     NoMemory = 3,
     /// The words are refused; nothing was read.
     BadWords = 4,

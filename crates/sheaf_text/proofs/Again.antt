@@ -6,7 +6,7 @@ use Rattle.std.proofs.lemmas.Fmt.{decimal_digit}
 use Rattle.std.proofs.lemmas.List.Elements.{All-head, All-tail, filter_map-append}
 use Rattle.std.proofs.lemmas.List.Folds.{list_all-append}
 use Rattle.sheaf_text.specs.Candidate.{cell_of, sign_of, entry_of, face_of, cell_in, face_in, lines, candidate_of}
-use Rattle.sheaf_text.specs.Small.{IsSmallCell, HasDimension, IsFaceAmong, IsSmallSheaf, IsSmall, IsSmallText}
+use Rattle.sheaf_text.specs.Small.{IsSmallCell, IsOfDimension, IsFaceAmong, IsSmallSheaf, IsSmall, IsSmallText}
 use Rattle.sheaf_text.specs.Text.{cell_words, sign_word, face_words, last_lines, input_lines, lines_text, text_of}
 use Rattle.sheaf_text.specs.declared.input.Cell.{Cell}
 use Rattle.sheaf_text.specs.declared.input.Face.{Face}
@@ -30,7 +30,7 @@ record FitsFace (f : Face) : Type 0 where
 fits_cell : (c : Cell) → IsSmallCell c → FitsCell c
 fits_cell c small = record { dimension = omega (arith, small.dimension); stalk = omega (arith, small.stalk) }
 
-is_there : (cells : List Cell) (k n : ℕ) → HasDimension cells k n → k < length cells
+is_there : (cells : List Cell) (k n : ℕ) → IsOfDimension cells k n → k < length cells
 is_there [] k n h = absurd h
 is_there (c ∷ cells) zero n h = omega arith
 is_there (c ∷ cells) (suc k) n h = omega (arith, is_there cells k n h)

@@ -14,8 +14,8 @@ pub record IsSmallCell (c : Cell) : Type 0 where
   pub stalk : c.stalk ≤ MOST_STALK
 
 -- there is such a cell, and this is its dimension
-abbrev pub HasDimension : List Cell → ℕ → ℕ → Type 0
-HasDimension cells cell dimension = IsSomeAnd (slice_get cells cell) (λ c. c.dimension ≡ dimension)
+abbrev pub IsOfDimension : List Cell → ℕ → ℕ → Type 0
+IsOfDimension cells cell dimension = IsSomeAnd (slice_get cells cell) (λ c. c.dimension ≡ dimension)
 
 -- the dimension of a cell's stalk
 abbrev pub stalk_at : List Cell → ℕ → ℕ
@@ -23,8 +23,8 @@ stalk_at cells cell = option_map_or (λ (c : Cell). c.stalk) (slice_get cells ce
 
 -- a vertex as a face of an edge, with a matrix from the vertex's stalk to the edge's
 pub record IsFaceAmong (cells : List Cell) (f : Face) : Type 0 where
-  pub vertex : HasDimension cells f.s 0
-  pub edge : HasDimension cells f.t 1
+  pub vertex : IsOfDimension cells f.s 0
+  pub edge : IsOfDimension cells f.t 1
   pub entries : length f.entries ≡ stalk_at cells f.t * stalk_at cells f.s
   pub scalars : All (λ e. e < FIELD_ORDER) f.entries
 
@@ -41,7 +41,7 @@ AreTwoOpposite faces = ⊥
 
 -- if the cell is an edge, it has two faces, of opposite sign
 abbrev pub IsEdgeWhole : List Cell → List Face → ℕ → Type 0
-IsEdgeWhole cells faces cell = HasDimension cells cell 1 → AreTwoOpposite (faces_to cell faces)
+IsEdgeWhole cells faces cell = IsOfDimension cells cell 1 → AreTwoOpposite (faces_to cell faces)
 
 pub record IsSmallSheaf (i : Input) : Type 0 where
   pub few : length i.cells ≤ MOST_CELLS

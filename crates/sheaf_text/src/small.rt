@@ -1,5 +1,5 @@
 ghost use Rattle.std.specs.Prelude.{◌≡◌, ◌<◌, ◌≤◌, ◌↔◌, not, All, AllPairs, EachIndex, IsTrue, count_by, sum_by, length};
-ghost use Rattle.sheaf_text.specs.Small.{IsSmallCell, HasDimension, stalk_at, IsFaceAmong, HasOtherPair, faces_to, AreTwoOpposite, IsEdgeWhole, is_plus, IsSmallSheaf};
+ghost use Rattle.sheaf_text.specs.Small.{IsSmallCell, IsOfDimension, stalk_at, IsFaceAmong, HasOtherPair, faces_to, AreTwoOpposite, IsEdgeWhole, is_plus, IsSmallSheaf};
 
 use crate::input::{Cell, Face, Input};
 use crate::limits::{FIELD_ORDER, MOST_CELLS, MOST_DIMENSION, MOST_STALK, MOST_TOTAL};
@@ -21,7 +21,7 @@ fn is_small_total(cells: &[Cell]) -> bool
 }
 
 fn has_dimension(cells: &[Cell], cell: u32, dimension: u32) -> bool
-    ensures { IsTrue result ↔ HasDimension cells.now cell dimension }
+    ensures { IsTrue result ↔ IsOfDimension cells.now cell dimension }
 {
     match cells.get(cell as usize) {
         Some(c) => c.dimension == dimension,
