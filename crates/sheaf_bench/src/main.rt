@@ -1,0 +1,79 @@
+//! The benchmark: `sheaf_bench WORKLOAD SIZE` runs one workload of small matrices over the field of two elements.
+//!
+//! The workloads, where n is the size and all scalars come from one fixed sequence:
+//! - `product`: the product of two blocks of n rows and n columns;
+//! - `apply`: the image of a vector by a block of n rows and n columns;
+//! - `solve`: a combination of n columns of n coordinates that gives their sum;
+//! - `apart`: a functional that is 0 on n columns of n coordinates, which are 0 in the second half of the coordinates,
+//!   and 1 on a vector that is 1 there.
+//!
+//! Standard output is one line: the workload, the size, how many field operations the textbook counts, and a checksum of
+//! the result. It is the same in every run. Standard error has the time of the call alone, without the making of its
+//! arguments: nanoseconds in all, and for each field operation where some are counted.
+//!
+//! The textbook counts multiplications and additions: 2n³ for `product`, 2n² for `apply`, and for the other two those of
+//! elimination, which takes each independent column off each later column and off the vector, 2n for each time. Of the
+//! columns the first n are taken to be independent in `solve`, and the first half of n, rounded down, in `apart`.
+//!
+//! The size is a number from 1 to 1,024. Any other size, a workload of another name, and more or fewer words are refused
+//! by a line on standard error and exit status 2. Without memory, or where the clock or the output fails, the status is 1.
+#![tactic(auto)]
+
+mod request;
+mod runs;
+mod sequence;
+mod two;
+
+use crate::request::Request;
+use crate::runs::run;
+use anyhow::Result;
+use std::process::ExitCode;
+use std::rt::{Clock, Env};
+use std::{env, io};
+
+/// The words after the program's name; words that are not all UTF-8 are refused like no words.
+fn words<R: Env + AllocGlobal>(rt: &R) -> io::Result<Vec<String>> {
+    let mut words = Vec::new(rt.alloc());
+    let arguments = match env::args(rt) {
+        Ok(arguments) => arguments,
+        Err(error) if error.kind() == io::ErrorKind::InvalidData => return Ok(words),
+        Err(error) => return Err(error),
+    };
+    for word in arguments.skip(1) {
+        words.push(word)?;
+    }
+    Ok(words)
+}
+
+/// Runs what is asked for, and prints what came of it.
+fn measure<R>(rt: &R, request: &Request) -> Result<()>
+where
+    R: Clock + Print + Eprint + AllocGlobal,
+{
+    let outcome = run(rt, request)?;
+    let operations = request.operations();
+    let checksum = outcome.checksum;
+    println!(rt; "{request}: {operations} field operations, checksum {checksum:08x}")?;
+    let nanoseconds = outcome.time.as_nanos();
+    if operations == 0 {
+        eprintln!(rt; "{nanoseconds} ns")?;
+        return Ok(());
+    }
+    let each = outcome.time.as_secs_f64() * 1e9 / f64::from(operations);
+    eprintln!(rt; "{nanoseconds} ns, {each:.4} ns for each field operation")?;
+    Ok(())
+}
+
+fn main(rt: HostRuntime) -> Result<ExitCode> {
+    let words = words(&rt)?;
+    match Request::of(words.as_slice()) {
+        Ok(request) => {
+            measure(&rt, &request)?;
+            Ok(ExitCode::SUCCESS)
+        }
+        Err(error) => {
+            eprintln!(&rt; "sheaf_bench: {error}")?;
+            Ok(ExitCode::from(2))
+        }
+    }
+}

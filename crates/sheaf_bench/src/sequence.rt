@@ -1,0 +1,78 @@
+ghost use Rattle.std.specs.Prelude.{◌≡◌, ◌<◌, ◌≤◌, ◌*◌, length, All, IfOk};
+ghost use Rattle.dense_blocks.specs.Vectors.{AllScalars};
+ghost use Rattle.dense_blocks.specs.Two.{two};
+
+use dense_blocks::Block;
+use std::alloc::{AllocError as NoMemory, Global};
+
+/// Scalars of the field of two elements that look like chance, and are the same in every run.
+#[derive(Drop)]
+pub struct Sequence {
+    state: u64,
+}
+
+impl Sequence {
+    /// The sequence from its start.
+    pub fn new() -> Sequence {
+        Sequence { state: 1 }
+    }
+
+    /// The next scalar: a high bit of a linear congruential sequence, since the low ones soon repeat.
+    fn scalar(&mut self) -> u8
+        ensures { result < two.order }
+    {
+        self.state = self
+            .state
+            .wrapping_mul(6_364_136_223_846_793_005)
+            .wrapping_add(1_442_695_040_888_963_407);
+        (self.state >> 63) as u8
+    }
+
+    /// A vector of `size` coordinates: the next scalars in the first `free` of them, and `rest` in the others.
+    pub fn vector(
+        &mut self,
+        alloc: Global,
+        size: usize,
+        free: usize,
+        rest: u8,
+    ) -> Result<Vec<u8>, NoMemory>
+        requires { rest < two.order }
+        ensures size { IfOk result (λ v. length v.items ≡ size) }
+        ensures scalars { IfOk result (λ v. AllScalars two v.items) }
+    {
+        let mut vector = Vec::with_capacity(alloc, size)?;
+        for i in 0..size {
+            vector.push(if i < free { self.scalar() } else { rest })?;
+        }
+        Ok(vector)
+    }
+
+    /// A block of as many rows as columns, of the next scalars.
+    pub fn block(&mut self, alloc: Global, size: u32) -> Result<Block, NoMemory>
+        requires { size ≤ 1024 }
+        ensures rows { IfOk result (λ b. b.rows ≡ size) }
+        ensures columns { IfOk result (λ b. b.cols ≡ size) }
+        ensures scalars { IfOk result (λ b. AllScalars two b.entries) }
+    {
+        let count = size as usize * size as usize;
+        let entries = self.vector(alloc, count, count, 0)?;
+        Block::of(alloc, size, size, &entries)
+    }
+
+    /// Columns, as many as each has coordinates, with 0 in all but the first `free` coordinates.
+    pub fn columns(
+        &mut self,
+        alloc: Global,
+        size: usize,
+        free: usize,
+    ) -> Result<Vec<Vec<u8>>, NoMemory>
+        ensures sizes { IfOk result (λ cs. All (λ c. length c.items ≡ size) cs.items) }
+        ensures scalars { IfOk result (λ cs. All (λ c. AllScalars two c.items) cs.items) }
+    {
+        let mut columns = Vec::with_capacity(alloc, size)?;
+        for _column in 0..size {
+            columns.push(self.vector(alloc, size, free, 0)?)?;
+        }
+        Ok(columns)
+    }
+}
