@@ -1,12 +1,12 @@
 -- Laws of spans: what is a combination of a list of vectors.
-use Rattle.std.proofs.Common.{◌≡◌, ℕ, zero, suc, ◌+◌, ◌<◌, List, [], ◌∷◌, ◌++◌, length, get_or, refl, sym, ap, ◌∙◌, subst, arith}
+use Rattle.std.proofs.Common.{◌≡◌, ℕ, zero, suc, ◌<◌, List, [], ◌∷◌, ◌++◌, length, get_or, sym, ap, ◌∙◌, subst, arith}
 use Rattle.std.proofs.lemmas.List.{length-append}
 use Rattle.dense_blocks.specs.Field.{Ops, IsField}
 use Rattle.dense_blocks.specs.Vectors.{zeros, plus, negative, scaled, combination}
 use Rattle.dense_blocks.specs.Spans.{IsCombination}
-use Rattle.dense_blocks.proofs.ScalarLaws.{zero_below, one_below}
-use Rattle.dense_blocks.proofs.Shapes.{Vector, Matrix, to_vector, from_vector, vector-size, append-vector, matrix-size}
-use Rattle.dense_blocks.proofs.VectorLaws.{zeros-vector, zeros-size, plus-vector, scaled-vector, negative-vector, combination-vector, combination-plus, combination-scaled, combination-negative, combination-zeros, combination-append, combination-push, zeros-plus, plus-zeros, scaled-one, zeros-plus-zeros}
+use Rattle.dense_blocks.proofs.ScalarLaws.{one_below}
+use Rattle.dense_blocks.proofs.Shapes.{Vector, Matrix, to_vector, from_vector, vector-size, append-vector}
+use Rattle.dense_blocks.proofs.VectorLaws.{zeros-vector, zeros-size, plus-vector, scaled-vector, negative-vector, combination-vector, combination-plus, combination-scaled, combination-negative, combination-zeros, combination-append, combination-push, zeros-plus, plus-zeros, scaled-one}
 
 -- with coefficients in the form that proofs recurse on
 pub combines : (K : Ops) (n : ℕ) (vs : List (List ℕ)) (v c : List ℕ) → Vector K (length vs) c → combination K n c vs ≡ v → IsCombination K n vs v

@@ -22,3 +22,4 @@ pub use operations::{apply, minus, product, sum};
 pub use rows::{add_scaled, dot_product, first_nonzero, scale, zeros};
 pub use scalars::{Scalars, all_scalars};
 pub use solving::{Solution, solve};
+pub use two::Two;

@@ -1,7 +1,7 @@
 use crate::scalars::Scalars;
 
-/// The field of two elements.
-#[derive(Clone, Copy)]
+/// The field of two elements, 0 and 1.
+#[derive(Clone, Copy, Debug, PartialEq, Eq)]
 pub struct Two;
 
 impl Scalars for Two {
@@ -16,7 +16,7 @@ impl Scalars for Two {
     }
 
     fn add(&self, a: u8, b: u8) -> u8 {
-        (a + b) % 2
+        a ^ b
     }
 
     fn neg(&self, a: u8) -> u8 {
@@ -24,7 +24,7 @@ impl Scalars for Two {
     }
 
     fn mul(&self, a: u8, b: u8) -> u8 {
-        a * b
+        a & b
     }
 
     fn inv(&self, a: u8) -> u8 {

@@ -22,7 +22,6 @@
 mod request;
 mod runs;
 mod sequence;
-mod two;
 
 use crate::request::Request;
 use crate::runs::run;

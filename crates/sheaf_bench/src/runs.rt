@@ -4,8 +4,7 @@ ghost use Rattle.dense_blocks.specs.Two.{two};
 
 use crate::request::{Request, Workload};
 use crate::sequence::Sequence;
-use crate::two::Two;
-use dense_blocks::{Solution, add_scaled, apply, product, solve};
+use dense_blocks::{Solution, Two, add_scaled, apply, product, solve};
 use std::alloc::{AllocError as NoMemory, Global};
 use std::io;
 use std::rt::Clock;

@@ -6,8 +6,7 @@ ghost use Rattle.sheaf_text.specs.Small.{IsSmallSheaf, IsSmallCell, IsFaceAmong}
 ghost use Rattle.plain_bases.specs.View.{arrow_of, complex_of, FitsCells, IsComplexOver};
 ghost use Rattle.sheaf_run.specs.Sheaves.{numbered, signed, arrow_of_face, sheaf_of, degree_count, AreBetti};
 
-use crate::two::Two;
-use dense_blocks::{Block, Listed, minus};
+use dense_blocks::{Block, Listed, Two, minus};
 use plain_bases::{Arrow, Complex, basis_of};
 use sheaf_text::{Cell, Face, Input, Sign, stalk_at};
 use std::alloc::{AllocError as NoMemory, Global};

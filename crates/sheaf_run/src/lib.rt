@@ -7,7 +7,6 @@ mod sending;
 mod status;
 mod top;
 mod transcript;
-mod two;
 
 pub use job::Job;
 pub use status::Status;
