@@ -6,32 +6,22 @@ use Rattle.std.proofs.lemmas.List.{take-map, drop-map}
 use Rattle.std.proofs.lemmas.List.Elements.{All-tail, All-head, All-filter}
 use Rattle.std.proofs.lemmas.Bool.{eqb-true}
 use Rattle.dense_blocks.specs.Field.{Ops, IsField}
-use Rattle.dense_blocks.specs.Vectors.{IsVector, zeros, plus, scaled, combination}
+use Rattle.dense_blocks.specs.Vectors.{zeros, plus, scaled, combination}
 use Rattle.dense_blocks.specs.Matrices.{applied, identity}
-use Rattle.dense_blocks.proofs.Shapes.{Vector, Matrix, to_vector, from_vector, vector-size, append-vector}
-use Rattle.dense_blocks.proofs.VectorLaws.{zeros-vector, plus-vector, scaled-vector, plus-append, scaled-append, plus-cross, scaled-plus, scaled-zeros, zeros-plus-zeros, plus-nil, dot-below, combination-vector, scaled-zero}
+use Rattle.dense_blocks.proofs.Shapes.{Vector, Matrix, vector-size, append-vector}
+use Rattle.dense_blocks.proofs.VectorLaws.{zeros-vector, plus-vector, scaled-vector, plus-append, scaled-append, plus-cross, scaled-plus, scaled-zeros, zeros-plus-zeros, dot-below, combination-vector, scaled-zero}
+use Rattle.dense_blocks.proofs.Cutting.{take-plus, drop-plus}
 use Rattle.dense_blocks.proofs.MatrixLaws.{applied-plus, applied-scaled, identity-matrix, combination-identity}
 use Rattle.cochain_vec.specs.declared.cell.Cell.{Cell}
-use Rattle.cochain_vec.specs.Complexes.{Arrow, CellularComplex, cells_of, total_size, coordinates, value_at, IsCochain, sum_into, coboundary, RowsFit}
+use Rattle.cochain_vec.specs.Complexes.{Arrow, CellularComplex, cells_of, total_size, coordinates, value_at, sum_into, coboundary, RowsFit}
 
-take-plus : (K : Ops) (n : ℕ) (u v : List ℕ) → take n (plus K u v) ≡ plus K (take n u) (take n v)
-take-plus K zero u v = refl
-take-plus K (suc n) [] v = refl
-take-plus K (suc n) (a ∷ u) [] = refl
-take-plus K (suc n) (a ∷ u) (b ∷ v) = ap (λ t. K.add a b ∷ t) (take-plus K n u v)
-
-drop-plus : (K : Ops) (n : ℕ) (u v : List ℕ) → drop n (plus K u v) ≡ plus K (drop n u) (drop n v)
-drop-plus K zero u v = refl
-drop-plus K (suc n) [] v = refl
-drop-plus K (suc n) (a ∷ u) [] = sym (plus-nil K (drop n u))
-drop-plus K (suc n) (a ∷ u) (b ∷ v) = drop-plus K n u v
-
-take-vector : (K : Ops) (m n : ℕ) (z : List ℕ) → Vector K (m + n) z → Vector K m (take m z)
+-- a vector cut in two
+pub take-vector : (K : Ops) (m n : ℕ) (z : List ℕ) → Vector K (m + n) z → Vector K m (take m z)
 take-vector K zero n z h = tt
 take-vector K (suc m) n [] h = subst (λ k. Vector K k []) (suc-add m n) h
 take-vector K (suc m) n (a ∷ z) h = let g : Vector K (suc (m + n)) (a ∷ z) = subst (λ k. Vector K k (a ∷ z)) (suc-add m n) h in (g.0, take-vector K m n z g.1)
 
-drop-vector : (K : Ops) (m n : ℕ) (z : List ℕ) → Vector K (m + n) z → Vector K n (drop m z)
+pub drop-vector : (K : Ops) (m n : ℕ) (z : List ℕ) → Vector K (m + n) z → Vector K n (drop m z)
 drop-vector K zero n z h = subst (λ k. Vector K k z) (zero-add n) h
 drop-vector K (suc m) n [] h = absurd (subst (λ k. Vector K k []) (suc-add m n) h)
 drop-vector K (suc m) n (a ∷ z) h = let g : Vector K (suc (m + n)) (a ∷ z) = subst (λ k. Vector K k (a ∷ z)) (suc-add m n) h in drop-vector K m n z g.1

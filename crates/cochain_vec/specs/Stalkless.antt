@@ -1,5 +1,5 @@
 -- A cell without coordinates changes nothing.
-use Rattle.std.specs.Prelude.{◌≡◌, ℕ, ◌<◌, ◌↔◌, List, [], ◌∷◌, filter, not, ◌==◌, All}
+use Rattle.std.specs.Prelude.{ℕ, ◌<◌, ◌↔◌, List, [], ◌∷◌, filter, not, ◌==◌, All}
 use Rattle.dense_blocks.specs.Field.{Ops}
 use Rattle.cochain_vec.specs.declared.cell.Cell.{Cell}
 use Rattle.cochain_vec.specs.Complexes.{CellularComplex}

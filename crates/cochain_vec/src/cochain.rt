@@ -4,10 +4,12 @@ ghost use Rattle.dense_blocks.specs.Vectors.{AllScalars, plus, scaled};
 use dense_blocks::{Scalars, add_scaled};
 use std::alloc::{AllocError as NoMemory, Global};
 
-/// A cochain of one degree: the coordinates of the cells of that degree, in order of cells.
+/// A cochain of one degree: a value for each cell of that degree.
 #[derive(Debug, Drop)]
 pub struct Cochain {
+    /// The degree of the cells that it has values at.
     pub degree: u8,
+    /// The coordinates of its values, in order of cells.
     pub values: Vec<u8>,
 }
 
@@ -20,7 +22,9 @@ impl Cochain {
     }
 }
 
-/// The sum of two cochains of one degree and one length.
+/// The sum of two cochains of one degree, coordinate by coordinate: a cochain of that degree.
+///
+/// They have values at the same cells, and so as many coordinates. Fails only where memory does.
 pub fn add<F: Scalars>(alloc: Global, f: &F, a: &Cochain, b: &Cochain) -> Result<Cochain, NoMemory>
     requires degrees { a.now.degree ≡ b.now.degree }
     requires lengths { vec_len a.now.values ≡ vec_len b.now.values }
@@ -38,7 +42,9 @@ pub fn add<F: Scalars>(alloc: Global, f: &F, a: &Cochain, b: &Cochain) -> Result
     })
 }
 
-/// The product of a scalar and a cochain.
+/// The product of a scalar and a cochain, coordinate by coordinate: a cochain of the same degree and cells.
+///
+/// Fails only where memory does.
 pub fn scale<F: Scalars>(alloc: Global, f: &F, k: u8, a: &Cochain) -> Result<Cochain, NoMemory>
     requires scalar { k < (F.ops f.now).order }
     requires a_scalars { AllScalars (F.ops f.now) a.now.values.items }

@@ -1,9 +1,16 @@
-//! Cochains, and the cohomology of cells with matrices between them.
+//! Cochains, and the cohomology of cells with matrices between them: cocycles modulo coboundaries.
+//!
+//! For a cellular sheaf these are the cochains and the coboundary of Curry, Ghrist and Nanda, "Discrete Morse theory for
+//! computing cellular sheaf cohomology" (2016).
 #![tactic(auto)]
 
 mod cell;
 mod cochain;
 mod laws;
+#[cfg(test)]
+mod tests;
+#[cfg(test)]
+mod two;
 
 pub use cell::Cell;
 pub use cochain::{Cochain, add, scale};

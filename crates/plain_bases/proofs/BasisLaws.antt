@@ -1,19 +1,18 @@
 -- Relations among the columns of a coboundary are cocycles; cocycles that complete the coboundaries are a basis.
-use Rattle.std.proofs.Common.{◌≡◌, ℕ, zero, suc, ◌<◌, List, [], ◌∷◌, ◌++◌, length, get_or, take, drop, map, All, refl, sym, ap, ap₂, ◌∙◌, subst, arith, zero-add, suc-add, ◌+◌}
-use Rattle.std.specs.Prelude.{Contains}
+use Rattle.std.proofs.Common.{◌≡◌, ℕ, zero, suc, List, [], ◌∷◌, ◌++◌, length, get_or, take, drop, map, All, refl, sym, ap, ◌∙◌, subst, arith, ◌+◌}
 use Rattle.std.proofs.lemmas.List.{length-map, length-append, take-append-drop}
 use Rattle.std.proofs.lemmas.List.Elements.{All-contains}
 use Rattle.dense_blocks.specs.Field.{Ops, IsField}
-use Rattle.dense_blocks.specs.Vectors.{IsVector, zeros, plus, negative, combination}
+use Rattle.dense_blocks.specs.Vectors.{plus, combination}
 use Rattle.dense_blocks.specs.Matrices.{identity}
 use Rattle.dense_blocks.specs.Spans.{IsCombination}
 use Rattle.dense_blocks.proofs.Shapes.{Vector, Matrix, to_vector, from_vector, vector-size, matrix-size, matrix_of_rows, append-matrix}
-use Rattle.dense_blocks.proofs.VectorLaws.{combination-append, combination-nil, plus-comm, negative-plus, combination-vector}
+use Rattle.dense_blocks.proofs.VectorLaws.{combination-append, combination-nil, plus-comm}
 use Rattle.dense_blocks.proofs.MatrixLaws.{identity-matrix}
 use Rattle.dense_blocks.proofs.SpanLaws.{coefficients-vector, combines, spans-through}
-use Rattle.cochain_vec.specs.Complexes.{CellularComplex, coordinates, IsCochain, coboundary, RowsFit}
+use Rattle.cochain_vec.specs.Complexes.{CellularComplex, coordinates, coboundary, RowsFit}
 use Rattle.cochain_vec.specs.Cohomology.{IsCocycle, IsCoboundary, IsRepresented, IsBasis}
-use Rattle.cochain_vec.proofs.CoboundaryLaws.{coboundary-columns, coboundary-cochain}
+use Rattle.cochain_vec.proofs.CoboundaryLaws.{take-vector, drop-vector, coboundary-columns, coboundary-cochain}
 use Rattle.plain_bases.specs.Relations.{IsRelation, SpansRelations}
 use Rattle.plain_bases.specs.Complements.{Completes}
 use Rattle.plain_bases.specs.Columns.{columns_from, columns_into}
@@ -77,24 +76,19 @@ module _ (K : Ops) (F : IsField K) (C : CellularComplex) (fits : RowsFit C) wher
     second_is : Vector K (length vs) second
     is : z ≡ plus K (combination K n first us) (combination K n second vs)
 
-  split_vector : (m n : ℕ) (z : List ℕ) → Vector K (m + n) z → (u v : List ℕ) × (z ≡ u ++ v) × Vector K m u × Vector K n v
-  split_vector zero n z h = ([], z, refl, tt, subst (λ k. Vector K k z) (zero-add n) h)
-  split_vector (suc m) n [] h = absurd (subst (λ k. Vector K k []) (suc-add m n) h)
-  split_vector (suc m) n (a ∷ z) h =
-      let g : Vector K (suc (m + n)) (a ∷ z) = subst (λ k. Vector K k (a ∷ z)) (suc-add m n) h in
-      let r = split_vector m n z g.1 in (a ∷ r.0, r.1, ap (λ t. a ∷ t) r.2, (g.0, r.3), r.4)
-
   halves : (n : ℕ) (us vs : List (List ℕ)) (z : List ℕ) → Matrix K (length vs) n vs → IsCombination K n (us ++ vs) z → Halves n us vs z
   halves n us vs z hv s =
-      let r = split_vector (length us) (length vs) s.coefficients
-      (subst (λ k. Vector K k s.coefficients) (length-append us vs) (coefficients-vector K F n (us ++ vs) z s)) in
+      let m = length us in
+      let c = s.coefficients in
+      let both : Vector K (m + length vs) c = subst (λ k. Vector K k c) (length-append us vs) (coefficients-vector K F n (us ++ vs) z s) in
+      let first = take-vector K m (length vs) c both in
       record {
-        first = r.0;
-        second = r.1;
-        first_is = r.3;
-        second_is = r.4;
-        is = sym s.gives ∙ ap (λ c. combination K n c (us ++ vs)) r.2
-            ∙ combination-append K F (length vs) n r.0 r.1 us vs (vector-size K (length us) r.0 r.3) hv;
+        first = take m c;
+        second = drop m c;
+        first_is = first;
+        second_is = drop-vector K m (length vs) c both;
+        is = sym s.gives ∙ ap (λ d. combination K n d (us ++ vs)) (sym (take-append-drop m c))
+            ∙ combination-append K F (length vs) n (take m c) (drop m c) us vs (vector-size K m (take m c) first) hv;
       }
 
   -- cocycles that span all cocycles, and those of them that complete the coboundaries: these are a basis

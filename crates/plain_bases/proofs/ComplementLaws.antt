@@ -1,25 +1,17 @@
 -- What one more candidate does to the vectors that complete a span.
-use Rattle.std.proofs.Common.{◌≡◌, ◌≢◌, ◌⊎◌, inl, inr, ℕ, zero, suc, ◌+◌, ◌<◌, ◌≤◌, List, [], ◌∷◌, ◌++◌, length, get_or, All, refl, sym, ap, ap₂, ◌∙◌, subst, arith, append_assoc, add-one}
+use Rattle.std.proofs.Common.{◌≡◌, ◌≢◌, ◌⊎◌, inl, inr, ℕ, suc, ◌+◌, ◌<◌, ◌≤◌, List, [], ◌∷◌, ◌++◌, length, get_or, refl, sym, ap, ap₂, ◌∙◌, subst, arith, append_assoc, add-one}
 use Rattle.std.specs.Prelude.{Contains}
-use Rattle.std.proofs.lemmas.List.{length-append, append-nil}
-use Rattle.std.proofs.lemmas.List.Elements.{All-nil, All-push, All-contains, Contains-get_or}
+use Rattle.std.proofs.lemmas.List.{length-append}
+use Rattle.std.proofs.lemmas.List.Elements.{All-push, All-contains, Contains-get_or}
 use Rattle.std.proofs.lemmas.Bool.{cases_eq, cases_lt}
 use Rattle.dense_blocks.specs.Field.{Ops, IsField}
 use Rattle.dense_blocks.specs.Vectors.{IsVector, zeros, plus, negative, scaled, combination}
 use Rattle.dense_blocks.specs.Spans.{IsCombination}
-use Rattle.dense_blocks.proofs.Shapes.{Vector, Matrix, to_vector, from_vector, vector-size, vector-nil, append-matrix, matrix_of_rows, matrix-rows, row-vector}
-use Rattle.dense_blocks.proofs.VectorLaws.{zeros-append, plus-vector, scaled-vector, combination-vector, combination-push, plus-zeros, scaled-zero, scaled-mul, scaled-one, plus-moved, plus-comm}
-use Rattle.dense_blocks.proofs.SpanLaws.{combines, coefficients-vector, spans-append, spans-behind, spans-last, spans-plus, spans-scaled, spans-negative}
+use Rattle.dense_blocks.proofs.Shapes.{Vector, Matrix, to_vector, from_vector, vector-size, append-matrix, matrix_of_rows, matrix-rows, row-vector}
+use Rattle.dense_blocks.proofs.VectorLaws.{zeros-append, scaled-vector, combination-vector, combination-push, plus-zeros, scaled-zero, scaled-mul, scaled-one, plus-moved, plus-comm}
+use Rattle.dense_blocks.proofs.SpanLaws.{combines, spans-append, spans-behind, spans-last, spans-plus, spans-scaled, spans-negative}
 use Rattle.plain_bases.specs.Complements.{Completes, IsIndependentOf}
-use Rattle.plain_bases.proofs.RelationLaws.{Ends, vector_ends}
-
--- no candidate
-pub completes_none : (K : Ops) (n : ℕ) (others candidates : List (List ℕ)) → Completes K n others candidates 0 []
-completes_none K n others candidates = record {
-  candidates_all = All-nil (Contains candidates);
-  spans = λ i l. absurd (omega arith);
-  independent = λ b h s. vector-nil K b (to_vector K 0 b h);
-}
+use Rattle.plain_bases.proofs.RelationLaws.{vector_ends}
 
 module _ (K : Ops) (F : IsField K) (n : ℕ) (others candidates : List (List ℕ)) (ho : Matrix K (length others) n others)
     (hc : Matrix K (length candidates) n candidates) where

@@ -1,11 +1,10 @@
 -- What a complex in memory keeps, degree by degree.
-use Rattle.std.proofs.Common.{◌≡◌, ℕ, zero, suc, ◌+◌, ◌-◌, ◌≤◌, ◌<◌, Vec, Global, Bool, true, false, cond, List, [], ◌∷◌, length, map, filter, get_or, All, refl, sym, ap, ap₂, ◌∙◌, subst, arith, add-one}
+use Rattle.std.proofs.Common.{◌≡◌, ℕ, ◌+◌, ◌≤◌, Vec, Global, Bool, true, false, cond, List, [], ◌∷◌, length, filter, get_or, All, sym, ap, ◌∙◌, subst, arith, add-one}
 use Rattle.std.specs.Prelude.{◌==◌}
-use Rattle.std.specs.List.{flat_map}
 use Rattle.std.proofs.lemmas.List.Elements.{All-filter, All-map}
 use Rattle.dense_blocks.specs.Field.{Ops, IsField}
-use Rattle.dense_blocks.specs.Matrices.{IsMatrix, identity}
-use Rattle.dense_blocks.proofs.Shapes.{Matrix, from_matrix, matrix-size}
+use Rattle.dense_blocks.specs.Matrices.{IsMatrix}
+use Rattle.dense_blocks.proofs.Shapes.{Matrix, from_matrix}
 use Rattle.dense_blocks.specs.Solving.{lists}
 use Rattle.dense_blocks.proofs.Cutting.{cut-size}
 use Rattle.cochain_vec.specs.declared.cell.Cell.{Cell}
@@ -14,7 +13,7 @@ use Rattle.cochain_vec.specs.Complexes.{CellularComplex, total_size, coordinates
 use Rattle.plain_bases.specs.declared.complex.Arrow.{Arrow}
 use Rattle.plain_bases.specs.declared.complex.Complex.{Complex}
 use Rattle.plain_bases.specs.View.{arrow_of, complex_of, FitsCells, IsComplexOver}
-use Rattle.plain_bases.specs.Columns.{columns_from, columns_into}
+use Rattle.plain_bases.specs.Columns.{columns_from}
 use Rattle.plain_bases.specs.Parts.{images}
 use Rattle.plain_bases.proofs.BasisLaws.{columns_from-rows}
 use Rattle.plain_bases.proofs.VecLaws.{lists-size}
@@ -61,10 +60,3 @@ module _ (K : Ops) (F : IsField K) (c : Complex) (h : IsComplexOver K c) where
       (subst (λ m. Matrix K m (coordinates (complex_of c) (k + 1)) (columns_from K (complex_of c) k)) size
       (subst (λ j. Matrix K (length (columns_from K (complex_of c) k)) (coordinates (complex_of c) j) (columns_from K (complex_of c) k)) (sym (add-one k))
       (columns_from-rows K F (complex_of c) rows_fit k))))
-
-  pub columns_into-next : (k : ℕ) → 0 < k → columns_from K (complex_of c) (k - 1) ≡ columns_into K (complex_of c) k
-  columns_into-next zero l = absurd (omega arith)
-  columns_into-next (suc k) l = ap (columns_from K (complex_of c)) (one_less k)
-    where
-      one_less : (j : ℕ) → suc j - 1 ≡ j
-      one_less j = omega arith

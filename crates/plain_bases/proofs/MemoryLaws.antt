@@ -1,5 +1,5 @@
 -- The steps of the two procedures, over vectors in memory.
-use Rattle.std.proofs.Common.{◌≡◌, ◌≢◌, ◌⊎◌, inl, inr, ℕ, ◌+◌, ◌<◌, ◌≤◌, List, [], ◌∷◌, ◌++◌, length, take, drop, get_or, Vec, Global, refl, sym, ap, ap₂, ◌∙◌, subst, arith}
+use Rattle.std.proofs.Common.{◌≡◌, ◌≢◌, inl, inr, ℕ, ◌+◌, ◌<◌, ◌≤◌, List, [], ◌∷◌, ◌++◌, length, take, drop, get_or, Vec, Global, sym, ap, ap₂, ◌∙◌, subst, arith}
 use Rattle.std.proofs.lemmas.List.{length-append, take-map, length-take-le, take-append-drop, take-append-le, drop-append-le}
 use Rattle.dense_blocks.specs.Field.{Ops, IsField}
 use Rattle.dense_blocks.specs.Vectors.{IsVector, zeros, combination}
@@ -59,9 +59,6 @@ module _ (K : Ops) (F : IsField K) (n : ℕ) (others candidates : List (List ℕ
       let size : length others + length chosen ≡ length taken = sym (ap length parts ∙ length-append others chosen) in
       from_matrix K (length taken) n taken
       (subst (λ (ts : List (List ℕ)). Matrix K (length taken) n ts) (sym parts) (subst (λ m. Matrix K m n (others ++ chosen)) size both))
-
-  pub candidate_is_vector : i < length candidates → IsVector K n (get_or candidates i [])
-  candidate_is_vector l = hc.rows_are i [] l
 
   -- one candidate more
   pub next_candidate : i < length candidates → (new : List (List ℕ)) → Considered K n taken (get_or candidates i []) new

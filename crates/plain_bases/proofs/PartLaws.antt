@@ -1,15 +1,12 @@
 -- The parts of a coboundary, arrow by arrow and cell by cell.
-use Rattle.std.proofs.Common.{◌≡◌, ℕ, zero, suc, ◌+◌, ◌<◌, ◌≤◌, List, [], ◌∷◌, ◌++◌, length, map, take, drop, get_or, cond, eqb, true, false, All, refl, sym, ap, ap₂, ◌∙◌, subst, arith, add-one, add-zero, zero-add}
-use Rattle.std.specs.List.{flat_map}
-use Rattle.std.proofs.Math.Seq.{take-suc}
-use Rattle.std.proofs.lemmas.List.{map-append, append-nil}
+use Rattle.std.proofs.Common.{◌≡◌, ℕ, zero, suc, ◌+◌, ◌<◌, ◌≤◌, List, [], ◌∷◌, ◌++◌, length, map, take, drop, get_or, cond, eqb, true, false, refl, sym, ap, ◌∙◌, subst, arith, add-zero, zero-add}
+use Rattle.std.proofs.lemmas.List.{map-append, append-nil, take_more}
 use Rattle.std.proofs.lemmas.Grind.{flat_map-append, common_steps}
 use Rattle.dense_blocks.specs.Field.{Ops, IsField}
-use Rattle.dense_blocks.specs.Vectors.{AllScalars, IsVector, zeros, plus, scaled}
+use Rattle.dense_blocks.specs.Vectors.{AllScalars, IsVector, zeros, plus}
 use Rattle.dense_blocks.specs.Matrices.{applied}
-use Rattle.dense_blocks.proofs.ScalarLaws.{one_below}
-use Rattle.dense_blocks.proofs.Shapes.{Vector, vector_of, vector-scalars, append-vector, to_vector, from_vector}
-use Rattle.dense_blocks.proofs.VectorLaws.{dot-nil, plus-assoc, plus-comm, scaled-one}
+use Rattle.dense_blocks.proofs.Shapes.{vector_of, vector-scalars, append-vector, to_vector, from_vector}
+use Rattle.dense_blocks.proofs.VectorLaws.{plus-assoc, plus-comm}
 use Rattle.cochain_vec.specs.declared.cell.Cell.{Cell}
 use Rattle.cochain_vec.specs.Complexes.{Arrow, total_size, value_at, sum_into}
 use Rattle.cochain_vec.proofs.CoboundaryLaws.{size_at, value-vector}
@@ -22,22 +19,9 @@ use Rattle.dense_blocks.specs.Blocks.{matrix_of}
 pub put_back : (new old : List ℕ) (len : ℕ) → len ≡ length old → length new ≡ length old → take len (new ++ drop (length new) old) ≡ new
 put_back new old len e f = grind (arith, common_steps)
 
-one_more : {A : Type 0} → (xs : List A) (i : ℕ) (d : A) → i < length xs → take (i + 1) xs ≡ take i xs ++ get_or xs i d ∷ []
-one_more xs i d l = ap (λ k. take k xs) (add-one i) ∙ take-suc xs i d l
-
--- a product with nothing
-pub applied-nothing : (K : Ops) (n : ℕ) (A : List (List ℕ)) → length A ≡ n → applied K A [] ≡ zeros n
-applied-nothing K zero [] e = refl
-applied-nothing K zero (r ∷ A) e = absurd (omega arith)
-applied-nothing K (suc n) [] e = absurd (omega arith)
-applied-nothing K (suc n) (r ∷ A) e = ap₂ ◌∷◌ (dot-nil K r) (applied-nothing K n A (omega arith))
-
 module _ (K : Ops) (F : IsField K) where
   pub value_scalars : (cs : List Cell) (z : List ℕ) (s : ℕ) → length z ≡ total_size cs → AllScalars K z → AllScalars K (value_at cs z s)
   value_scalars cs z s e h = vector-scalars K (size_at cs s) (value_at cs z s) (value-vector K cs z s (vector_of K (total_size cs) z e h))
-
-  pub plus-scaled_one : (n : ℕ) (u v : List ℕ) → Vector K n v → plus K u (scaled K 1 v) ≡ plus K u v
-  plus-scaled_one n u v h = ap (plus K u) (scaled-one K F n v h)
 
   -- one arrow more
   sum_into-push : (arrows : List Arrow) (a : Arrow) (value : ℕ → List ℕ) (n t : ℕ) → sum_into K (arrows ++ a ∷ []) value n t
@@ -67,7 +51,7 @@ module _ (K : Ops) (F : IsField K) where
       (plus K (part_at K (take i arrows) source z t) (applied K (matrix_of (get_or arrows i d).block) (value_at source z (get_or arrows i d).from)))
       (part_at K (take i arrows) source z t)
   part-next arrows source z t i d l =
-      ap (λ xs. part_at K xs source z t) (one_more arrows i d l)
+      ap (λ xs. part_at K xs source z t) (take_more arrows i d l)
       ∙ ap (λ xs. sum_into K xs (value_at source z) t.size t.cell) (map-append arrow_of (take i arrows) (get_or arrows i d ∷ []))
       ∙ sum_into-push (map arrow_of (take i arrows)) (arrow_of (get_or arrows i d)) (value_at source z) t.size t.cell
 
@@ -75,7 +59,7 @@ module _ (K : Ops) (F : IsField K) where
 pub image-next : (K : Ops) (arrows : List declared_arrow.Arrow) (source target : List Cell) (z : List ℕ) (i : ℕ) (d : Cell) → i < length target
     → image K arrows source (take (i + 1) target) z ≡ image K arrows source (take i target) z ++ part_at K arrows source z (get_or target i d)
 image-next K arrows source target z i d l =
-    ap (λ ts. image K arrows source ts z) (one_more target i d l)
+    ap (λ ts. image K arrows source ts z) (take_more target i d l)
     ∙ flat_map-append (part_at K arrows source z) (take i target) (get_or target i d ∷ [])
     ∙ ap (λ t. image K arrows source (take i target) z ++ t) (append-nil (part_at K arrows source z (get_or target i d)))
 
@@ -85,7 +69,7 @@ total_size-append (c ∷ cs) ds = let rest = total_size-append cs ds in omega ar
 
 pub total_size_next : (cs : List Cell) (i : ℕ) (d : Cell) → i < length cs → total_size (take (i + 1) cs) ≡ total_size (take i cs) + (get_or cs i d).size
 total_size_next cs i d l =
-    ap total_size (one_more cs i d l) ∙ total_size-append (take i cs) (get_or cs i d ∷ []) ∙ ap (λ n. total_size (take i cs) + n) (add-zero (get_or cs i d).size)
+    ap total_size (take_more cs i d l) ∙ total_size-append (take i cs) (get_or cs i d ∷ []) ∙ ap (λ n. total_size (take i cs) + n) (add-zero (get_or cs i d).size)
 
 pub vector-next : (K : Ops) (cs : List Cell) (i : ℕ) (d : Cell) (u v : List ℕ) → i < length cs → IsVector K (total_size (take i cs)) u → IsVector K (get_or cs i d).size v
     → IsVector K (total_size (take (i + 1) cs)) (u ++ v)

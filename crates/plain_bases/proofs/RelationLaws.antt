@@ -1,16 +1,16 @@
 -- What one more column does to the relations among columns.
-use Rattle.std.proofs.Common.{◌≡◌, ◌≢◌, ◌⊎◌, inl, inr, ℕ, zero, suc, ◌+◌, ◌<◌, ◌≤◌, List, [], ◌∷◌, ◌++◌, length, get_or, take, drop, All, refl, sym, ap, ap₂, ◌∙◌, subst, arith, append_assoc, add-one}
+use Rattle.std.proofs.Common.{◌≡◌, ◌≢◌, ◌⊎◌, inl, inr, ℕ, zero, suc, ◌+◌, ◌<◌, List, [], ◌∷◌, ◌++◌, length, get_or, take, drop, All, refl, sym, ap, ap₂, ◌∙◌, subst, arith, append_assoc, add-one}
 use Rattle.std.proofs.lemmas.List.{length-append, length-drop, append-nil, length-take-le, take-append-drop}
 use Rattle.std.proofs.Math.Seq.{take-append_seam, take-append-add, take-length, drop-cons}
-use Rattle.std.proofs.lemmas.List.Elements.{All-nil, All-push}
+use Rattle.std.proofs.lemmas.List.Elements.{All-push}
 use Rattle.std.proofs.lemmas.Bool.{cases_eq}
 use Rattle.dense_blocks.specs.Field.{Ops, IsField}
 use Rattle.dense_blocks.specs.Vectors.{IsVector, zeros, plus, negative, scaled, combination}
 use Rattle.dense_blocks.specs.Spans.{IsCombination}
-use Rattle.dense_blocks.proofs.ScalarLaws.{zero_below, one_below, zero_add, mul_neg, neg_neg}
-use Rattle.dense_blocks.proofs.Shapes.{Vector, Matrix, to_vector, from_vector, vector-size, vector-nil, append-vector, matrix_of_rows, matrix-size}
-use Rattle.dense_blocks.proofs.VectorLaws.{zeros-vector, plus-vector, scaled-vector, combination-vector, combination-plus, combination-scaled, combination-negative, combination-zeros, combination-append, combination-push, plus-append, scaled-append, scaled-zeros, scaled-zero, scaled-neg_one, scaled-neg, scaled-mul, scaled-one, zeros-plus, plus-zeros, plus-negative, negative-unique, zeros-plus-zeros, plus-assoc, scaled-add}
-use Rattle.dense_blocks.proofs.SpanLaws.{combines, spans-append, spans-last, spans-plus, spans-scaled}
+use Rattle.dense_blocks.proofs.ScalarLaws.{zero_add, mul_neg, neg_neg}
+use Rattle.dense_blocks.proofs.Shapes.{Vector, Matrix, to_vector, from_vector, vector-size, append-vector, matrix_of_rows, matrix-size}
+use Rattle.dense_blocks.proofs.VectorLaws.{zeros-vector, plus-vector, scaled-vector, combination-vector, combination-plus, combination-scaled, combination-negative, combination-zeros, combination-append, combination-push, plus-append, scaled-append, scaled-zeros, scaled-zero, scaled-neg_one, scaled-neg, scaled-mul, scaled-one, plus-zeros, plus-negative, negative-unique, zeros-plus-zeros, plus-assoc}
+use Rattle.dense_blocks.proofs.SpanLaws.{spans-append, spans-last, spans-plus, spans-scaled}
 use Rattle.plain_bases.specs.Relations.{IsRelation, SpansRelations, SpansRelationsBelow}
 
 -- a vector of one coordinate more ends with a scalar
@@ -196,17 +196,6 @@ module _ (K : Ops) (F : IsField K) (n : ℕ) where
           subst (IsCombination K (length whole) zs) (ap (λ a. p.ends.front ++ a ∷ zeros (length after)) (sym none) ∙ sym (rejoined w more p))
           (spanned_before zs h p.ends.front p.ends.front_is front_zero);
     }
-
-  -- no column
-  pub relations_none : (columns : List (List ℕ)) → SpansRelationsBelow K n columns 0 []
-  relations_none columns = record {
-    relations = All-nil (IsRelation K n columns);
-    all = λ u more e hu z.
-        let empty : u ≡ [] = vector-nil K u (to_vector K 0 u hu) in
-        let size : more ≡ length columns = omega arith in
-        subst (IsCombination K (length columns) []) (sym (ap₂ ◌++◌ empty (ap zeros size)))
-        (combines K (length columns) [] (zeros (length columns)) [] tt refl);
-  }
 
   place : (columns : List (List ℕ)) (j : ℕ) → j < length columns → columns ≡ take j columns ++ get_or columns j [] ∷ drop (suc j) columns
   place columns j l = sym (take-append-drop j columns) ∙ ap (λ t. take j columns ++ t) (drop-cons columns j [] l)

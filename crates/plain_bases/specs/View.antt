@@ -1,5 +1,5 @@
 -- What cells and matrices in memory stand for.
-use Rattle.std.specs.Prelude.{◌≡◌, ℕ, ◌≤◌, List, filter, map, ◌==◌, All}
+use Rattle.std.specs.Prelude.{◌≡◌, ◌≤◌, List, map, All}
 use Rattle.dense_blocks.specs.Field.{Ops}
 use Rattle.dense_blocks.specs.Vectors.{AllScalars}
 use Rattle.dense_blocks.specs.Blocks.{matrix_of}

@@ -1,12 +1,19 @@
 //! Bases of the cohomology of cells with matrices, by plain elimination over the whole complex.
+//!
+//! For a cellular sheaf this is the cohomology of Curry, Ghrist and Nanda, "Discrete Morse theory for computing cellular sheaf
+//! cohomology" (2016), from the coboundary as it is.
 #![tactic(auto)]
 
-mod basis;
 mod coboundary;
+mod cohomology;
 mod columns;
 mod complements;
 mod complex;
 mod relations;
+#[cfg(test)]
+mod tests;
+#[cfg(test)]
+mod two;
 
-pub use basis::basis as basis_of;
+pub use cohomology::basis;
 pub use complex::{Arrow, Complex};

@@ -4,9 +4,9 @@ use Rattle.dense_blocks.specs.Matrices.{applied}
 use Rattle.dense_blocks.specs.Blocks.{matrix_of}
 use Rattle.dense_blocks.proofs.Shapes.{from_vector}
 use Rattle.dense_blocks.proofs.VectorLaws.{zeros-vector}
-use Rattle.dense_blocks.proofs.Cutting.{cut-size}
-use Rattle.cochain_vec.proofs.CoboundaryLaws.{applied-rows}
-use Rattle.plain_bases.proofs.PartLaws.{value_scalars, applied-nothing}
+use Rattle.dense_blocks.proofs.MatrixLaws.{applied-nil}
+use Rattle.dense_blocks.proofs.BlockLaws.{block-matrix, block_image-vector}
+use Rattle.plain_bases.proofs.PartLaws.{value_scalars}
 use Rattle.plain_bases.proofs.coboundary.arriving.Goals as goal
 
 pub apply-requires-clause-v_scalars : goal.apply-requires-clause-v_scalars
@@ -19,15 +19,15 @@ pub returns-in_ok-apply-in-Some-clause-vector : goal.returns-in_ok-apply-in-Some
 returns-in_ok-apply-in-Some-clause-vector g c =
     let K = g.F.Scalars.ops c.args.f.now in
     let block = c.args.arrow.now.block in
-    let rows = cut-size block.rows block.cols block.entries in
     subst (IsVector K block.rows) (sym c.in_ok-apply-in-Some.ensures.image)
-    (from_vector K block.rows (applied K (matrix_of block) c.in-Some.value.now) (applied-rows K (g.met.F.Scalars.is_field c.args.f.now) block.rows (matrix_of block) c.in-Some.value.now rows))
+    (from_vector K block.rows (applied K (matrix_of block) c.in-Some.value.now) (block_image-vector K (g.met.F.Scalars.is_field c.args.f.now) block c.in-Some.value.now c.requires.fits.scalars))
 
 pub returns-in_ok-zeros-in-None-clause-image : goal.returns-in_ok-zeros-in-None-clause-image
 returns-in_ok-zeros-in-None-clause-image g c =
     let K = g.F.Scalars.ops c.args.f.now in
     let block = c.args.arrow.now.block in
-    c.in_ok-zeros-in-None.ensures.items ∙ sym (applied-nothing K block.rows (matrix_of block) (cut-size block.rows block.cols block.entries))
+    c.in_ok-zeros-in-None.ensures.items
+    ∙ sym (applied-nil K (g.met.F.Scalars.is_field c.args.f.now) block.rows block.cols (matrix_of block) (block-matrix K block c.requires.fits.scalars))
     ∙ ap (applied K (matrix_of block)) (sym c.in-None.ensures.absent)
 
 pub returns-in_ok-zeros-in-None-clause-vector : goal.returns-in_ok-zeros-in-None-clause-vector

@@ -1,6 +1,6 @@
-use Rattle.std.proofs.Common.{◌≡◌, ◌∙◌, ◌<◌, ◌++◌, ◌∷◌, [], sym, subst, ap, ap₂, map, length, get_or, arith, List, ℕ}
+use Rattle.std.proofs.Common.{◌∙◌, ◌++◌, ◌∷◌, [], sym, subst, ap, ap₂, map, length, arith, List, ℕ}
 use Rattle.std.proofs.lemmas.List.{map-append}
-use Rattle.dense_blocks.specs.Vectors.{IsVector, AllScalars}
+use Rattle.dense_blocks.specs.Vectors.{AllScalars}
 use Rattle.dense_blocks.specs.Matrices.{identity}
 use Rattle.dense_blocks.specs.Solving.{lists}
 use Rattle.plain_bases.specs.Parts.{image}

@@ -1,10 +1,11 @@
-use Rattle.std.proofs.Common.{◌≡◌, ◌<◌, ◌∙◌, ◌+◌, [], sym, subst, ap, Vec, ℕ, Global, length, List, take, drop, get_or, vec_len, arith, rules}
+use Rattle.std.proofs.Common.{◌≡◌, ◌<◌, ◌∙◌, [], sym, subst, ap, Vec, ℕ, Global, length, List, drop, get_or, arith}
 use Rattle.std.proofs.lemmas.List.{drop-map}
 use Rattle.dense_blocks.specs.Vectors.{IsVector}
 use Rattle.dense_blocks.specs.Matrices.{IsMatrix}
 use Rattle.dense_blocks.specs.Solving.{lists}
+use Rattle.dense_blocks.proofs.EliminationSteps.{list_at}
 use Rattle.plain_bases.specs.Complements.{Completes, Considered}
-use Rattle.plain_bases.proofs.VecLaws.{lists-size, lists-at, at_vector}
+use Rattle.plain_bases.proofs.VecLaws.{lists-size, vector_at}
 use Rattle.plain_bases.proofs.MemoryLaws.{taken_is_matrix, next_candidate}
 use Rattle.plain_bases.proofs.complements.complement.Goals as goal
 
@@ -32,7 +33,7 @@ consider-requires-clause-candidate g c =
     let inside : i < length candidates.all.items = subst (λ (vs : List (Vec ℕ Global)). i < length vs) c.deref-candidate-items.ensures.value c.loop-candidate-test.true in
     let is = c.deref.ensures.value ∙ ap (λ (v : Vec ℕ Global). v.items) (c.candidate-item.is ∙ ap (λ (vs : List (Vec ℕ Global)). get_or vs i item) c.deref-candidate-items.ensures.value) in
     subst (λ n. IsVector K n c.deref.result.now) (sym c.requires.sizes ∙ sym c.loop-candidate.invariant.size)
-    (subst (IsVector K candidates.size) (sym is) (at_vector K _ candidates.size candidates.all.items c.requires.candidates i item inside))
+    (subst (IsVector K candidates.size) (sym is) (vector_at K _ candidates.size candidates.all.items c.requires.candidates i item inside))
 
 pub loop-candidate-preserved : goal.loop-candidate-preserved
 loop-candidate-preserved g c =
@@ -47,8 +48,8 @@ loop-candidate-preserved g c =
     let hc = subst (λ k. IsMatrix K k others.size (lists candidates.all.items)) (sym (lists-size candidates.all.items))
     (subst (λ n. IsMatrix K (length candidates.all.items) n (lists candidates.all.items)) (sym c.requires.sizes) c.requires.candidates) in
     let inside : i < length candidates.all.items = subst (λ (vs : List (Vec ℕ Global)). i < length vs) c.deref-candidate-items.ensures.value c.loop-candidate-test.true in
-    let is = c.deref.ensures.value ∙ ap (λ (v : Vec ℕ Global). v.items) (c.candidate-item.is ∙ ap (λ (vs : List (Vec ℕ Global)). get_or vs i item) c.deref-candidate-items.ensures.value)
-    ∙ sym (lists-at candidates.all.items i item inside) in
+    let is = c.deref.ensures.value
+    ∙ list_at candidates.all.items i item inside (c.candidate-item.is ∙ ap (λ (vs : List (Vec ℕ Global)). get_or vs i item) c.deref-candidate-items.ensures.value) in
     let considered = subst (λ n. Considered K n (lists taken.all.items) (get_or (lists candidates.all.items) i []) (lists c.consider.new.taken.all.items)) kept.size
     (subst (λ (v : List ℕ). Considered K taken.size (lists taken.all.items) v (lists c.consider.new.taken.all.items)) is c.in_ok-consider.ensures.considered) in
     let step = next_candidate K (g.met.F.Scalars.is_field c.args.f.now) others.size (lists others.all.items) (lists candidates.all.items) ho hc i

@@ -1,5 +1,4 @@
-use Rattle.std.proofs.Common.{◌≡◌, ◌≤◌, length, take, drop, vec_len}
-use Rattle.dense_blocks.specs.Matrices.{IsMatrix}
+use Rattle.std.proofs.Common.{◌≡◌, take, drop}
 use Rattle.dense_blocks.specs.Solving.{lists}
 use Rattle.plain_bases.specs.Complements.{Completes}
 use Rattle.plain_bases.proofs.complements.complement.Given as goal

@@ -1,10 +1,11 @@
-use Rattle.std.proofs.Common.{◌≡◌, ◌≢◌, ◌<◌, ◌∙◌, ◌+◌, ◌++◌, ◌∷◌, [], sym, subst, ap, All, Vec, ℕ, Global, length, List, take, map, arith}
+use Rattle.std.proofs.Common.{◌≡◌, ◌≢◌, ◌<◌, ◌∙◌, ◌+◌, ◌∷◌, [], sym, subst, ap, All, Vec, ℕ, Global, length, List, take, arith}
 use Rattle.std.proofs.lemmas.List.{map-append}
 use Rattle.std.proofs.lemmas.List.Elements.{All-take}
-use Rattle.dense_blocks.specs.Vectors.{IsVector, AllScalars, combination}
-use Rattle.dense_blocks.specs.Solving.{lists, Solves, Combines, Separates}
+use Rattle.dense_blocks.specs.Vectors.{AllScalars, combination}
+use Rattle.dense_blocks.specs.Solving.{lists, Solves, Combines}
+use Rattle.dense_blocks.proofs.EliminationSteps.{list_at}
 use Rattle.plain_bases.specs.Relations.{SpansRelationsBelow}
-use Rattle.plain_bases.proofs.VecLaws.{all_sizes, each_scalars, at_vector, lists-at}
+use Rattle.plain_bases.proofs.VecLaws.{all_sizes, each_scalars, vector_at}
 use Rattle.plain_bases.proofs.MemoryLaws.{own_added, none_added}
 use Rattle.plain_bases.proofs.relations.add_relation.Goals as goal
 
@@ -12,7 +13,7 @@ pub solve-requires-clause-sizes : goal.solve-requires-clause-sizes
 solve-requires-clause-sizes g c =
     let K = g.F.Scalars.ops c.args.f.now in
     let vectors = c.args.vectors.now in
-    let own = at_vector K _ vectors.size vectors.all.items c.requires.vectors c.args.j c.index.result.now c.requires.place in
+    let own = vector_at K _ vectors.size vectors.all.items c.requires.vectors c.args.j c.index.result.now c.requires.place in
     let size : vectors.size ≡ length c.deref-2.result.now = sym (ap length (c.deref-2.ensures.value ∙ ap (λ (v : Vec ℕ Global). v.items) c.index.ensures) ∙ own.size) in
     subst (λ (vs : List (Vec ℕ Global)). All (λ v. length v.items ≡ length c.deref-2.result.now) (take c.args.j vs)) (sym c.deref.ensures.value)
     (All-take (λ v. length v.items ≡ length c.deref-2.result.now) c.args.j vectors.all.items
@@ -29,7 +30,7 @@ pub solve-requires-clause-v_scalars : goal.solve-requires-clause-v_scalars
 solve-requires-clause-v_scalars g c =
     let K = g.F.Scalars.ops c.args.f.now in
     let vectors = c.args.vectors.now in
-    let own = at_vector K _ vectors.size vectors.all.items c.requires.vectors c.args.j c.index.result.now c.requires.place in
+    let own = vector_at K _ vectors.size vectors.all.items c.requires.vectors c.args.j c.index.result.now c.requires.place in
     subst (AllScalars K) (sym (c.deref-2.ensures.value ∙ ap (λ (v : Vec ℕ Global). v.items) c.index.ensures)) own.scalars
 
 pub returns-in-Combination : goal.returns-in-Combination
@@ -38,7 +39,7 @@ returns-in-Combination g c =
     let vectors = c.args.vectors.now in
     let vs = vectors.all.items in
     let v = c.deref-2.result.now in
-    let is = c.deref-2.ensures.value ∙ ap (λ (v : Vec ℕ Global). v.items) c.index.ensures ∙ sym (lists-at vs c.args.j c.index.result.now c.requires.place) in
+    let is = c.deref-2.ensures.value ∙ list_at vs c.args.j c.index.result.now c.requires.place c.index.ensures in
     let solved : Combines K (lists (take c.args.j c.deref.result.now)) v c.in-Combination.c.items = subst (Solves K (lists (take c.args.j c.deref.result.now)) v) c.in-Combination.is c.in_ok-c.ensures in
     let over : Combines K (lists (take c.args.j vs)) v c.in-Combination.c.items =
     subst (λ (us : List (Vec ℕ Global)). Combines K (lists (take c.args.j us)) v c.in-Combination.c.items) c.deref.ensures.value solved in
@@ -52,7 +53,7 @@ returns g c =
     let vectors = c.args.vectors.now in
     let vs = vectors.all.items in
     let v = c.deref-2.result.now in
-    let is = c.deref-2.ensures.value ∙ ap (λ (v : Vec ℕ Global). v.items) c.index.ensures ∙ sym (lists-at vs c.args.j c.index.result.now c.requires.place) in
+    let is = c.deref-2.ensures.value ∙ list_at vs c.args.j c.index.result.now c.requires.place c.index.ensures in
     let solved = subst (Solves K (lists (take c.args.j c.deref.result.now)) v) c.in-Apart.is c.in_ok-c.ensures in
     let apart = subst (λ (us : List (Vec ℕ Global)). (d : List ℕ) → combination K (length v) d (lists (take c.args.j us)) ≢ v) c.deref.ensures.value solved.1 in
     none_added K (g.met.F.Scalars.is_field c.args.f.now) vectors.size vs c.requires.vectors c.args.j c.requires.place (lists c.args.found.now.items) c.requires.before v is apart

@@ -1,4 +1,4 @@
-use Rattle.std.proofs.Common.{◌≡◌, ℕ, List, subst, sym, ◌∙◌, length, arith}
+use Rattle.std.proofs.Common.{◌≡◌, ℕ, subst, length, arith}
 use Rattle.dense_blocks.specs.Solving.{lists}
 use Rattle.plain_bases.specs.Relations.{SpansRelationsBelow}
 use Rattle.plain_bases.proofs.RelationLaws.{relations_all}

@@ -1,9 +1,9 @@
-use Rattle.std.proofs.Common.{◌≡◌, ◌≤◌, ◌∙◌, List, sym, subst}
+use Rattle.std.proofs.Common.{◌≤◌, ◌∙◌, List, sym, subst}
 use Rattle.std.specs.Prelude.{◌==◌}
 use Rattle.cochain_vec.specs.declared.cell.Cell.{Cell}
 use Rattle.cochain_vec.specs.Complexes.{total_size}
 use Rattle.plain_bases.proofs.ComplexLaws.{few_of}
-use Rattle.plain_bases.proofs.basis.columns_into.Goals as goal
+use Rattle.plain_bases.proofs.cohomology.columns_into.Goals as goal
 
 pub total_size-requires : goal.total_size-requires
 total_size-requires g c =

@@ -1,4 +1,4 @@
-use Rattle.std.proofs.Common.{◌≡◌, ◌+◌, ◌∙◌, suc, ℕ, List, length, sym, subst, ap, add-one}
+use Rattle.std.proofs.Common.{◌∙◌, suc, ℕ, List, length, sym, subst, ap, add-one}
 use Rattle.dense_blocks.specs.Solving.{lists}
 use Rattle.cochain_vec.specs.Complexes.{coordinates}
 use Rattle.plain_bases.specs.View.{complex_of}
@@ -8,7 +8,7 @@ use Rattle.plain_bases.specs.Complements.{Completes}
 use Rattle.plain_bases.proofs.VecLaws.{lists-size}
 use Rattle.plain_bases.proofs.BasisLaws.{columns-size, completes_is_basis}
 use Rattle.plain_bases.proofs.ComplexLaws.{rows_fit}
-use Rattle.plain_bases.proofs.basis.basis.Goals as goal
+use Rattle.plain_bases.proofs.cohomology.basis.Goals as goal
 
 pub complement-requires-clause-sizes : goal.complement-requires-clause-sizes
 complement-requires-clause-sizes g c =

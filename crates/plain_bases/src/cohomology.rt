@@ -26,7 +26,7 @@ fn cells_of(alloc: Global, complex: &Complex, degree: u32) -> Result<Vec<Cell>, 
         .collect(alloc)
 }
 
-/// The columns of the coboundary from a degree to the next.
+/// The columns of the coboundary from a degree to the next: one for each coordinate of the degree, of the coordinates of the next.
 fn columns_from<F: Scalars>(
     alloc: Global,
     f: &F,
@@ -45,7 +45,7 @@ fn columns_from<F: Scalars>(
     Ok(columns)
 }
 
-/// The columns of the coboundary into a degree; none in degree 0.
+/// The columns of the coboundary into a degree, one for each coordinate of the degree below; none in degree 0.
 fn columns_into<F: Scalars>(
     alloc: Global,
     f: &F,
@@ -67,10 +67,11 @@ fn columns_into<F: Scalars>(
     })
 }
 
-/// A basis of the cohomology of a degree: cocycles for the columns of the coboundary that are combinations of earlier columns,
-/// and of them those that are apart from the coboundaries and from the ones already taken.
+/// A basis of the cohomology of a degree: cocycles that are independent modulo coboundaries, and that span all cocycles with them.
 ///
-/// Each member has one coordinate for each coordinate of the cells of that degree, in order of cells.
+/// They are picked, in order, from the cocycles that the columns of the coboundary give, one for each column that is a combination
+/// of those before it: each that is no combination of the coboundaries and of the members already picked. Each member has the
+/// coordinates of a cochain of that degree, in order of cells. Fails only where memory does.
 pub fn basis<F: Scalars>(
     alloc: Global,
     f: &F,

@@ -1,4 +1,4 @@
-use Rattle.std.proofs.Common.{◌≡◌, ◌≤◌, ◌+◌, ◌∙◌, ℕ, All, List, length, sym, subst, ap, ap₂, filter}
+use Rattle.std.proofs.Common.{◌≤◌, ◌+◌, ◌∙◌, All, List, length, sym, subst, ap, ap₂}
 use Rattle.std.specs.Prelude.{◌==◌}
 use Rattle.dense_blocks.specs.Matrices.{IsMatrix}
 use Rattle.dense_blocks.specs.Solving.{lists}
@@ -8,7 +8,7 @@ use Rattle.plain_bases.specs.declared.complex.Arrow.{Arrow}
 use Rattle.plain_bases.specs.View.{FitsCells}
 use Rattle.plain_bases.specs.Parts.{images}
 use Rattle.plain_bases.proofs.ComplexLaws.{few_of, fits-filter, images-columns, columns_from-vectors}
-use Rattle.plain_bases.proofs.basis.columns_from.Goals as goal
+use Rattle.plain_bases.proofs.cohomology.columns_from.Goals as goal
 
 pub columns-requires-clause-few : goal.columns-requires-clause-few
 columns-requires-clause-few g c =
