@@ -9,8 +9,6 @@ mod cochain;
 mod laws;
 #[cfg(test)]
 mod tests;
-#[cfg(test)]
-mod two;
 
 pub use cell::Cell;
 pub use cochain::{Cochain, add, scale};

@@ -4,8 +4,7 @@ ghost use Rattle.dense_blocks.specs.Two.{two};
 ghost use Rattle.dense_blocks.specs.Vectors.{AllScalars};
 
 use crate::cochain::{Cochain, add, scale};
-use crate::two::Two;
-use dense_blocks::all_scalars;
+use dense_blocks::{Two, all_scalars};
 use std::alloc::{AllocError as NoMemory, Global};
 use std::process::Abort;
 

@@ -12,8 +12,6 @@ mod complex;
 mod relations;
 #[cfg(test)]
 mod tests;
-#[cfg(test)]
-mod two;
 
 pub use cohomology::basis;
 pub use complex::{Arrow, Complex};

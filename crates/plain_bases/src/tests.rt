@@ -6,9 +6,8 @@ ghost use Rattle.plain_bases.specs.View.{FitsCells, IsComplexOver};
 
 use crate::cohomology::basis;
 use crate::complex::{Arrow, Complex};
-use crate::two::Two;
 use cochain_vec::Cell;
-use dense_blocks::{Block, Listed, all_scalars};
+use dense_blocks::{Block, Listed, Two, all_scalars};
 use std::alloc::{AllocError as NoMemory, Global};
 use std::process::Abort;
 

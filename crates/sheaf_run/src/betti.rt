@@ -7,7 +7,7 @@ ghost use Rattle.plain_bases.specs.View.{arrow_of, complex_of, FitsCells, IsComp
 ghost use Rattle.sheaf_run.specs.Sheaves.{numbered, signed, arrow_of_face, sheaf_of, degree_count, AreBetti};
 
 use dense_blocks::{Block, Listed, Two, minus};
-use plain_bases::{Arrow, Complex, basis_of};
+use plain_bases::{Arrow, Complex, basis};
 use sheaf_text::{Cell, Face, Input, Sign, stalk_at};
 use std::alloc::{AllocError as NoMemory, Global};
 
@@ -110,7 +110,7 @@ pub fn betti(alloc: Global, input: &Input) -> Result<Vec<usize>, NoMemory>
     let complex = complex_of(alloc, input)?;
     let mut numbers = Vec::new(alloc);
     for degree in 0..degree_count(input.cells.as_slice()) {
-        let basis = basis_of(alloc, &Two, &complex, degree)?;
+        let basis = basis(alloc, &Two, &complex, degree)?;
         numbers.push(basis.len())?;
     }
     Ok(numbers)
