@@ -1,7 +1,7 @@
 -- Relations among the columns of a coboundary are cocycles; cocycles that complete the coboundaries are a basis.
 use Rattle.std.proofs.Common.{◌≡◌, ℕ, zero, suc, List, [], ◌∷◌, ◌++◌, length, get_or, take, drop, map, All, refl, sym, ap, ◌∙◌, subst, arith, ◌+◌}
 use Rattle.std.proofs.lemmas.List.{length-map, length-append, take-append-drop}
-use Rattle.std.proofs.lemmas.List.Elements.{All-contains}
+use Rattle.std.proofs.lemmas.List.Elements.{All-contains, All-map}
 use Rattle.dense_blocks.specs.Field.{Ops, IsField}
 use Rattle.dense_blocks.specs.Vectors.{plus, combination}
 use Rattle.dense_blocks.specs.Matrices.{identity}
@@ -23,19 +23,16 @@ module _ (K : Ops) (F : IsField K) (C : CellularComplex) (fits : RowsFit C) wher
       length-map (identity (coordinates C k)) (coboundary K C k)
       ∙ matrix-size K (coordinates C k) (coordinates C k) (identity (coordinates C k)) (identity-matrix K F (coordinates C k))
 
-  coboundary_rows : (k m : ℕ) (us : List (List ℕ)) → length us ≡ m → Matrix K m (coordinates C (suc k)) (map (coboundary K C k) us)
-  coboundary_rows k zero [] e = tt
-  coboundary_rows k zero (u ∷ us) e = absurd (omega arith)
-  coboundary_rows k (suc m) [] e = absurd (omega arith)
-  coboundary_rows k (suc m) (u ∷ us) e = (coboundary-cochain K F C fits k u, coboundary_rows k m us (omega arith))
-
   -- the columns from a degree are cochains of the next one
   pub columns_from-rows : (k : ℕ) → Matrix K (length (columns_from K C k)) (coordinates C (suc k)) (columns_from K C k)
   columns_from-rows k =
-      coboundary_rows k (length (columns_from K C k)) (identity (coordinates C k))
-      (sym (length-map (identity (coordinates C k)) (coboundary K C k)))
+      let n = coordinates C (suc k) in
+      let units = identity (coordinates C k) in
+      matrix_of_rows K (length (columns_from K C k)) n (columns_from K C k) refl
+      (All-map (IsVector K n) (coboundary K C k) units
+      (λ i d l. from_vector K n (coboundary K C k (get_or units i d)) (coboundary-cochain K F C fits k (get_or units i d))))
 
-  pub columns_into-rows : (k : ℕ) → Matrix K (length (columns_into K C k)) (coordinates C k) (columns_into K C k)
+  columns_into-rows : (k : ℕ) → Matrix K (length (columns_into K C k)) (coordinates C k) (columns_into K C k)
   columns_into-rows zero = tt
   columns_into-rows (suc k) = columns_from-rows k
 

@@ -19,7 +19,7 @@ use Rattle.plain_bases.proofs.BasisLaws.{columns_from-rows}
 use Rattle.plain_bases.proofs.VecLaws.{lists-size}
 
 -- some of the cells have no more coordinates than all
-pub total_size-filter-le : (p : Cell → Bool) (cs : List Cell) → total_size (filter p cs) ≤ total_size cs
+total_size-filter-le : (p : Cell → Bool) (cs : List Cell) → total_size (filter p cs) ≤ total_size cs
 total_size-filter-le p [] = omega arith
 total_size-filter-le p (c ∷ cs) = go (p c) (total_size-filter-le p cs)
   where

@@ -12,6 +12,7 @@ use Rattle.dense_blocks.proofs.MatrixLaws.{identity-matrix}
 pub lists-size : (vs : List (Vec ℕ Global)) → length (lists vs) ≡ length vs
 lists-size vs = length-map vs (λ v. v.items)
 
+-- each vector of a matrix in memory
 pub vector_at : (K : Ops) (m n : ℕ) (vs : List (Vec ℕ Global)) → IsMatrix K m n (lists vs) → (k : ℕ) (d : Vec ℕ Global) → k < length vs → IsVector K n (get_or vs k d).items
 vector_at K m n vs h k d l = subst (IsVector K n) (get_or-map (λ v. v.items) vs k d [] l) (h.rows_are k [] (subst (λ j. k < j) (sym (lists-size vs)) l))
 

@@ -179,7 +179,7 @@ fn has_dimensions(rt: HostRuntime) -> Result<(), NoMemory> {
         TRIANGLE,
         TETRAHEDRON,
     ];
-    for case in &cases {
+    for (number, case) in cases.iter().enumerate() {
         let complex = complex(&rt, rt.alloc(), case)?;
         let dimensions = case.dimensions;
         for degree in 0..3 {
@@ -187,7 +187,7 @@ fn has_dimensions(rt: HostRuntime) -> Result<(), NoMemory> {
             assert_eq!(rt;
                 members.len(),
                 dimensions[degree as usize],
-                "in degree {degree}"
+                "case {number}, degree {degree}"
             );
         }
     }
