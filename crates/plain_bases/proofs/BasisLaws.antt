@@ -1,9 +1,9 @@
 -- Relations among the columns of a coboundary are cocycles; cocycles that complete the coboundaries are a basis.
-use Rattle.std.proofs.Common.{◌≡◌, ℕ, zero, suc, List, [], ◌∷◌, ◌++◌, length, get_or, take, drop, map, All, refl, sym, ap, ◌∙◌, subst, arith, ◌+◌}
+use Rattle.std.proofs.Common.{◌≡◌, ℕ, zero, suc, List, [], ◌++◌, length, get_or, take, drop, All, refl, sym, ap, ◌∙◌, subst, ◌+◌}
 use Rattle.std.proofs.lemmas.List.{length-map, length-append, take-append-drop}
 use Rattle.std.proofs.lemmas.List.Elements.{All-contains, All-map}
 use Rattle.dense_blocks.specs.Field.{Ops, IsField}
-use Rattle.dense_blocks.specs.Vectors.{plus, combination}
+use Rattle.dense_blocks.specs.Vectors.{IsVector, plus, combination}
 use Rattle.dense_blocks.specs.Matrices.{identity}
 use Rattle.dense_blocks.specs.Spans.{IsCombination}
 use Rattle.dense_blocks.proofs.Shapes.{Vector, Matrix, to_vector, from_vector, vector-size, matrix-size, matrix_of_rows, append-matrix}
