@@ -1,0 +1,6 @@
+//! The finite fields of the table: arithmetic modulo a prime up to 31.
+#![tactic(auto)]
+
+mod field;
+
+pub use field::Field;
