@@ -5,8 +5,9 @@ ghost use Rattle.field_table.specs.Table.{ops_of, order_of, orders};
 
 use dense_blocks::Scalars;
 
-/// A finite field of the table, named by its order.
+/// A finite field of the table, named by its order; two are equal where their orders are.
 #[derive(Clone, Copy, Debug, PartialEq, Eq)]
+#[non_exhaustive]
 pub enum Field {
     Two = 2,
     Three = 3,
@@ -45,15 +46,15 @@ impl Field {
         }
     }
 
-    /// The order.
+    /// The order, which sums and products are taken modulo.
     fn modulus(self) -> u8
         ensures { result ≡ order_of self }
     {
         self as u8
     }
 
-    #[tactic(auto, unfolding(crate::specs::Modular::inverse, crate::specs::Modular::inverses))]
     /// The inverses of 1, 2, .. up to the last scalar.
+    #[tactic(auto, unfolding(crate::specs::Modular::inverse, crate::specs::Modular::inverses))]
     fn inverses(self) -> &'static [u8]
         ensures { result.now ≡ inverses (order_of self) }
     {
@@ -100,7 +101,8 @@ impl Scalars for Field {
     }
 
     fn neg(&self, a: u8) -> u8 {
-        (self.modulus() - a) % self.modulus()
+        let order = self.modulus();
+        (order - a) % order
     }
 
     fn mul(&self, a: u8, b: u8) -> u8 {
