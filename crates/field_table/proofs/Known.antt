@@ -4,6 +4,7 @@ use Rattle.field_table.specs.declared.field.Field.{Field}
 use Rattle.field_table.specs.declared.field.Field.TheVariants.{Two, Three, Five, Seven, Eleven, Thirteen, Seventeen, Nineteen, TwentyThree, TwentyNine, ThirtyOne}
 use Rattle.field_table.specs.Table.{order_of, orders}
 
+-- the order of a field stands among the orders
 contains_order : (f : Field) → Contains orders (order_of f)
 contains_order Two = (0, lit< tt, refl)
 contains_order Three = (1, lit< tt, refl)
@@ -17,6 +18,6 @@ contains_order TwentyThree = (8, lit< tt, refl)
 contains_order TwentyNine = (9, lit< tt, refl)
 contains_order ThirtyOne = (10, lit< tt, refl)
 
--- at the order of a field there is a field
+-- so there is a field at an order that is one's order
 pub known_at : (f : Field) (order : ℕ) → order ≡ order_of f → IsSome (Some f) ↔ Contains orders order
 known_at f order e = (λ _. subst (Contains orders) (sym e) (contains_order f), λ _. refl)

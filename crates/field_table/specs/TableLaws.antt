@@ -1,13 +1,13 @@
 -- The laws of the fields of the table.
-use Rattle.std.proofs.Common.{◌≡◌, ℕ, ◌≤◌, true, refl, lit≤}
-use Rattle.dense_blocks.specs.Field.{Ops, IsField}
+use Rattle.std.proofs.Common.{refl, lit≤}
+use Rattle.dense_blocks.specs.Field.{IsField}
 use Rattle.field_table.specs.declared.field.Field.{Field}
 use Rattle.field_table.specs.declared.field.Field.TheVariants.{Two, Three, Five, Seven, Eleven, Thirteen, Seventeen, Nineteen, TwentyThree, TwentyNine, ThirtyOne}
-use Rattle.field_table.specs.Modular.{inverse, modulo}
-use Rattle.field_table.specs.Table.{order_of, ops_of}
-use Rattle.field_table.specs.ModularLaws.{has_inverses, modulo_is_field}
+use Rattle.field_table.specs.Modular.{inverse}
+use Rattle.field_table.specs.Table.{ops_of}
+use Rattle.field_table.specs.ModularLaws.{modulo_is_field}
 
--- an order of the table passes the test
+-- each order of the table passes the test, which computes here
 pub table_is_field : (f : Field) → IsField (ops_of f)
 unfolding inverse
 table_is_field Two = modulo_is_field 2 (lit≤ tt) (lit≤ tt) refl

@@ -1,5 +1,4 @@
 ghost use Rattle.std.specs.Prelude.{◌≡◌, ◌↔◌, IsSome, IfSome, Contains};
-ghost use Rattle.dense_blocks.specs.Field.{Ops};
 ghost use Rattle.field_table.specs.Modular.{IsModular, inverses};
 ghost use Rattle.field_table.specs.Table.{ops_of, order_of, orders};
 
@@ -21,6 +20,9 @@ pub enum Field {
     TwentyNine = 29,
     ThirtyOne = 31,
 }
+
+// A field is passed by value.
+const _: () = prove!(size_of::<Field>() == 1);
 
 impl Field {
     /// The field of this order: sums and products are those of whole numbers modulo the order.
