@@ -123,6 +123,7 @@ fn refuses_and_stays(rt: HostRuntime) -> Result<(), Fail> {
         assert_eq!(rt; c.fault_of(face), Some(fault));
         assert_eq!(rt; c.add_face(face), Err(AddFault::Face(fault)));
         assert!(rt; shows(&c, &[0, 0, 1, 2], &held));
+        assert_eq!(rt; c.dims().len(), 4);
         assert!(rt; c.faces_of(2) == [0, 1].as_slice());
         assert!(rt; c.cofaces_of(1) == [2].as_slice());
     }
