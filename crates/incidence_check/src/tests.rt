@@ -1,0 +1,1 @@
+//! Complexes whose incidences are worked by hand.
