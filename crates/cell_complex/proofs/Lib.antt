@@ -2,3 +2,4 @@ pub mod Numbers
 pub mod Entries
 pub mod Faults
 pub mod Counts
+pub mod Callers

@@ -20,7 +20,7 @@ filter_agree_on p q (x ∷ xs) h =
     ap₂ (λ b t. cond b (x ∷ t) t) (All-head (λ x. p x ≡ q x) x xs h) (filter_agree_on p q xs (All-tail (λ x. p x ≡ q x) x xs h))
 
 -- a filter of a filter keeps what passes both tests
-filter-filter : {X : Type 0} (p q : X → Bool) (xs : List X) → filter q (filter p xs) ≡ filter (λ x. p x && q x) xs
+pub filter-filter : {X : Type 0} (p q : X → Bool) (xs : List X) → filter q (filter p xs) ≡ filter (λ x. p x && q x) xs
 filter-filter p q [] = refl
 filter-filter {X} p q (x ∷ xs) = by (p x) (filter-filter p q xs)
   where
@@ -36,6 +36,11 @@ rising-range a n k l =
 
 range-from : (a n : ℕ) → All (λ y. a ≤ y) (range_with_len a n)
 range-from a n k d l =
+    let within : k < n = subst (λ m. k < m) (length-range_with_len a n) l in
+    omega (arith, get_or-range_with_len a n k d within)
+
+pub range-below : (a n : ℕ) → All (λ y. y < a + n) (range_with_len a n)
+range-below a n k d l =
     let within : k < n = subst (λ m. k < m) (length-range_with_len a n) l in
     omega (arith, get_or-range_with_len a n k d within)
 

@@ -103,7 +103,7 @@ impl Complex {
     /// The dimensions of the cells.
     pub fn dims(&self) -> &[u8]
         ensures dims { result.now ≡ self.now.dims }
-        ensures small { AreCells self.now.dims }
+        ensures complex { IsComplex self.now }
     {
         &self.dims
     }
