@@ -6,7 +6,7 @@ use crate::request::Request;
 use crate::sequence::Sequence;
 use crate::simplex::Simplex;
 use crate::workload::Workload;
-use anyhow::{Result, ensure};
+use anyhow::Result;
 use cell_complex::{Complex, Sign};
 use dense_blocks::{Solution, Two, add_scaled, apply, product, solve};
 use incidence_check::check;
@@ -126,7 +126,6 @@ fn run_build<R: Clock + AllocGlobal>(rt: &R, vertices: u32) -> Result<Outcome>
     requires { vertices ≤ 12 }
 {
     let simplex = Simplex::of(rt.alloc(), vertices)?;
-    ensure!(Complex::fits(&simplex.dims), "these are no cells");
     let start = Instant::now(rt)?;
     let complex = Complex::build(rt.alloc(), &simplex.dims, &simplex.faces)?;
     let time = start.elapsed(rt)?;
@@ -141,7 +140,6 @@ fn run_check<R: Clock + AllocGlobal>(rt: &R, vertices: u32) -> Result<Outcome>
     requires { vertices ≤ 12 }
 {
     let simplex = Simplex::of(rt.alloc(), vertices)?;
-    ensure!(Complex::fits(&simplex.dims), "these are no cells");
     let complex = Complex::build(rt.alloc(), &simplex.dims, &simplex.faces)?;
     let start = Instant::now(rt)?;
     check(&complex)?;

@@ -1,5 +1,7 @@
 ghost use Rattle.std.specs.Prelude.{◌≤◌};
+ghost use Rattle.cell_complex.specs.Complexes.{AreCells};
 
+use anyhow::{Result, ensure};
 use cell_complex::{Complex, Face, Sign};
 use std::alloc::{AllocError as NoMemory, Global};
 
@@ -11,11 +13,12 @@ pub struct Simplex {
     pub dims: Vec<u8>,
     /// The faces: those of a cell in order of the vertex left out, with alternating signs.
     pub faces: Vec<Face>,
+    pub ghost cells: { AreCells dims.items },
 }
 
 impl Simplex {
     /// The simplex with so many vertices; with 12 there are 4,096 cells.
-    pub fn of(alloc: Global, vertices: u32) -> Result<Simplex, NoMemory>
+    pub fn of(alloc: Global, vertices: u32) -> Result<Simplex>
         requires { vertices ≤ 12 }
     {
         let mut dims = Vec::new(alloc);
@@ -24,6 +27,7 @@ impl Simplex {
             dims.push(cell.count_ones().saturating_sub(1) as u8)?;
             add_faces(&mut faces, cell, vertices)?;
         }
+        ensure!(Complex::fits(&dims), "these are no cells of a complex");
         Ok(Simplex { dims, faces })
     }
 }
