@@ -1,14 +1,13 @@
 -- What callers cite of a complex.
-use Rattle.std.proofs.Common.{◌≡◌, ℕ, suc, ◌+◌, ◌<◌, ◌≤◌, Bool, true, false, ◌&&◌, ⊎_elim, nat_eq, List, [], ◌∷◌, length, filter, cond, get_or, slice_index, All, refl, sym, ap, ◌∙◌, subst, arith}
-use Rattle.std.specs.List.{list_any, range_with_len}
-use Rattle.std.specs.List.Sorted.{IsStrictlyIncreasing}
+use Rattle.std.proofs.Common.{◌≡◌, ℕ, suc, ◌+◌, ◌<◌, ◌≤◌, Bool, true, false, ◌&&◌, ⊎_elim, nat_eq, List, [], ◌∷◌, length, filter, cond, get_or, slice_index, All, refl, sym, ap, ◌∙◌, arith}
+use Rattle.std.specs.List.{list_any}
 use Rattle.std.proofs.lemmas.Bool.{true≢false, and_parts, or_cases, eqb-true, eq-eqb}
 use Rattle.std.proofs.lemmas.List.Elements.{All-head, All-tail, All-filter}
 use Rattle.std.proofs.lemmas.List.Folds.{list_any_at}
 use Rattle.std.proofs.lemmas.List.FromFn.{length-range_with_len, get_or-range_with_len}
 use Rattle.std.proofs.lemmas.Map.Views.{any-filter_same}
 use Rattle.cell_complex.specs.declared.face.Face.{Face}
-use Rattle.cell_complex.specs.Complexes.{CellComplex, IsComplex, Fits, joins, cells, is_face, faces_of, cofaces_of, middles}
+use Rattle.cell_complex.specs.Complexes.{CellComplex, IsComplex, Fits, joins, cells, is_face, cofaces_of, middles}
 use Rattle.cell_complex.proofs.Numbers.{filter-filter, range-below}
 
 -- s and t are cells, and t is one dimension above s

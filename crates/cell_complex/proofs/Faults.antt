@@ -1,18 +1,15 @@
 -- What no fault says of a face, and what one face more changes.
-use Rattle.std.proofs.Common.{◌≡◌, ◌≢◌, ℕ, zero, suc, ◌+◌, ◌*◌, ◌<◌, ◌≤◌, Bool, true, false, cond, not, ◌&&◌, ◌||◌, ⊎_elim, nat_eq, nat_lt, eqb, List, [], ◌∷◌, ◌++◌, length, map, take, replicate, filter, set, get_or, slice_index, slice_get, Option, None, Some, All, AllPairs, refl, sym, ap, ap₂, ◌∙◌, subst, arith}
-use Rattle.std.specs.List.{list_any, range_with_len, IsDistinct}
-use Rattle.std.specs.List.Sorted.{IsStrictlyIncreasing, IsNonDecreasing}
-use Rattle.std.proofs.lemmas.Bool.{eq-eqb, ne_eqb, eqb-true, eqb-false, lt-ltb, ltb-true, and_from, and_left, and_right, and_cases, and_parts, false_from_ne_true, or_parts, true≢false}
+use Rattle.std.proofs.Common.{◌≡◌, ◌≢◌, ℕ, ◌+◌, ◌<◌, ◌≤◌, Bool, true, false, cond, not, ◌||◌, nat_eq, nat_lt, List, [], ◌∷◌, ◌++◌, length, take, replicate, filter, set, get_or, slice_index, slice_get, None, Some, refl, sym, ap, ap₂, ◌∙◌, subst, arith}
+use Rattle.std.specs.List.{list_any}
+use Rattle.std.specs.List.Sorted.{IsStrictlyIncreasing}
+use Rattle.std.proofs.lemmas.Bool.{eq-eqb, ne_eqb, eqb-true, lt-ltb, ltb-true, and_from, and_left, and_right, and_parts, false_from_ne_true, true≢false}
 use Rattle.std.proofs.lemmas.List.{get_or-take, length-take, get_or_default, take_more, take_all, get_or-replicate, length-replicate}
-use Rattle.std.proofs.lemmas.List.Elements.{All-head, All-tail, All-push, All-weaker, All-get_or}
+use Rattle.std.proofs.lemmas.List.Elements.{All-push, All-get_or}
 use Rattle.std.proofs.lemmas.List.Folds.{list_any-append, list_any_none, list_any_at}
 use Rattle.std.proofs.lemmas.List.FromFn.{length-map-range_with_len, get_or-map-range_with_len, fill_by_all}
 use Rattle.std.proofs.lemmas.List.Kept.{IsStrictlyIncreasing-filter}
 use Rattle.std.proofs.lemmas.List.Quantifiers.{all_pairs_push}
 use Rattle.std.proofs.lemmas.List.Elements.{filter_agree}
-use Rattle.std.proofs.lemmas.Map.Keys.{IsDistinct-from_apart}
-use Rattle.std.proofs.lemmas.Map.Steps.{length-le_from_distinct_below}
-use Rattle.std.proofs.lemmas.Map.Views.{Contains-from_any, exact_unsigned_eq}
 use Rattle.std.proofs.lemmas.Option.{get_or_from_slice_get, slice_get_within}
 use Rattle.cell_complex.specs.declared.face.Face.{Face}
 use Rattle.cell_complex.specs.declared.fault.FaceFault.{FaceFault}
@@ -21,7 +18,7 @@ use Rattle.cell_complex.specs.Complexes.{CellComplex, AreCells, IsComplex, AreAp
 use Rattle.cell_complex.specs.Verdicts.{fault_of, with_first, AllAccepted, IsFirstFault}
 use Rattle.cell_complex.specs.Fields.{IsKept}
 use Rattle.cell_complex.specs.Neighbours.{with_cell}
-use Rattle.cell_complex.proofs.Numbers.{rising-range, non_decreasing, with_cell-filter, set-map-range}
+use Rattle.cell_complex.proofs.Numbers.{rising-range, with_cell-filter, set-map-range}
 
 -- the face fits the cells, and is none of the faces
 pub record IsNew (c : CellComplex) (f : Face) : Type 0 where

@@ -1,5 +1,5 @@
 -- Complexes: a list of the dimensions of the cells, and a list of faces.
-use Rattle.std.specs.Prelude.{◌≡◌, ℕ, ◌+◌, ◌<◌, ◌≤◌, Bool, List, [], ◌∷◌, ◌++◌, Option, length, slice_index, filter, find, position, All, AllPairs, IsTrue, false, ◌==◌, ◌&&◌}
+use Rattle.std.specs.Prelude.{◌≡◌, ℕ, ◌+◌, ◌<◌, ◌≤◌, Bool, List, [], ◌∷◌, ◌++◌, Option, length, slice_index, filter, find, position, All, AllPairs, false, ◌==◌, ◌&&◌}
 use Rattle.std.specs.List.{list_any, range_with_len}
 use Rattle.std.specs.Option.{option_map}
 use Rattle.cell_complex.specs.declared.face.Face.{Face}

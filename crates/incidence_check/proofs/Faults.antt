@@ -1,14 +1,13 @@
 -- Where there is no fault, and what that says.
-use Rattle.std.proofs.Common.{◌≡◌, ◌≢◌, ℕ, ◌+◌, ◌<◌, ◌≤◌, Bool, true, false, cond, not, ◌&&◌, ◌||◌, ◌⊎◌, ⊎_elim, inl, inr, nat_eq, List, [], ◌∷◌, ◌++◌, length, slice_index, slice_get, take, get_or, filter, Option, None, Some, All, Result, Ok, Err, IsOk, ◌↔◌, refl, sym, ap, ap₂, ◌∙◌, subst, arith}
-use Rattle.std.specs.List.{list_any, filter_map, flat_map, range_with_len}
+use Rattle.std.proofs.Common.{◌≡◌, ℕ, ◌+◌, ◌<◌, Bool, true, false, cond, not, ◌&&◌, ◌||◌, ◌⊎◌, ⊎_elim, inl, inr, nat_eq, List, [], ◌∷◌, ◌++◌, length, slice_index, slice_get, take, get_or, filter, None, Some, All, Result, Ok, Err, IsOk, ◌↔◌, refl, sym, ap, ap₂, ◌∙◌, subst, arith}
+use Rattle.std.specs.List.{list_any, filter_map, flat_map}
 use Rattle.std.proofs.lemmas.Bool.{true≢false, cond-false, eq-eqb, eqb-true, and_parts, or_parts, or_cases}
 use Rattle.std.proofs.lemmas.List.Elements.{All-head, filter_passes}
 use Rattle.std.proofs.lemmas.List.Folds.{list_any_more}
-use Rattle.cell_complex.specs.declared.face.Sign.{Sign}
 use Rattle.cell_complex.specs.Complexes.{CellComplex, IsComplex, cells, is_face, sign, faces_of, cofaces_of, middles}
 use Rattle.cell_complex.proofs.Callers.{AreIncident, incident_from_face, middles_by_cofaces, list_any-cofaces_of}
 use Rattle.incidence_check.specs.declared.incidence.Incidence.{Incidence}
-use Rattle.incidence_check.specs.declared.incidence.Incidence.TheVariants.{EdgeEnds, Middles, Signs}
+use Rattle.incidence_check.specs.declared.incidence.Incidence.TheVariants.{EdgeEnds, Signs}
 use Rattle.incidence_check.specs.Incidences.{are_opposite, are_opposite_pair, product, HasOppositeEnds, HasOppositeMiddles, HasRegularIncidences, edge_fault, middles_fault, pair_fault, pair_faults, faults, AnswersFirst}
 use Rattle.incidence_check.specs.Reach.{reaches}
 use Rattle.incidence_check.proofs.Firsts.{filter_map-none, none_from_filter_map, flat_map-none, none_from_flat_map, none_from_append}

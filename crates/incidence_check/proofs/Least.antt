@@ -1,10 +1,10 @@
 -- The least numbers that pass tests.
-use Rattle.std.proofs.Common.{◌≡◌, ℕ, zero, suc, ◌+◌, ◌<◌, ◌≤◌, Bool, true, false, ◌||◌, ◌⊎◌, ⊎_elim, inl, inr, nat_eq, nat_lt, List, [], ◌∷◌, length, get_or, slice_get, min, Option, None, Some, All, refl, sym, ap, ap₂, ◌∙◌, subst, arith, Bor}
+use Rattle.std.proofs.Common.{◌≡◌, ℕ, ◌<◌, ◌≤◌, Bool, true, false, ◌||◌, ◌⊎◌, ⊎_elim, nat_eq, nat_lt, List, length, get_or, slice_get, min, Option, None, Some, refl, sym, ap, ◌∙◌, subst, arith, Bor}
 use Rattle.std.specs.Option.{option_copied}
 use Rattle.std.specs.Slice.{IsGetResult}
 use Rattle.std.specs.List.{AllWithin, list_any}
 use Rattle.std.specs.List.Sorted.{IsNonDecreasing}
-use Rattle.std.proofs.lemmas.Bool.{true≢false, or_from, or_left, or_right, eq-eqb, ne_eqb, ltb-false, ltb-true, cases_lt}
+use Rattle.std.proofs.lemmas.Bool.{or_from, or_left, or_right, eq-eqb, ne_eqb, ltb-false, ltb-true, cases_lt}
 use Rattle.std.proofs.lemmas.List.{get_or_default}
 use Rattle.std.proofs.lemmas.List.Folds.{list_any_none, list_any_at}
 use Rattle.std.proofs.lemmas.Option.{slice_get_past, slice_get-get_or}

@@ -1,4 +1,4 @@
-use Rattle.std.proofs.Common.{ℕ, ◌+◌, ◌≤◌, length, inl, ap, arith}
+use Rattle.std.proofs.Common.{length, inl, ap, arith}
 use Rattle.cell_complex.proofs.Callers.{length-middles}
 use Rattle.incidence_check.proofs.checking.pair_fault.Goals as goal
 

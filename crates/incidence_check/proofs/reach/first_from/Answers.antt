@@ -1,4 +1,4 @@
-use Rattle.std.proofs.Common.{◌≡◌, ℕ, true, false, List, nat_eq, nat_lt, length, slice_get, sym, ◌∙◌, subst, rules}
+use Rattle.std.proofs.Common.{◌≡◌, ℕ, true, false, List, nat_eq, nat_lt, length, sym, ◌∙◌, subst, rules}
 use Rattle.std.specs.List.{AllWithin, list_any}
 use Rattle.std.proofs.lemmas.List.Sorted.{IsPartitionedBy-ltb, IsPartitionPoint-from_clause}
 use Rattle.incidence_check.specs.Reach.{IsLeastFrom}

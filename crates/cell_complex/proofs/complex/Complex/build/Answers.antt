@@ -1,9 +1,8 @@
-use Rattle.std.proofs.Common.{◌≡◌, ℕ, ◌<◌, ◌≤◌, List, length, take, Some, None, slice_get, get_or, refl, sym, ap, ◌∙◌, subst, subst₂, arith}
+use Rattle.std.proofs.Common.{◌≡◌, ℕ, List, length, take, Some, get_or, sym, ap, ◌∙◌, subst, subst₂, arith}
 use Rattle.std.proofs.lemmas.List.{take_all, length-take-le}
 use Rattle.std.proofs.lemmas.Option.{slice_get-get_or}
 use Rattle.cell_complex.specs.declared.face.Sign.TheVariants.{Plus}
 use Rattle.cell_complex.specs.declared.face.Face.{Face}
-use Rattle.cell_complex.specs.declared.fault.FaceFault.{FaceFault}
 use Rattle.cell_complex.specs.Complexes.{CellComplex, IsComplex}
 use Rattle.cell_complex.specs.Verdicts.{AllAccepted, IsFirstFault, fault_of, with_first}
 use Rattle.cell_complex.proofs.Faults.{accepted-complex, first_fault}

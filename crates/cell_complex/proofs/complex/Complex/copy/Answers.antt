@@ -1,4 +1,4 @@
-use Rattle.std.proofs.Common.{◌≡◌, None, sym, ap, ◌∙◌, subst}
+use Rattle.std.proofs.Common.{ap, ◌∙◌}
 use Rattle.cell_complex.specs.Complexes.{CellComplex, with_face}
 use Rattle.cell_complex.specs.Verdicts.{fault_of}
 use Rattle.cell_complex.proofs.Faults.{accepted-complex, with_first-more}

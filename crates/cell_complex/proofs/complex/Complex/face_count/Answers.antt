@@ -1,4 +1,4 @@
-use Rattle.std.proofs.Common.{ℕ, ◌≤◌, length, arith}
+use Rattle.std.proofs.Common.{arith}
 use Rattle.std.proofs.lemmas.List.{length-map}
 use Rattle.cell_complex.specs.Fields.{face_of, shown}
 use Rattle.cell_complex.proofs.Counts.{length-faces}

@@ -1,4 +1,4 @@
-use Rattle.std.proofs.Common.{◌≡◌, ℕ, true, false, List, [], nat_lt, insert, length, map, set, get_or, sym, ap, ◌∙◌, subst, arith, rules, is_ok, if◌then◌else◌}
+use Rattle.std.proofs.Common.{◌≡◌, ℕ, true, false, List, [], nat_lt, insert, length, set, get_or, sym, ap, ◌∙◌, subst, arith, rules, is_ok, if◌then◌else◌}
 use Rattle.std.specs.List.{AllWithin}
 use Rattle.std.specs.List.Sorted.{IsNonDecreasing}
 use Rattle.std.proofs.lemmas.List.{map-set, get_or-map, length-map}

@@ -1,4 +1,4 @@
-use Rattle.std.proofs.Common.{◌≡◌, ℕ, List, [], replicate, map}
+use Rattle.std.proofs.Common.{◌≡◌, [], replicate, map}
 use Rattle.cell_complex.proofs.neighbours.Neighbours.of_cells.Given as goal
 
 abbrev pub invariant-loop-added : goal.invariant-loop-added
