@@ -1,30 +1,35 @@
-//! The benchmark: `sheaf_bench WORKLOAD SIZE` runs one workload of small matrices over the field of two elements.
+//! The benchmark: `sheaf_bench WORKLOAD SIZE` runs one workload of small matrices over the field of two elements, or of
+//! complexes.
 //!
 //! The workloads, where n is the size and all scalars come from one fixed sequence:
 //! - `product`: the product of two blocks of n rows and n columns;
 //! - `apply`: the image of a vector by a block of n rows and n columns;
 //! - `solve`: a combination of n columns of n coordinates that gives their sum;
 //! - `apart`: a functional that is 0 on n columns of n coordinates, which are 0 in the second half of the coordinates,
-//!   and 1 on a vector that is 1 there.
+//!   and 1 on a vector that is 1 there;
+//! - `build`: the complex of a simplex with n vertices and a point beside it, out of its 2ⁿ cells and its faces;
+//! - `check`: the check of the incidences of that complex.
 //!
-//! Standard output is one line: the workload, the size, how many field operations the textbook counts, and a checksum of
-//! the result. It is the same in every run. Standard error has the time of the call alone, without the making of its
-//! arguments: nanoseconds in all, and for each field operation where some are counted.
+//! Standard output is one line: the workload, the size, how many field operations the textbook counts, or how many faces
+//! or chains of two faces there are, and a checksum of the result. It is the same in every run. Standard error has the
+//! time of the call alone, without the making of its arguments: nanoseconds in all, and for each that is counted.
 //!
 //! The textbook counts multiplications and additions: 2n³ for `product`, 2n² for `apply`, and for the other two those of
 //! elimination, which takes each independent column off each later column and off the vector, 2n for each time. Of the
 //! columns the first n are taken to be independent in `solve`, and the first half of n, rounded down, in `apart`.
 //!
-//! The size is a number from 1 to 1,024. Any other size, a workload of another name, and more or fewer words are refused
+//! The size is a number from 1 to 1,024, of `build` and `check` from 1 to 12. Any other size, a workload of another name, and more or fewer words are refused
 //! by a line on standard error and exit status 2. Without memory, or where the clock or the output fails, the status is 1.
 #![tactic(auto)]
 
 mod request;
 mod runs;
 mod sequence;
+mod simplex;
+mod workload;
 
 use crate::request::Request;
-use crate::runs::run;
+use crate::runs::{Outcome, run};
 use anyhow::Result;
 use std::process::ExitCode;
 use std::rt::{Clock, Env};
@@ -50,16 +55,20 @@ where
     R: Clock + Print + Eprint + AllocGlobal,
 {
     let outcome = run(rt, request)?;
-    let operations = request.operations();
-    let checksum = outcome.checksum;
-    println!(rt; "{request}: {operations} field operations, checksum {checksum:08x}")?;
-    let nanoseconds = outcome.time.as_nanos();
-    if operations == 0 {
+    let unit = request.workload.unit();
+    let Outcome {
+        count,
+        checksum,
+        time,
+    } = outcome;
+    println!(rt; "{request}: {count} {unit}, checksum {checksum:08x}")?;
+    let nanoseconds = time.as_nanos();
+    if count == 0 {
         eprintln!(rt; "{nanoseconds} ns")?;
         return Ok(());
     }
-    let each = outcome.time.as_secs_f64() * 1e9 / f64::from(operations);
-    eprintln!(rt; "{nanoseconds} ns, {each:.4} ns for each field operation")?;
+    let each = time.as_secs_f64() * 1e9 / f64::from(count);
+    eprintln!(rt; "{nanoseconds} ns, {each:.4} ns each")?;
     Ok(())
 }
 

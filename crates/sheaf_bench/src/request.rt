@@ -1,41 +1,9 @@
 ghost use Rattle.std.specs.Prelude.{◌≤◌};
+ghost use Rattle.sheaf_bench.specs.Sizes.{most};
 
+use crate::workload::Workload;
 use std::fmt;
 use thiserror::Error;
-
-/// What is run.
-#[derive(Clone, Copy, Debug, PartialEq, Eq)]
-pub enum Workload {
-    /// The product of two square blocks.
-    Product,
-    /// The image of a vector.
-    Apply,
-    /// A combination of columns that gives a vector.
-    Solve,
-    /// A functional that tells a vector apart from columns.
-    Apart,
-}
-
-impl Workload {
-    fn of(word: &str) -> Option<Workload> {
-        match word {
-            "product" => Some(Workload::Product),
-            "apply" => Some(Workload::Apply),
-            "solve" => Some(Workload::Solve),
-            "apart" => Some(Workload::Apart),
-            _ => None,
-        }
-    }
-
-    fn name(self) -> &'static str {
-        match self {
-            Workload::Product => "product",
-            Workload::Apply => "apply",
-            Workload::Solve => "solve",
-            Workload::Apart => "apart",
-        }
-    }
-}
 
 /// Why words are refused.
 #[derive(Clone, Copy, Debug, PartialEq, Eq, Error)]
@@ -44,11 +12,11 @@ pub enum Refusal {
     #[error("two words are wanted, a workload and a size, as in 'product 256'")]
     Words,
     /// The first word is no workload.
-    #[error("the workloads are product, apply, solve and apart")]
+    #[error("the workloads are product, apply, solve, apart, build and check")]
     Workload,
     /// The second word is no size.
-    #[error("the size is a number from 1 to 1024")]
-    Size,
+    #[error("the size is a number from 1 to {most}")]
+    Size { most: u32 },
 }
 
 /// A workload and its size.
@@ -57,7 +25,7 @@ pub struct Request {
     pub workload: Workload,
     pub size: u32,
     pub ghost positive: { 1 ≤ size },
-    pub ghost small: { size ≤ 1024 },
+    pub ghost small: { size ≤ most workload },
 }
 
 impl Request {
@@ -69,20 +37,10 @@ impl Request {
         let Some(workload) = Workload::of(name.as_str()) else {
             return Err(Refusal::Workload);
         };
+        let most = workload.most();
         match number.as_str().parse::<u32>() {
-            Ok(size) if 1 <= size && size <= 1024 => Ok(Request { workload, size }),
-            _ => Err(Refusal::Size),
-        }
-    }
-
-    /// How many multiplications and additions the textbook counts.
-    pub fn operations(&self) -> u32 {
-        let n = self.size;
-        match self.workload {
-            Workload::Product => 2 * n * n * n,
-            Workload::Apply => 2 * n * n,
-            Workload::Solve => elimination(n, n),
-            Workload::Apart => elimination(n, n / 2),
+            Ok(size) if 1 <= size && size <= most => Ok(Request { workload, size }),
+            _ => Err(Refusal::Size { most }),
         }
     }
 }
@@ -91,13 +49,4 @@ impl fmt::Display for Request {
     fn fmt<W: fmt::Write>(&self, f: &mut fmt::Formatter<W>) -> fmt::Result {
         write!(f, "{} {}", self.workload.name(), self.size)
     }
-}
-
-/// The operations of an elimination of `n` columns of `n` coordinates, the first `rank` of them independent, and a vector:
-/// as many multiplications as additions, `n` for each independent column and each later column or the vector.
-fn elimination(n: u32, rank: u32) -> u32
-    requires few { n ≤ 1024 }
-    requires rank { rank ≤ n }
-{
-    n * rank * (2 * n - rank + 1)
 }

@@ -2,17 +2,23 @@ ghost use Rattle.std.specs.Prelude.{◌≡◌, ◌≤◌, length, All, IfOk};
 ghost use Rattle.dense_blocks.specs.Vectors.{AllScalars};
 ghost use Rattle.dense_blocks.specs.Two.{two};
 
-use crate::request::{Request, Workload};
+use crate::request::Request;
 use crate::sequence::Sequence;
+use crate::simplex::Simplex;
+use crate::workload::Workload;
+use anyhow::{Result, ensure};
+use cell_complex::{Complex, Sign};
 use dense_blocks::{Solution, Two, add_scaled, apply, product, solve};
+use incidence_check::check;
 use std::alloc::{AllocError as NoMemory, Global};
-use std::io;
 use std::rt::Clock;
 use std::time::{Duration, Instant};
 
 /// What a run gave.
 #[derive(Clone, Copy)]
 pub struct Outcome {
+    /// How many operations, faces or chains there were.
+    pub count: u32,
     /// A number that the whole result determines.
     pub checksum: u32,
     /// How long the call took.
@@ -20,16 +26,18 @@ pub struct Outcome {
 }
 
 /// Runs what is asked for; the errors are want of memory and those of the clock.
-pub fn run<R: Clock + AllocGlobal>(rt: &R, request: &Request) -> io::Result<Outcome> {
+pub fn run<R: Clock + AllocGlobal>(rt: &R, request: &Request) -> Result<Outcome> {
     match request.workload {
         Workload::Product => run_product(rt, request.size),
         Workload::Apply => run_apply(rt, request.size),
-        Workload::Solve => run_solve(rt, request.size as usize),
-        Workload::Apart => run_apart(rt, request.size as usize),
+        Workload::Solve => run_solve(rt, request.size),
+        Workload::Apart => run_apart(rt, request.size),
+        Workload::Build => run_build(rt, request.size),
+        Workload::Check => run_check(rt, request.size),
     }
 }
 
-fn run_product<R: Clock + AllocGlobal>(rt: &R, size: u32) -> io::Result<Outcome>
+fn run_product<R: Clock + AllocGlobal>(rt: &R, size: u32) -> Result<Outcome>
     requires { size ≤ 1024 }
 {
     let mut sequence = Sequence::new();
@@ -39,12 +47,13 @@ fn run_product<R: Clock + AllocGlobal>(rt: &R, size: u32) -> io::Result<Outcome>
     let c = product(rt.alloc(), &Two, &a, &b)?;
     let time = start.elapsed(rt)?;
     Ok(Outcome {
+        count: 2 * size * size * size,
         checksum: checksum(0, c.entries.as_slice()),
         time,
     })
 }
 
-fn run_apply<R: Clock + AllocGlobal>(rt: &R, size: u32) -> io::Result<Outcome>
+fn run_apply<R: Clock + AllocGlobal>(rt: &R, size: u32) -> Result<Outcome>
     requires { size ≤ 1024 }
 {
     let mut sequence = Sequence::new();
@@ -55,25 +64,46 @@ fn run_apply<R: Clock + AllocGlobal>(rt: &R, size: u32) -> io::Result<Outcome>
     let image = apply(rt.alloc(), &Two, &a, &v)?;
     let time = start.elapsed(rt)?;
     Ok(Outcome {
+        count: 2 * size * size,
         checksum: checksum(0, &image),
         time,
     })
 }
 
-fn run_solve<R: Clock + AllocGlobal>(rt: &R, size: usize) -> io::Result<Outcome> {
-    let columns = Sequence::new().columns(rt.alloc(), size, size)?;
-    let sum = sum_of(rt.alloc(), size, &columns)?;
-    time_solve(rt, &columns, &sum)
+fn run_solve<R: Clock + AllocGlobal>(rt: &R, size: u32) -> Result<Outcome>
+    requires { size ≤ 1024 }
+{
+    let n = size as usize;
+    let columns = Sequence::new().columns(rt.alloc(), n, n)?;
+    let sum = sum_of(rt.alloc(), n, &columns)?;
+    time_solve(rt, elimination(size, size), &columns, &sum)
 }
 
-fn run_apart<R: Clock + AllocGlobal>(rt: &R, size: usize) -> io::Result<Outcome> {
+fn run_apart<R: Clock + AllocGlobal>(rt: &R, size: u32) -> Result<Outcome>
+    requires { size ≤ 1024 }
+{
+    let n = size as usize;
     let mut sequence = Sequence::new();
-    let columns = sequence.columns(rt.alloc(), size, size / 2)?;
-    let v = sequence.vector(rt.alloc(), size, size / 2, 1)?;
-    time_solve(rt, &columns, &v)
+    let columns = sequence.columns(rt.alloc(), n, n / 2)?;
+    let v = sequence.vector(rt.alloc(), n, n / 2, 1)?;
+    time_solve(rt, elimination(size, size / 2), &columns, &v)
 }
 
-fn time_solve<R: Clock + AllocGlobal>(rt: &R, columns: &[Vec<u8>], v: &[u8]) -> io::Result<Outcome>
+/// The operations of an elimination of `n` columns of `n` coordinates, the first `rank` of them independent, and a vector:
+/// as many multiplications as additions, `n` for each independent column and each later column or the vector.
+fn elimination(n: u32, rank: u32) -> u32
+    requires few { n ≤ 1024 }
+    requires rank { rank ≤ n }
+{
+    n * rank * (2 * n - rank + 1)
+}
+
+fn time_solve<R: Clock + AllocGlobal>(
+    rt: &R,
+    count: u32,
+    columns: &[Vec<u8>],
+    v: &[u8],
+) -> Result<Outcome>
     requires sizes { All (λ c. length c.items ≡ length v.now) columns.now }
     requires column_scalars { All (λ c. AllScalars two c.items) columns.now }
     requires v_scalars { AllScalars two v.now }
@@ -85,7 +115,66 @@ fn time_solve<R: Clock + AllocGlobal>(rt: &R, columns: &[Vec<u8>], v: &[u8]) -> 
         Solution::Combination(coefficients) => checksum(1, coefficients),
         Solution::Apart(functional) => checksum(2, functional),
     };
-    Ok(Outcome { checksum, time })
+    Ok(Outcome {
+        count,
+        checksum,
+        time,
+    })
+}
+
+fn run_build<R: Clock + AllocGlobal>(rt: &R, vertices: u32) -> Result<Outcome>
+    requires { vertices ≤ 12 }
+{
+    let simplex = Simplex::of(rt.alloc(), vertices)?;
+    ensure!(Complex::fits(&simplex.dims), "these are no cells");
+    let start = Instant::now(rt)?;
+    let complex = Complex::build(rt.alloc(), &simplex.dims, &simplex.faces)?;
+    let time = start.elapsed(rt)?;
+    Ok(Outcome {
+        count: complex.face_count(),
+        checksum: faces_checksum(&complex),
+        time,
+    })
+}
+
+fn run_check<R: Clock + AllocGlobal>(rt: &R, vertices: u32) -> Result<Outcome>
+    requires { vertices ≤ 12 }
+{
+    let simplex = Simplex::of(rt.alloc(), vertices)?;
+    ensure!(Complex::fits(&simplex.dims), "these are no cells");
+    let complex = Complex::build(rt.alloc(), &simplex.dims, &simplex.faces)?;
+    let start = Instant::now(rt)?;
+    check(&complex)?;
+    let time = start.elapsed(rt)?;
+    Ok(Outcome {
+        count: chains(&complex),
+        checksum: faces_checksum(&complex),
+        time,
+    })
+}
+
+/// How many chains there are of a cell, a face of it and a face of that; the greatest number where they are more.
+fn chains(complex: &Complex) -> u32 {
+    let mut chains: usize = 0;
+    for cell in 0..complex.dims().len() as u32 {
+        let below = complex.faces_of(cell).len();
+        let above = complex.cofaces_of(cell).len();
+        chains = chains.saturating_add(below.saturating_mul(above));
+    }
+    u32::try_from(chains).unwrap_or(u32::MAX)
+}
+
+/// A number that the faces, in their order, determine.
+fn faces_checksum(complex: &Complex) -> u32 {
+    let mut sum = 3;
+    for place in 0..complex.face_count() {
+        let face = complex.face_at(place);
+        let sign = u32::from(face.sign == Sign::Minus);
+        for number in [face.s, face.t, sign] {
+            sum = mixed(sum, number);
+        }
+    }
+    sum
 }
 
 /// The sum of columns of `size` coordinates.
@@ -106,9 +195,14 @@ fn sum_of(alloc: Global, size: usize, columns: &[Vec<u8>]) -> Result<Vec<u8>, No
 fn checksum(kind: u32, bytes: &[u8]) -> u32 {
     let mut checksum = kind;
     for byte in bytes {
-        checksum = checksum
-            .wrapping_add(u32::from(*byte) + 1)
-            .wrapping_mul(16_777_619);
+        checksum = mixed(checksum, u32::from(*byte));
     }
     checksum
+}
+
+/// A number that this sum and the number after it determine.
+fn mixed(sum: u32, number: u32) -> u32 {
+    sum.wrapping_add(number)
+        .wrapping_add(1)
+        .wrapping_mul(16_777_619)
 }

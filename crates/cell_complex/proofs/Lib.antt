@@ -1,0 +1,5 @@
+pub mod Numbers
+pub mod Entries
+pub mod Faults
+pub mod Counts
+pub mod Callers

@@ -1,0 +1,16 @@
+use Rattle.std.proofs.Common.{◌≡◌, None, sym, ap, ◌∙◌, subst}
+use Rattle.cell_complex.specs.Complexes.{CellComplex, with_face}
+use Rattle.cell_complex.specs.Verdicts.{fault_of}
+use Rattle.cell_complex.proofs.Faults.{accepted-complex, with_first-more}
+use Rattle.cell_complex.proofs.complex.Complex.copy.Goals as goal
+
+pub append-requires : goal.append-requires
+append-requires c =
+    ap (λ all. fault_of all c.face_at.result) c.loop-place.invariant
+    ∙ accepted-complex c.args.self.now c.face_count-place-end.ensures.complex c.loop-place.place c.face_at.result c.face_at.ensures
+
+pub loop-place-preserved : goal.loop-place-preserved
+loop-place-preserved c =
+    let self : CellComplex = c.args.self.now in
+    c.in_ok-append.ensures.ok ∙ ap (λ all. with_face all c.face_at.result) c.loop-place.invariant
+    ∙ with_first-more self.dims self.faces c.loop-place.place c.face_at.result c.face_at.ensures

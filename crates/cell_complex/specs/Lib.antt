@@ -1,0 +1,5 @@
+pub mod Complexes
+pub mod Verdicts
+pub mod Neighbours
+pub mod Common
+pub mod Fields

@@ -1,0 +1,61 @@
+ghost use Rattle.std.specs.Prelude.{◌≡◌};
+ghost use Rattle.std.specs.List.Sorted.{IsStrictlyIncreasing};
+ghost use Rattle.std.specs.Iterator.{YieldsFirst, item_count};
+ghost use Rattle.cell_complex.specs.Common.{common};
+
+use std::cmp::Ordering;
+use std::marker::Model;
+
+/// The cells between two cells, rising: what two rising lists have in common.
+#[derive(Debug, Drop)]
+pub struct Middles<'a> {
+    cofaces: &'a [u32],
+    faces: &'a [u32],
+}
+
+impl<'a> Model for Middles<'a> {
+    ghost use Rattle.std.specs.Prelude.{List, ℕ};
+    ghost use Rattle.std.specs.List.Sorted.{IsStrictlyIncreasing};
+    ghost use Rattle.cell_complex.specs.Common.{common};
+
+    ghost Value = { List ℕ };
+
+    ghost view = { λ m. common m.cofaces.now m.faces.now };
+
+    ghost invariant = { λ m. IsStrictlyIncreasing m.cofaces.now × IsStrictlyIncreasing m.faces.now };
+}
+
+impl<'a> Middles<'a> {
+    /// What the two lists have in common.
+    pub(crate) fn of(cofaces: &'a [u32], faces: &'a [u32]) -> Self
+        requires cofaces_rise { IsStrictlyIncreasing cofaces.now }
+        requires faces_rise { IsStrictlyIncreasing faces.now }
+        ensures { result ≡ common cofaces.now faces.now }
+    {
+        Middles { cofaces, faces }
+    }
+}
+
+impl Iterator for Middles<'_> {
+    type Item = u32;
+
+    ghost next_gives = { YieldsFirst (λ m. m) };
+
+    ghost remaining = { item_count (λ m. m) };
+
+    fn next(&mut self) -> Option<u32> {
+        'merge: loop {
+            let (&t, cofaces) = self.cofaces.split_first()?;
+            let (&v, faces) = self.faces.split_first()?;
+            match t.cmp(&v) {
+                Ordering::Less => self.cofaces = cofaces,
+                Ordering::Greater => self.faces = faces,
+                Ordering::Equal => {
+                    self.cofaces = cofaces;
+                    self.faces = faces;
+                    return Some(t);
+                }
+            }
+        }
+    }
+}

@@ -1,0 +1,4 @@
+pub mod Modular
+pub mod ModularLaws
+pub mod Table
+pub mod TableLaws

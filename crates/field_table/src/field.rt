@@ -1,0 +1,118 @@
+ghost use Rattle.std.specs.Prelude.{◌≡◌, ◌↔◌, IsSome, IfSome, Contains};
+ghost use Rattle.field_table.specs.Modular.{IsModular, inverses};
+ghost use Rattle.field_table.specs.Table.{ops_of, order_of, orders};
+
+use dense_blocks::Scalars;
+
+/// A finite field of the table, named by its order; two are equal where their orders are.
+#[derive(Clone, Copy, Debug, PartialEq, Eq)]
+#[non_exhaustive]
+pub enum Field {
+    Two = 2,
+    Three = 3,
+    Five = 5,
+    Seven = 7,
+    Eleven = 11,
+    Thirteen = 13,
+    Seventeen = 17,
+    Nineteen = 19,
+    TwentyThree = 23,
+    TwentyNine = 29,
+    ThirtyOne = 31,
+}
+
+// A field is passed by value.
+const _: () = prove!(size_of::<Field>() == 1);
+
+impl Field {
+    /// The field of this order: sums and products are those of whole numbers modulo the order.
+    ///
+    /// The orders are 2, 3, 5, 7, 11, 13, 17, 19, 23, 29 and 31; there is `None` at any other.
+    pub fn of(order: u32) -> Option<Field>
+        ensures known { IsSome result ↔ Contains orders order }
+        ensures found { IfSome result (λ f. IsModular order (ops_of f)) }
+    {
+        match order {
+            2 => Some(Field::Two),
+            3 => Some(Field::Three),
+            5 => Some(Field::Five),
+            7 => Some(Field::Seven),
+            11 => Some(Field::Eleven),
+            13 => Some(Field::Thirteen),
+            17 => Some(Field::Seventeen),
+            19 => Some(Field::Nineteen),
+            23 => Some(Field::TwentyThree),
+            29 => Some(Field::TwentyNine),
+            31 => Some(Field::ThirtyOne),
+            _ => None,
+        }
+    }
+
+    /// The order, which sums and products are taken modulo.
+    fn modulus(self) -> u8
+        ensures { result ≡ order_of self }
+    {
+        self as u8
+    }
+
+    /// The inverses of 1, 2, .. up to the last scalar.
+    #[tactic(auto, unfolding(crate::specs::Modular::inverse, crate::specs::Modular::inverses))]
+    fn inverses(self) -> &'static [u8]
+        ensures { result.now ≡ inverses (order_of self) }
+    {
+        match self {
+            Field::Two => &[1],
+            Field::Three => &[1, 2],
+            Field::Five => &[1, 3, 2, 4],
+            Field::Seven => &[1, 4, 5, 2, 3, 6],
+            Field::Eleven => &[1, 6, 4, 3, 9, 2, 8, 7, 5, 10],
+            Field::Thirteen => &[1, 7, 9, 10, 8, 11, 2, 5, 3, 4, 6, 12],
+            Field::Seventeen => &[1, 9, 6, 13, 7, 3, 5, 15, 2, 12, 14, 10, 4, 11, 8, 16],
+            Field::Nineteen => &[
+                1, 10, 13, 5, 4, 16, 11, 12, 17, 2, 7, 8, 3, 15, 14, 6, 9, 18,
+            ],
+            Field::TwentyThree => &[
+                1, 12, 8, 6, 14, 4, 10, 3, 18, 7, 21, 2, 16, 5, 20, 13, 19, 9, 17, 15, 11, 22,
+            ],
+            Field::TwentyNine => &[
+                1, 15, 10, 22, 6, 5, 25, 11, 13, 3, 8, 17, 9, 27, 2, 20, 12, 21, 26, 16, 18, 4, 24,
+                23, 7, 19, 14, 28,
+            ],
+            Field::ThirtyOne => &[
+                1, 16, 21, 8, 25, 26, 9, 4, 7, 28, 17, 13, 12, 20, 29, 2, 11, 19, 18, 14, 3, 24,
+                27, 22, 5, 6, 23, 10, 15, 30,
+            ],
+        }
+    }
+}
+
+impl Scalars for Field {
+    ghost use Rattle.field_table.specs.Table.{ops_of};
+    ghost use Rattle.field_table.specs.TableLaws.{table_is_field};
+
+    ghost ops = { ops_of };
+
+    ghost is_field = { table_is_field };
+
+    fn order(&self) -> u32 {
+        u32::from(self.modulus())
+    }
+
+    fn add(&self, a: u8, b: u8) -> u8 {
+        (a + b) % self.modulus()
+    }
+
+    fn neg(&self, a: u8) -> u8 {
+        let order = self.modulus();
+        (order - a) % order
+    }
+
+    fn mul(&self, a: u8, b: u8) -> u8 {
+        (u16::from(a) * u16::from(b) % u16::from(self.modulus())) as u8
+    }
+
+    #[tactic(auto, using(crate::proofs::Inverses::inverse_entries))]
+    fn inv(&self, a: u8) -> u8 {
+        self.inverses()[usize::from(a) - 1]
+    }
+}

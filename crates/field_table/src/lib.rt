@@ -1,0 +1,8 @@
+//! The finite fields of the table: arithmetic modulo the primes up to 31.
+#![tactic(auto)]
+
+mod field;
+#[cfg(test)]
+mod tests;
+
+pub use field::Field;

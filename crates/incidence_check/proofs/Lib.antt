@@ -1,0 +1,3 @@
+mod Firsts
+mod Faults
+mod Least

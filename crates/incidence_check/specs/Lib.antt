@@ -1,0 +1,2 @@
+pub mod Incidences
+pub mod Reach

@@ -1,0 +1,13 @@
+//! Whether the incidences of a complex are regular: two ends of opposite sign at each edge, and signs that cancel between
+//! cells of codimension two.
+#![tactic(auto)]
+
+mod checking;
+mod incidence;
+mod reach;
+mod signs;
+#[cfg(test)]
+mod tests;
+
+pub use checking::check;
+pub use incidence::Incidence;

@@ -1,0 +1,27 @@
+ghost use Rattle.std.specs.Prelude.{◌≡◌};
+ghost use Rattle.incidence_check.specs.Incidences.{are_opposite, product};
+
+use cell_complex::{Complex, Sign};
+
+/// Whether one is plus and the other is minus.
+pub(crate) fn are_opposite(first: Option<Sign>, second: Option<Sign>) -> bool
+    ensures { result ≡ are_opposite first second }
+{
+    match (first, second) {
+        (Some(Sign::Plus), Some(Sign::Minus)) | (Some(Sign::Minus), Some(Sign::Plus)) => true,
+        _ => false,
+    }
+}
+
+/// The product of the signs of `s` in `t` and of `t` in `u`; none where one of them is no face.
+pub(crate) fn product(c: &Complex, s: u32, t: u32, u: u32) -> Option<Sign>
+    ensures { result ≡ product c.now s t u }
+{
+    let first = c.sign(s, t)?;
+    let second = c.sign(t, u)?;
+    Some(if first == second {
+        Sign::Plus
+    } else {
+        Sign::Minus
+    })
+}
