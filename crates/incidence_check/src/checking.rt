@@ -1,6 +1,5 @@
 ghost use Rattle.std.specs.Prelude.{◌≡◌, ◌<◌, ◌↔◌, length, IsOk};
-ghost use Rattle.std.specs.List.{filter_map, flat_map};
-ghost use Rattle.cell_complex.specs.Complexes.{IsComplex, cells};
+ghost use Rattle.cell_complex.specs.Complexes.{IsComplex};
 ghost use Rattle.incidence_check.specs.Incidences.{edge_fault, pair_fault, pair_faults, faults, AnswersFirst, HasRegularIncidences};
 
 use crate::incidence::Incidence;
@@ -9,7 +8,8 @@ use crate::signs::{are_opposite, product};
 use cell_complex::Complex;
 
 /// Whether each edge has exactly two faces, of opposite sign, and between any two cells two dimensions apart are no cells,
-/// or two whose products of signs are opposite. Takes no memory, and time about as there are chains of two faces.
+/// or two whose products of signs are opposite. Takes no memory. It looks only at pairs with a cell between, and costs
+/// about as much as there are chains of two faces.
 ///
 /// # Errors
 ///
