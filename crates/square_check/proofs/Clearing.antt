@@ -1,7 +1,7 @@
 -- Answers that clear pairs.
-use Rattle.std.proofs.Common.{◌≡◌, ◌≢◌, ℕ, ◌+◌, ◌<◌, ◌≤◌, Bool, true, false, cond, ◌&&◌, ◌||◌, ◌⊎◌, ⊎_elim, inl, inr, nat_eq, nat_lt, List, [], ◌∷◌, Option, None, Some, refl, sym, ap, ◌∙◌, subst, arith}
-use Rattle.std.proofs.lemmas.Bool.{true≢false, and_parts, or_parts, or_cases, or_left, or_right, and_from, eq-eqb, eqb-true, lt-ltb, ltb-true, ltb-false, cases_lt, cases_eq}
-use Rattle.square_check.specs.Answers.{is_before, earlier, Fails, Clears, IsFirst, IsFirstOf}
+use Rattle.std.proofs.Common.{◌≡◌, ◌≢◌, ℕ, ◌<◌, ◌≤◌, Bool, true, false, cond, ◌&&◌, ◌⊎◌, ⊎_elim, inl, inr, nat_eq, nat_lt, Option, None, Some, is_none, refl, sym, ◌∙◌, arith}
+use Rattle.std.proofs.lemmas.Bool.{true≢false, and_parts, or_cases, or_left, or_right, and_from, eq-eqb, eqb-true, lt-ltb, ltb-true, cases_lt, cases_eq}
+use Rattle.square_check.specs.Answers.{is_before, earlier, Fails, Clears, IsFirst}
 
 abbrev Before : ℕ × ℕ → ℕ × ℕ → Type 0
 Before p q = (p.0 < q.0) ⊎ ((p.0 ≡ q.0) × (p.1 < q.1))
@@ -85,3 +85,8 @@ module _ (P : ℕ → ℕ → Type 0) where
     fails = h;
     before = λ v w l. k v w l;
   }
+
+-- where there is no first pair that fails, all pairs pass
+pub passing-none : (P : ℕ → ℕ → Type 0) (count : ℕ) (r : Option (ℕ × ℕ)) → is_none r ≡ true → IsFirst P count r → (s u : ℕ) → P s u
+passing-none P count None e h = h
+passing-none P count (Some p) e h = absurd (true≢false (sym e))

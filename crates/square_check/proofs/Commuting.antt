@@ -1,5 +1,5 @@
 -- Squares through the cells between two cells.
-use Rattle.std.proofs.Common.{◌≡◌, ℕ, suc, ◌+◌, ◌<◌, Bool, true, false, ◌&&◌, ◌↔◌, IsTrue, ⊎_elim, List, [], ◌∷◌, length, filter, get_or, nat_eq, slice_index, Option, Some, All, refl, sym, ap, ap₂, ◌∙◌, subst, arith}
+use Rattle.std.proofs.Common.{◌≡◌, ℕ, ◌+◌, ◌<◌, Bool, true, false, ◌&&◌, ◌↔◌, IsTrue, ⊎_elim, List, [], ◌∷◌, length, get_or, nat_eq, Option, Some, All, refl, sym, ap, ap₂, ◌∙◌, subst, arith}
 use Rattle.std.specs.Option.{option_map, option_and_then}
 use Rattle.std.specs.List.{list_any}
 use Rattle.std.proofs.lemmas.Bool.{and_parts, eqb-true, eq-eqb}

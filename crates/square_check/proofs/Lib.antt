@@ -3,3 +3,4 @@ pub mod Placed
 pub mod Clearing
 pub mod Commuting
 pub mod Visited
+pub mod Elsewhere

@@ -1,9 +1,9 @@
 -- Sheaves whose restrictions commute.
-use Rattle.std.specs.Prelude.{◌≡◌, ℕ, ◌<◌, Bool, IsTrue, false, List, Option, Some, length, slice_get, slice_index, All, ◌||◌, ◌==◌, ◌&&◌}
+use Rattle.std.specs.Prelude.{◌≡◌, ℕ, Bool, false, List, Option, Some, length, slice_get, slice_index, All, ◌||◌}
 use Rattle.std.specs.List.{list_any, filter_map}
 use Rattle.std.specs.Option.{option_map, option_and_then}
 use Rattle.cell_complex.specs.declared.face.Face.{Face}
-use Rattle.cell_complex.specs.Complexes.{CellComplex, joins, is_face, place, middles}
+use Rattle.cell_complex.specs.Complexes.{CellComplex, joins, place, middles}
 use Rattle.dense_blocks.specs.Field.{Ops}
 use Rattle.dense_blocks.specs.Vectors.{AllScalars}
 use Rattle.dense_blocks.specs.Matrices.{product}

@@ -4,6 +4,8 @@
 mod answers;
 mod pairs;
 mod squares;
+#[cfg(test)]
+mod tests;
 mod touched;
 
 pub use squares::square;

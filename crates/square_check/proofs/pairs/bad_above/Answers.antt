@@ -1,8 +1,6 @@
-use Rattle.std.proofs.Common.{◌≡◌, ℕ, ◌+◌, ◌<◌, length, get_or, List, nat_eq, Option, All, below_more, sym, ap, ◌∙◌, subst, arith}
+use Rattle.std.proofs.Common.{ℕ, ◌+◌, ◌<◌, length, get_or, List, nat_eq, Option, All, below_more, sym, ap, ◌∙◌, subst, arith}
 use Rattle.std.specs.List.{list_any}
-use Rattle.cell_complex.specs.Complexes.{CellComplex}
 use Rattle.cell_complex.proofs.Callers.{cofaces_of-below, list_any-cofaces_of}
-use Rattle.dense_blocks.specs.Field.{Ops}
 use Rattle.square_check.specs.Answers.{Fails, Clears}
 use Rattle.square_check.specs.Squares.{Commutes}
 use Rattle.square_check.proofs.Clearing.{earlier-fails, earlier-clears_first, earlier-clears_second}

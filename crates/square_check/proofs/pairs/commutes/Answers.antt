@@ -1,4 +1,4 @@
-use Rattle.std.proofs.Common.{◌≡◌, ℕ, List, ◌∷◌, refl, sym, ap, ◌∙◌, subst, arith}
+use Rattle.std.proofs.Common.{◌≡◌, ℕ, List, ◌∷◌, sym, ap, ◌∙◌}
 use Rattle.cell_complex.specs.Complexes.{CellComplex, middles}
 use Rattle.dense_blocks.specs.Field.{Ops}
 use Rattle.square_check.proofs.Placed.{FitsFace, restriction-fits}

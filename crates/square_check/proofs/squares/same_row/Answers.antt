@@ -1,5 +1,5 @@
-use Rattle.std.proofs.Common.{◌≡◌, ℕ, ◌<◌, true, List, refl, sym, ap, ◌∙◌, subst, arith}
-use Rattle.dense_blocks.specs.Field.{Ops, IsField}
+use Rattle.std.proofs.Common.{refl, sym, arith}
+use Rattle.dense_blocks.specs.Field.{Ops}
 use Rattle.dense_blocks.specs.Blocks.{matrix_of}
 use Rattle.dense_blocks.proofs.BlockLaws.{block-matrix, block-matrix_at}
 use Rattle.square_check.proofs.Combined.{combinations-agree}
