@@ -1,0 +1,118 @@
+-- Squares through the cells between two cells.
+use Rattle.std.proofs.Common.{◌≡◌, ℕ, ◌+◌, ◌<◌, Bool, true, false, ◌&&◌, ◌↔◌, IsTrue, ⊎_elim, List, [], ◌∷◌, length, get_or, nat_eq, Option, Some, All, refl, sym, ap, ap₂, ◌∙◌, subst, arith}
+use Rattle.std.specs.Option.{option_map, option_and_then}
+use Rattle.std.specs.List.{list_any}
+use Rattle.std.proofs.lemmas.Bool.{and_parts, eqb-true, eq-eqb}
+use Rattle.std.proofs.lemmas.List.Folds.{list_any_at}
+use Rattle.std.proofs.lemmas.List.FromFn.{length-range_with_len, get_or-range_with_len}
+use Rattle.std.proofs.lemmas.Map.Views.{any-filter_same}
+use Rattle.std.proofs.lemmas.List.Elements.{All-head, All-cons, All-filter, filter_passes}
+use Rattle.cell_complex.specs.Complexes.{CellComplex, IsComplex, cells, is_face, faces_of, middles}
+use Rattle.cell_complex.proofs.Numbers.{range-below}
+use Rattle.cell_complex.proofs.Callers.{AreIncident, incident_from_face}
+use Rattle.incidence_check.specs.Incidences.{HasOppositeMiddles, HasRegularIncidences}
+use Rattle.dense_blocks.specs.Field.{Ops}
+use Rattle.dense_blocks.specs.Matrices.{product}
+use Rattle.dense_blocks.specs.Blocks.{matrix_of}
+use Rattle.dense_blocks.specs.declared.block.Block.{Block}
+use Rattle.square_check.specs.Squares.{restriction, through, Commutes}
+
+-- t lies between s and u
+pub record IsBetween (c : CellComplex) (s u t : ℕ) : Type 0 where
+  pub lower : is_face c s t ≡ true
+  pub upper : is_face c t u ≡ true
+
+pub all-between : (c : CellComplex) (s u : ℕ) → All (IsBetween c s u) (middles c s u)
+all-between c s u k d l =
+    let p = and_parts (is_face c s _) (is_face c _ u) (filter_passes (λ t. is_face c s t && is_face c t u) (cells c) k d l) in
+    record { lower = p.0; upper = p.1 }
+
+pub between-head : (c : CellComplex) (s u t : ℕ) (ts : List ℕ) → middles c s u ≡ t ∷ ts → IsBetween c s u t
+between-head c s u t ts is = All-head (IsBetween c s u) t ts (subst (All (IsBetween c s u)) is (all-between c s u))
+
+pub between-second : (c : CellComplex) (s u t v : ℕ) (ts : List ℕ) → middles c s u ≡ t ∷ v ∷ ts → IsBetween c s u v
+between-second c s u t v ts is = subst (All (IsBetween c s u)) is (all-between c s u) 1 0 (omega arith)
+
+-- between cells of regular incidences are no more than two cells
+pub middles-two : (c : CellComplex) → IsComplex c → HasRegularIncidences c → (s u a b : ℕ) (ts : List ℕ) → middles c s u ≡ a ∷ b ∷ ts
+    → middles c s u ≡ a ∷ b ∷ []
+middles-two c h r s u a b ts is =
+    let t = between-head c s u a (b ∷ ts) is in
+    let low = incident_from_face c h s a t.lower in
+    let high = incident_from_face c h a u t.upper in
+    is ∙ ap (λ xs. a ∷ b ∷ xs) (none ts (⊎_elim
+    (λ (e : middles c s u ≡ []). absurd (omega (arith, ap length is, ap length e)))
+    (λ (m : HasOppositeMiddles c s u). omega (arith, ap length is, ap length m.middles))
+    (r.squares s u low.s_is_cell high.t_is_cell (omega (arith, low.one_up, high.one_up)))))
+  where
+    none : (xs : List ℕ) → length xs ≡ 0 → xs ≡ []
+    none [] e = refl
+    none (x ∷ xs) e = absurd (omega arith)
+
+pub faces_of-below : (c : CellComplex) (t : ℕ) → All (λ s. s < length c.dims) (faces_of c t)
+faces_of-below c t k d l =
+    let h = All-filter (λ s. is_face c s t) (λ s. s < 0 + length c.dims) (cells c) (range-below 0 (length c.dims)) k d l in
+    omega (arith, h)
+
+-- s is in the list below t just where it is a face of t
+pub list_any-faces_of : (c : CellComplex) → IsComplex c → (s t : ℕ) → list_any (nat_eq s) (faces_of c t) ≡ is_face c s t
+list_any-faces_of c h s t =
+    any-filter_same (nat_eq s) (λ v. is_face c v t) (is_face c s t) (λ k e. ap (λ v. is_face c v t) (sym (eqb-true s k e))) (cells c)
+    ∙ by (is_face c s t) (λ e. there (incident_from_face c h s t e))
+  where
+    there : AreIncident c.dims s t → list_any (nat_eq s) (cells c) ≡ true
+    there i =
+        list_any_at (nat_eq s) (cells c) s 0 (omega (arith, i.s_is_cell, length-range_with_len 0 (length c.dims)))
+        (eq-eqb s (get_or (cells c) s 0) (omega (arith, get_or-range_with_len 0 (length c.dims) s 0 i.s_is_cell)))
+
+    by : (b : Bool) → (b ≡ true → list_any (nat_eq s) (cells c) ≡ true) → (b && list_any (nat_eq s) (cells c)) ≡ b
+    by true h = h refl
+    by false h = refl
+
+pub through-is : (K : Ops) (c : CellComplex) (blocks : List Block) (s t u : ℕ) (low up : Block) → restriction c blocks s t ≡ Some low
+    → restriction c blocks t u ≡ Some up → through K c blocks s t u ≡ Some (product K low.cols (matrix_of up) (matrix_of low))
+through-is K c blocks s t u low up is_low is_up =
+    ap₂ (λ l r. option_and_then (λ low. option_map (λ up. product K low.cols (matrix_of up) (matrix_of low)) r) l) is_low is_up
+
+-- no cells between, or one
+pub commutes-none : (K : Ops) (c : CellComplex) (blocks : List Block) (s u : ℕ) → middles c s u ≡ [] → Commutes K c blocks s u
+commutes-none K c blocks s u is =
+    subst (λ ts. All (λ t. All (λ v. through K c blocks s t u ≡ through K c blocks s v u) ts) ts) (sym is) (λ k d l. absurd (omega arith))
+
+pub commutes-one : (K : Ops) (c : CellComplex) (blocks : List Block) (s u t : ℕ) → middles c s u ≡ t ∷ [] → Commutes K c blocks s u
+commutes-one K c blocks s u t is =
+    subst (λ ts. All (λ t. All (λ v. through K c blocks s t u ≡ through K c blocks s v u) ts) ts) (sym is)
+    (All-cons (λ w. All (λ v. through K c blocks s w u ≡ through K c blocks s v u) (t ∷ [])) t []
+    (All-cons (λ v. through K c blocks s t u ≡ through K c blocks s v u) t [] refl (λ k d l. absurd (omega arith))) (λ k d l. absurd (omega arith)))
+
+-- two cells between
+module _ (K : Ops) (c : CellComplex) (blocks : List Block) (s u a b : ℕ) (is : middles c s u ≡ a ∷ b ∷ []) where
+  abbrev at : ℕ → Option (List (List ℕ))
+  at t = through K c blocks s t u
+
+  both : at a ≡ at b → Commutes K c blocks s u
+  both e =
+      subst (λ ts. All (λ t. All (λ v. at t ≡ at v) ts) ts) (sym is)
+      (All-cons (λ t. All (λ v. at t ≡ at v) (a ∷ b ∷ [])) a (b ∷ []) (with a refl e)
+      (All-cons (λ t. All (λ v. at t ≡ at v) (a ∷ b ∷ [])) b [] (with b (sym e) refl) (λ k d l. absurd (omega arith))))
+    where
+      with : (t : ℕ) → at t ≡ at a → at t ≡ at b → All (λ v. at t ≡ at v) (a ∷ b ∷ [])
+      with t p q = All-cons (λ v. at t ≡ at v) a (b ∷ []) p (All-cons (λ v. at t ≡ at v) b [] q (λ k d l. absurd (omega arith)))
+
+  pair : Commutes K c blocks s u → at a ≡ at b
+  pair h = subst (λ ts. All (λ t. All (λ v. at t ≡ at v) ts) ts) is h 0 0 (omega arith) 1 0 (omega arith)
+
+  pub commutes-two : (r : Bool) (up1 low1 up2 low2 : Block) → restriction c blocks a u ≡ Some up1 → restriction c blocks s a ≡ Some low1
+      → restriction c blocks b u ≡ Some up2 → restriction c blocks s b ≡ Some low2 → low1.cols ≡ low2.cols
+      → IsTrue r ↔ (product K low1.cols (matrix_of up1) (matrix_of low1) ≡ product K low1.cols (matrix_of up2) (matrix_of low2))
+      → IsTrue r ↔ Commutes K c blocks s u
+  commutes-two r up1 low1 up2 low2 is_up1 is_low1 is_up2 is_low2 cols h =
+      let first : at a ≡ Some (product K low1.cols (matrix_of up1) (matrix_of low1)) = through-is K c blocks s a u low1 up1 is_low1 is_up1 in
+      let second : at b ≡ Some (product K low1.cols (matrix_of up2) (matrix_of low2)) =
+      through-is K c blocks s b u low2 up2 is_low2 is_up2 ∙ ap (λ n. Some (product K n (matrix_of up2) (matrix_of low2))) (sym cols) in (
+        λ yes. both (first ∙ ap Some (h.0 yes) ∙ sym second),
+        λ all. h.1 (inside _ _ (sym first ∙ pair all ∙ second)),
+      )
+    where
+      inside : (x y : List (List ℕ)) → Some x ≡ Some y → x ≡ y
+      inside x y e = cc
