@@ -11,6 +11,7 @@ use cell_complex::Complex;
 use dense_blocks::{Block, Scalars};
 
 /// Which restrictions may have changed since all squares commuted.
+#[derive(Clone, Copy, Debug)]
 pub enum Touched<'a> {
     /// Any.
     All,
