@@ -224,35 +224,65 @@ fn put_one(
     Ok(sheaf.put_all(stalks, blocks, &[place]))
 }
 
+type Case = (&'static [u8], &'static [Triple], u32, u8);
+
+/// What sealing answers where the block at a place has an entry.
+fn sealed(rt: &impl Abort, alloc: Global, case: Case) -> Result<Option<SealFault>, Fail> {
+    let (dims, triples, place, entry) = case;
+    let mut draft = constant(rt, alloc, 3, dims, triples)?;
+    put(rt, &mut draft, place, scalar(alloc, entry)?);
+    Ok(fault(draft))
+}
+
 #[test]
 fn names_the_first_fault(rt: HostRuntime) -> Result<(), Fail> {
-    let alloc = rt.alloc();
-    let cases: [(&[u8], &[Triple], u32, u8, Option<(u32, u32)>); 4] = [
-        (&TRIANGLE_DIMS, &TRIANGLE, 6, 2, Some((0, 6))),
-        (&TRIANGLE_DIMS, &TRIANGLE, 1, 2, Some((1, 6))),
-        (&TRIANGLE_DIMS, &TRIANGLE, 6, 1, None),
-        (&SEGMENT_DIMS, &SEGMENT, 1, 2, None),
+    let signs = SealFault::Complex(Incidence::Signs { s: 0, u: 6 });
+    let from_0 = SealFault::Noncommuting { s: 0, u: 6 };
+    let from_1 = SealFault::Noncommuting { s: 1, u: 6 };
+    let cases: [(Case, Option<SealFault>); 4] = [
+        ((&TRIANGLE_DIMS, &TRIANGLE, 6, 2), Some(from_0)),
+        ((&TRIANGLE_DIMS, &TRIANGLE, 1, 2), Some(from_1)),
+        ((&SEGMENT_DIMS, &SEGMENT, 1, 2), None),
+        ((&TRIANGLE_DIMS, &BAD_TRIANGLE, 6, 2), Some(signs)),
     ];
-    for (dims, triples, place, entry, want) in cases {
-        let mut draft = constant(&rt, alloc, 3, dims, triples)?;
-        let mut sheaf = draft.copy(alloc)?.seal().ok().expect(&rt, "a sheaf");
-        put(&rt, &mut draft, place, scalar(alloc, entry)?);
-        let wanted = want.map(|(s, u)| SealFault::Noncommuting { s, u });
-        assert_eq!(rt; fault(draft), wanted);
-        let answer = put_one(&rt, alloc, &mut sheaf, place, scalar(alloc, entry)?)?;
-        assert_eq!(rt; answer.err(), want);
-        let mut entries = [1].repeat(alloc, triples.len())?;
-        if want.is_none() {
-            entries[place as usize] = entry;
-        }
-        let twin = sheaf.copy(alloc)?;
-        assert!(rt; has_entries(sheaf.draft().blocks.as_slice(), &entries));
-        assert!(rt; has_entries(twin.draft().blocks.as_slice(), &entries));
+    for (case, want) in cases {
+        assert_eq!(rt; sealed(&rt, rt.alloc(), case)?, want);
     }
-    let mut draft = constant(&rt, alloc, 3, &TRIANGLE_DIMS, &BAD_TRIANGLE)?;
-    put(&rt, &mut draft, 6, scalar(alloc, 2)?);
-    let wanted = SealFault::Complex(Incidence::Signs { s: 0, u: 6 });
-    assert_eq!(rt; fault(draft), Some(wanted));
+    Ok(())
+}
+
+/// The sheaf of the draft.
+fn sheaf(rt: &impl Abort, draft: Draft<Field>) -> Sheaf<Field> {
+    draft.seal().ok().expect(rt, "a sheaf")
+}
+
+/// What putting a block with an entry at a place answers, and whether the sheaf and a copy of it then have the entries.
+fn put_in(
+    rt: &impl Abort,
+    alloc: Global,
+    case: Case,
+    entries: &[u8],
+) -> Result<(Option<(u32, u32)>, bool), Fail> {
+    let (dims, triples, place, entry) = case;
+    let mut sheaf = sheaf(rt, constant(rt, alloc, 3, dims, triples)?);
+    let answer = put_one(rt, alloc, &mut sheaf, place, scalar(alloc, entry)?)?;
+    let twin = sheaf.copy(alloc)?;
+    let kept = has_entries(sheaf.draft().blocks.as_slice(), entries)
+        && has_entries(twin.draft().blocks.as_slice(), entries);
+    Ok((answer.err(), kept))
+}
+
+#[test]
+fn puts_all_or_nothing(rt: HostRuntime) -> Result<(), Fail> {
+    let cases: [(Case, &[u8], Option<(u32, u32)>); 4] = [
+        ((&TRIANGLE_DIMS, &TRIANGLE, 6, 2), &[1; 9], Some((0, 6))),
+        ((&TRIANGLE_DIMS, &TRIANGLE, 1, 2), &[1; 9], Some((1, 6))),
+        ((&TRIANGLE_DIMS, &TRIANGLE, 6, 1), &[1; 9], None),
+        ((&SEGMENT_DIMS, &SEGMENT, 1, 2), &[1, 2], None),
+    ];
+    for (case, entries, want) in cases {
+        assert_eq!(rt; put_in(&rt, rt.alloc(), case, entries)?, (want, true));
+    }
     Ok(())
 }
 
