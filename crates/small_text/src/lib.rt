@@ -5,6 +5,7 @@ mod candidate;
 mod cut;
 mod fault;
 mod limits;
+mod printing;
 
 pub use fault::TextFault;
 pub use limits::{MOST_BYTES, MOST_CELLS, MOST_TOTAL};
