@@ -9,7 +9,7 @@ use Rattle.std.proofs.lemmas.List.Concat.{flat_map-append}
 use Rattle.std.proofs.lemmas.Slice.Zip.{get_or-zip, length-zip}
 use Rattle.cell_complex.specs.declared.face.Face.{Face}
 use Rattle.dense_blocks.specs.declared.block.Block.{Block}
-use Rattle.small_text.specs.Text.{spaced, sign_word, line_text, lines_text, cell_words, face_words}
+use Rattle.small_text.specs.Text.{spaced, sign_word, line_text, lines_text, cell_words, face_words, entries_of}
 
 -- words joined, as the first and a space before each other
 pub join_spaced : (word : List ℕ) (words : List (List ℕ)) → join_with_byte 32 (word ∷ words) ≡ word ++ spaced words
@@ -53,10 +53,6 @@ length-pairs xs ys same = length-zip xs ys ∙ omega arith
 pub cell_pair : (dims stalks : List ℕ) (i : ℕ) → i < length dims → length stalks ≡ length dims → get_or (zip dims stalks) i (get_or dims i 0, get_or stalks i 0) ≡ (get_or dims i 0, get_or stalks i 0)
 cell_pair dims stalks i lt same =
     get_or-zip dims stalks i (get_or dims i 0, get_or stalks i 0) lt (omega arith) ∙ ap₂ (λ d s. (d, s)) (get_or_default dims i (get_or dims i 0) 0 lt) (get_or_default stalks i (get_or stalks i 0) 0 (omega arith))
-
--- the entries of blocks
-abbrev pub entries_of : List Block → List (List ℕ)
-entries_of blocks = map (λ b. b.entries) blocks
 
 pub face_pair : (faces : List Face) (blocks : List Block) (i : ℕ) (f : Face) (b : Block) → i < length faces → length blocks ≡ length faces → slice_get faces i ≡ Some f → b ≡ get_or blocks i b
     → get_or (zip faces (entries_of blocks)) i (f, b.entries) ≡ (f, b.entries)

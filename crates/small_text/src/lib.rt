@@ -1,6 +1,7 @@
 //! The small input form of a sheaf: its printed text and its exact reader.
 #![tactic(auto)]
 
+mod building;
 mod candidate;
 mod cut;
 mod fault;
