@@ -2,7 +2,7 @@
 use Rattle.std.proofs.Common.{◌≡◌, ℕ, zero, suc, ◌+◌, ◌<◌, ◌≤◌, Some, List, [], ◌∷◌, ◌++◌, length, take, get_or, map, slice_get, slice_index, sum, refl, sym, ap, ap₂, ◌∙◌, subst, arith, All}
 use Rattle.std.specs.List.{AllZip, zip}
 use Rattle.std.proofs.lemmas.List.{take_more, get_or_read}
-use Rattle.std.proofs.lemmas.List.Elements.{All-head, All-tail, All-cons, All-nil}
+use Rattle.std.proofs.lemmas.List.Elements.{All-head, All-tail, All-cons, All-nil, All-weaker}
 use Rattle.std.proofs.lemmas.Slice.Zip.{all_zipped_more}
 use Rattle.cell_complex.specs.declared.face.Face.{Face}
 use Rattle.cell_complex.specs.Complexes.{CellComplex, IsComplex, Fits}
@@ -14,17 +14,19 @@ use Rattle.dense_blocks.specs.Vectors.{AllScalars}
 use Rattle.dense_blocks.specs.declared.block.Block.{Block}
 use Rattle.field_table.specs.declared.field.Field.{Field}
 use Rattle.field_table.specs.Table.{order_of, ops_of}
+use Rattle.field_table.specs.TableLaws.{table_is_field}
 use Rattle.field_table.proofs.Known.{order_of-injective}
 use Rattle.cell_complex.specs.declared.fault.FaceFault.{FaceFault}
 use Rattle.square_check.specs.Squares.{HaveShapes}
 use Rattle.sheaf_data.specs.Sheaves.{SheafData, IsDraft, AreStalks, AreBlocks}
 use Rattle.small_text.specs.Says.{dims_in, stalks_in, complex_in, AreSmallStalks, IsAmong, IsBlockOf, Says}
-use Rattle.small_text.specs.Small.{IsSmallDraft}
-use Rattle.small_text.specs.Text.{entries_of}
+use Rattle.small_text.specs.Candidate.{candidate_of}
+use Rattle.small_text.specs.Small.{IsSmallDraft, IsSmall, IsSmallText}
+use Rattle.small_text.specs.Text.{entries_of, text_of}
 use Rattle.small_text.specs.declared.candidate.Cell.{Cell}
 use Rattle.small_text.specs.declared.candidate.Restricted.{Restricted}
 use Rattle.small_text.specs.declared.candidate.Said.{Said}
-use Rattle.small_text.proofs.Again.{cell_at, restricted}
+use Rattle.small_text.proofs.Again.{cell_at, restricted, FitsCell, FitsFace, again}
 
 -- what the text of a draft says
 abbrev pub said_of : SheafData Field → Said
@@ -80,8 +82,45 @@ says_itself d small =
       blocks = subst (λ ss. AllZip (IsBlockOf (ops_of d.field) ss) (said_of d).faces d.blocks) stalks (blocks_said (ops_of d.field) d.stalks d.complex.faces d.blocks small.draft.blocks_fit.shapes small.draft.blocks_fit.scalars);
     }
 
-pub says : (said : Said) (d : SheafData Field) → IsSmallDraft d → said ≡ said_of d → Says said d
+says : (said : Said) (d : SheafData Field) → IsSmallDraft d → said ≡ said_of d → Says said d
 says said d small e = subst (λ x. Says x d) (sym e) (says_itself d small)
+
+-- ---- the text of a draft is read again
+
+fit_cells : (dims stalks : List ℕ) → All (λ d. d ≤ 15) dims → All (λ s. s ≤ 16) stalks → All FitsCell (zip dims stalks)
+fit_cells [] stalks low small = All-nil FitsCell
+fit_cells (d ∷ dims) [] low small = All-nil FitsCell
+fit_cells (d ∷ dims) (s ∷ stalks) low small =
+    All-cons FitsCell (d, s) (zip dims stalks)
+    (record { dim = omega (arith, All-head (λ x. x ≤ 15) d dims low); stalk = omega (arith, All-head (λ x. x ≤ 16) s stalks small) })
+    (fit_cells dims stalks (All-tail (λ x. x ≤ 15) d dims low) (All-tail (λ x. x ≤ 16) s stalks small))
+
+module _ (K : Ops) (below : K.order ≤ 256) (dims : List ℕ) (few : length dims ≤ 4096) where
+  fit_faces : (faces : List Face) (blocks : List Block) → All (Fits dims) faces → All (λ b. AllScalars K b.entries) blocks → All FitsFace (zip faces (entries_of blocks))
+  fit_faces [] blocks fit scalars = All-nil FitsFace
+  fit_faces (f ∷ faces) [] fit scalars = All-nil FitsFace
+  fit_faces (f ∷ faces) (b ∷ blocks) fit scalars =
+      let here = All-head (Fits dims) f faces fit in
+      let entries : AllScalars K b.entries = All-head (λ (x : Block). AllScalars K x.entries) b blocks scalars in
+      All-cons FitsFace (f, b.entries) (zip faces (entries_of blocks))
+      (record {
+        s = omega (arith, here.s_is_cell);
+        t = omega (arith, here.t_is_cell);
+        entries = All-weaker (λ e. e < K.order) (λ e. e < 256) (λ e lt. omega arith) b.entries entries;
+      })
+      (fit_faces faces blocks (All-tail (Fits dims) f faces fit) (All-tail (λ (x : Block). AllScalars K x.entries) b blocks scalars))
+
+said_again : (d : SheafData Field) → IsSmallDraft d → candidate_of (text_of d) ≡ said_of d
+unfolding text_of
+said_again d small =
+    let high = (table_is_field d.field).order_high in
+    again (order_of d.field) (zip d.complex.dims d.stalks) (zip d.complex.faces (entries_of d.blocks)) (omega (arith, high))
+    (fit_cells d.complex.dims d.stalks small.complex.small.low small.draft.stalks_fit.low)
+    (fit_faces (ops_of d.field) high d.complex.dims small.complex.small.few d.complex.faces d.blocks small.complex.fit small.draft.blocks_fit.scalars)
+
+-- the candidate of the text of a draft is that draft
+pub says_text : (bytes : List ℕ) (said : Said) (d : SheafData Field) → said ≡ candidate_of bytes → IsSmallDraft d → bytes ≡ text_of d → Says said d
+says_text bytes said d e small text = says said d small (e ∙ ap candidate_of text ∙ said_again d small)
 
 -- ---- only one draft says it
 
@@ -173,3 +212,18 @@ zip_at R [] ys i d lt all = absurd (omega arith)
 zip_at R (x ∷ xs) [] i d lt all = absurd all
 zip_at R (x ∷ xs) (y ∷ ys) zero d lt all = (y, all.0)
 zip_at R (x ∷ xs) (y ∷ ys) (suc i) d lt all = zip_at R xs ys i d (omega arith) all.1
+
+-- ---- what is read
+
+module _ (bytes : List ℕ) (said : Said) (is_said : said ≡ candidate_of bytes) where
+  -- where no small draft is said, the bytes are no small text
+  pub not_said : ((d : SheafData Field) → IsSmallDraft d → ¬ Says said d) → ¬ IsSmallText bytes
+  not_said none (other, small, text) = none other small.draft (says_text bytes said other is_said small.draft text)
+
+  module _ (d : SheafData Field) (is_draft : Says said d) where
+    pub only : (other : SheafData Field) → IsSmall other → bytes ≡ text_of other → other ≡ d
+    only other small text = same_draft said other d (says_text bytes said other is_said small.draft text) is_draft
+
+    -- where the draft has another text, the bytes are no small text
+    pub not_its_text : ¬ (bytes ≡ text_of d) → ¬ IsSmallText bytes
+    not_its_text unlike (other, small, text) = unlike (text ∙ ap text_of (only other small text))

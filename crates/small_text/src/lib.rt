@@ -7,6 +7,9 @@ mod cut;
 mod fault;
 mod limits;
 mod printing;
+mod reading;
 
 pub use fault::TextFault;
 pub use limits::{MOST_BYTES, MOST_CELLS, MOST_TOTAL};
+pub use printing::print;
+pub use reading::read;
