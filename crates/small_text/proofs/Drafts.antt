@@ -68,8 +68,8 @@ module _ (K : Ops) (stalks : List ℕ) where
       scalars = All-head (λ (x : Block). AllScalars K x.entries) b blocks scalars;
     },
     blocks_said faces blocks
-    (record { count = omega (arith, shapes.count); cols = λ p. shapes.cols (suc p); rows = λ p. shapes.rows (suc p) })
-    (All-tail (λ (x : Block). AllScalars K x.entries) b blocks scalars),
+        (record { count = omega (arith, shapes.count); cols = λ p. shapes.cols (suc p); rows = λ p. shapes.rows (suc p) })
+        (All-tail (λ (x : Block). AllScalars K x.entries) b blocks scalars),
   )
 
 says_itself : (d : SheafData Field) → IsSmallDraft d → Says (said_of d) d
