@@ -13,3 +13,5 @@ pub mod EliminationSteps
 pub mod Solutions
 pub mod Leading
 pub mod Uniqueness
+pub mod ClearingRows
+pub mod ClearingLaws

@@ -1,8 +1,8 @@
 -- The leading answers of an equation are unique: the difference of two of them is zero.
 use Rattle.std.proofs.Common.{◌≡◌, ◌≢◌, ◌⊎◌, inl, inr, ℕ, zero, suc, ◌<◌, ◌≤◌, List, [], ◌∷◌, ◌++◌, length, take, get_or, All, refl, sym, ap, ap₂, ◌∙◌, subst, arith, add-one}
 use Rattle.std.proofs.lemmas.Bool.{cases_eq}
-use Rattle.std.proofs.lemmas.List.{take_all, take_more, take-append-drop, get_or_append_left, length-take-le}
-use Rattle.std.proofs.lemmas.List.Elements.{All-head, All-tail, All-get_or}
+use Rattle.std.proofs.lemmas.List.{take_all, take_more, get_or-take}
+use Rattle.std.proofs.lemmas.List.Elements.{All-cons, All-head, All-tail, All-get_or}
 use Rattle.dense_blocks.specs.Field.{Ops, IsField}
 use Rattle.dense_blocks.specs.Vectors.{AllScalars, IsVector, zeros, plus, negative, scaled, dot, combination}
 use Rattle.dense_blocks.specs.Solving.{IsEarlier, IsEarlierCoordinate, Combines, Separates}
@@ -18,12 +18,6 @@ use Rattle.dense_blocks.proofs.Leading.{plus-at, take-vector}
 last_apart : (k : ℕ) (d : List ℕ) → length d ≡ suc k → d ≡ take k d ++ get_or d k 0 ∷ []
 last_apart k d e = sym (take_all (suc k) d (omega arith)) ∙ ap (λ t. take t d) (sym (add-one k)) ∙ take_more d k 0 (omega arith)
 
-take-at : (k i : ℕ) (d : List ℕ) → i < k → get_or (take k d) i 0 ≡ get_or d i 0
-take-at zero i d l = absurd (omega arith)
-take-at (suc k) i [] l = refl
-take-at (suc k) zero (x ∷ d) l = refl
-take-at (suc k) (suc i) (x ∷ d) l = take-at k i d (omega arith)
-
 dot-take : (K : Ops) (k : ℕ) (p u : List ℕ) → length p ≤ k → dot K p (take k u) ≡ dot K p u
 dot-take K k [] u l = refl
 dot-take K zero (a ∷ p) u l = absurd (omega arith)
@@ -34,10 +28,6 @@ negative-at : (K : Ops) (i : ℕ) (v : List ℕ) → i < length v → get_or v i
 negative-at K i [] l e = absurd (omega arith)
 negative-at K zero (a ∷ v) l e = ap K.neg e
 negative-at K (suc i) (a ∷ v) l e = negative-at K i v (omega arith) e
-
-all_cons : (P : List ℕ → Type 0) (v : List ℕ) (vs : List (List ℕ)) → P v → All P vs → All P (v ∷ vs)
-all_cons P v vs here there zero w l = here
-all_cons P v vs here there (suc j) w l = there j w (omega arith)
 
 module _ (K : Ops) (h : IsField K) where
   -- the last coordinate apart
@@ -78,7 +68,7 @@ module _ (K : Ops) (h : IsField K) where
   combination-leading m n zero vs d hv size l hd e leads = vector-nil K d hd
   combination-leading m n (suc k) vs d hv size l hd e leads =
       by_last (cases_eq (get_or d k 0) 0)
-      (λ rest. combination-leading m n k vs (take k d) hv size (omega arith) (take-vector K (suc k) k d hd (omega arith)) rest (λ i low given. take-at k i d low ∙ leads i (omega arith) given))
+      (λ rest. combination-leading m n k vs (take k d) hv size (omega arith) (take-vector K (suc k) k d hd (omega arith)) rest (λ i low given. get_or-take k d i 0 low ∙ leads i (omega arith) given))
     where
       apart : d ≡ take k d ++ get_or d k 0 ∷ []
       apart = last_apart k d (vector-size K (suc k) d hd)
@@ -118,7 +108,7 @@ module _ (K : Ops) (h : IsField K) where
   functional-leading zero U d hu hd e leads = vector-nil K d hd
   functional-leading (suc k) U d hu hd e leads =
       by_last (cases_eq (get_or d k 0) 0)
-      (λ rest. functional-leading k U (take k d) hu (take-vector K (suc k) k d hd (omega arith)) rest (λ i by low given. take-at k i d low ∙ leads i by (omega arith) given))
+      (λ rest. functional-leading k U (take k d) hu (take-vector K (suc k) k d hd (omega arith)) rest (λ i by low given. get_or-take k d i 0 low ∙ leads i by (omega arith) given))
     where
       apart : d ≡ take k d ++ get_or d k 0 ∷ []
       apart = last_apart k d (vector-size K (suc k) d hd)
@@ -179,8 +169,8 @@ module _ (K : Ops) (h : IsField K) where
       let P : List ℕ → Type 0 = λ u. dot K (plus K p (negative K q)) u ≡ 0 in
       same-by-difference K h n p q hp hq
       (functional-leading n (v ∷ columns) (plus K p (negative K q))
-      (all_cons (AllScalars K) v columns hv (λ j w l. (hc j w l).scalars)) (plus-vector K h n p (negative K q) hp minus_q)
-      (all_cons P v columns (on v (sp.one ∙ sym sq.one)) (λ j w l. on (get_or columns j w) (sp.zero j w l ∙ sym (sq.zero j w l))))
+      (All-cons (AllScalars K) v columns hv (λ j w l. (hc j w l).scalars)) (plus-vector K h n p (negative K q) hp minus_q)
+      (All-cons P v columns (on v (sp.one ∙ sym sq.one)) (λ j w l. on (get_or columns j w) (sp.zero j w l ∙ sym (sq.zero j w l))))
       (λ i by l given.
       let earlier : IsEarlierCoordinate K columns v i =
       record { by = by; of_columns = All-tail (λ u. dot K by (take i u) ≡ get_or u i 0) v columns given; of_v = All-head (λ u. dot K by (take i u) ≡ get_or u i 0) v columns given } in

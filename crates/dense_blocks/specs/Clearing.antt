@@ -1,5 +1,5 @@
 -- Columns brought to those of the identity, one by one.
-use Rattle.std.specs.Prelude.{◌≡◌, ◌≢◌, ℕ, zero, suc, ◌+◌, ◌*◌, ◌<◌, Bool, true, false, List, [], ◌∷◌, take, drop, All, slice_index}
+use Rattle.std.specs.Prelude.{◌≡◌, ◌≢◌, ℕ, zero, suc, ◌+◌, ◌-◌, ◌*◌, ◌<◌, Bool, true, false, List, [], ◌∷◌, ◌++◌, map, take, drop, All, slice_index}
 use Rattle.dense_blocks.specs.Field.{Ops}
 use Rattle.dense_blocks.specs.Vectors.{IsVector, zeros, plus, scaled, dot}
 use Rattle.dense_blocks.specs.Matrices.{IsMatrix}
@@ -53,3 +53,13 @@ pub record IsRaised (K : Ops) (column width : ℕ) (below : List (List ℕ)) (ol
 abbrev pub Raises : Ops → ℕ → ℕ → List (List ℕ) → List ℕ → List ℕ → Bool → Type 0
 Raises K column width below old new true = IsRaised K column width below old new
 Raises K column width below old new false = (new ≡ old) × (slice_index old column ≡ 0) × All (λ row. slice_index row column ≡ 0) below
+
+-- rows side by side
+abbrev pub beside : List (List ℕ) → List (List ℕ) → List (List ℕ)
+beside [] B = []
+beside (a ∷ A) [] = []
+beside (a ∷ A) (b ∷ B) = (a ++ b) ∷ beside A B
+
+-- the vector that undoes a column by its entries above the diagonal
+abbrev pub undoing : Ops → ℕ → ℕ → List (List ℕ) → List ℕ
+undoing K n column rows = map (λ row. K.neg (slice_index row column)) (take column rows) ++ 1 ∷ zeros (n - 1 - column)

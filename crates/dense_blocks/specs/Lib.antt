@@ -8,3 +8,4 @@ pub mod Solving
 pub mod LeadingAnswers
 pub mod Elimination
 pub mod Clearing
+pub mod Inverses

@@ -1,4 +1,4 @@
-ghost use Rattle.std.specs.Prelude.{◌≡◌, ◌≢◌, ◌+◌, ◌*◌, ◌<◌, ◌≤◌, length, map, All, IfSome, IfNone, MatchOption, slice_index, slice_index_or};
+ghost use Rattle.std.specs.Prelude.{[], ◌≡◌, ◌≢◌, ◌+◌, ◌*◌, ◌<◌, ◌≤◌, length, map, All, IfSome, IfNone, MatchOption, slice_index, slice_index_or};
 ghost use Rattle.dense_blocks.specs.Vectors.{AllScalars};
 ghost use Rattle.dense_blocks.specs.Matrices.{cut};
 ghost use Rattle.dense_blocks.specs.Clearing.{Cleared, Clears, Raises, Stuck, without};
