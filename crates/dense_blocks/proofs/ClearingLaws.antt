@@ -1,11 +1,11 @@
 -- One more column of rows brought to that of the identity.
-use Rattle.std.proofs.Common.{◌≡◌, ◌≢◌, ℕ, zero, suc, ◌+◌, ◌-◌, ◌*◌, ◌<◌, ◌≤◌, List, [], ◌∷◌, ◌++◌, length, map, take, drop, get_or, All, refl, sym, ap, ap₂, ◌∙◌, subst, subst₂, arith, add-one, length-append, length-drop}
+use Rattle.std.proofs.Common.{◌≡◌, ◌≢◌, ℕ, zero, suc, ◌+◌, ◌-◌, ◌*◌, ◌<◌, ◌≤◌, List, [], ◌∷◌, ◌++◌, length, map, take, drop, get_or, All, refl, sym, ap, ap₂, ◌∙◌, subst, arith, add-one, length-append, length-drop}
 use Rattle.std.proofs.lemmas.List.{take_more, take-append-le, take-map, take_at, drop_at, get_or-take, get_or-drop, length-map}
 use Rattle.std.proofs.lemmas.List.Elements.{All-cons, All-get_or, All-drop}
 use Rattle.dense_blocks.specs.Field.{Ops, IsField}
 use Rattle.dense_blocks.specs.Vectors.{AllScalars, zeros, plus, scaled, dot}
 use Rattle.dense_blocks.specs.Matrices.{cut}
-use Rattle.dense_blocks.specs.Clearing.{without, Kills, unit, StartUnits, Cleared, Clears, IsRaised}
+use Rattle.dense_blocks.specs.Clearing.{without, Kills, unit, StartUnits, Cleared, IsRaised}
 use Rattle.dense_blocks.proofs.ScalarLaws.{zero_add, mul_zero, one_mul, inv_mul, mul_inv_mul}
 use Rattle.dense_blocks.proofs.Shapes.{Vector, Matrix, to_vector, from_vector, vector-size, vector-scalars, to_matrix, from_matrix, matrix-size, append-matrix, row-vector}
 use Rattle.dense_blocks.proofs.VectorLaws.{plus-vector, scaled-vector, plus-zeros, scaled-zeros, zeros-plus-zeros, plus-dot, scaled-dot, dot-below}

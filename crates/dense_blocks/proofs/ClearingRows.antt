@@ -1,15 +1,15 @@
 -- Rows that a loop clears one by one, in one list of entries.
-use Rattle.std.proofs.Common.{◌≡◌, ℕ, zero, suc, ◌+◌, ◌-◌, ◌*◌, ◌<◌, ◌≤◌, List, [], ◌∷◌, ◌++◌, length, map, take, drop, get_or, refl, sym, ap, ap₂, ◌∙◌, subst, arith, append_assoc, length-append, length-drop}
+use Rattle.std.proofs.Common.{◌≡◌, ℕ, zero, suc, ◌+◌, ◌-◌, ◌*◌, ◌<◌, ◌≤◌, List, [], ◌∷◌, ◌++◌, length, map, take, drop, get_or, refl, sym, ap, ap₂, ◌∙◌, subst, arith, append_assoc, length-drop}
 use Rattle.std.proofs.lemmas.List.{append-nil, take_at, drop_at, drop-drop, drop_all, get_or-map, length-map, length-take-le}
 use Rattle.std.proofs.Math.Nat.{mul-le-mul_right}
 use Rattle.std.proofs.lemmas.List.Elements.{All-append, All-take, All-drop}
 use Rattle.dense_blocks.specs.Field.{Ops, IsField}
-use Rattle.dense_blocks.specs.Vectors.{AllScalars, plus, scaled}
+use Rattle.dense_blocks.specs.Vectors.{AllScalars, scaled}
 use Rattle.dense_blocks.specs.Matrices.{cut}
 use Rattle.dense_blocks.specs.Clearing.{without}
-use Rattle.dense_blocks.proofs.Shapes.{Vector, Matrix, vector_of, row-vector, vector-size, vector-scalars}
+use Rattle.dense_blocks.proofs.Shapes.{Vector, Matrix, vector_of, row-vector, vector-scalars}
 use Rattle.dense_blocks.proofs.VectorLaws.{plus-vector, scaled-vector}
-use Rattle.dense_blocks.proofs.Cutting.{flat, Sized, matrix-sized, flat-size, flat-scalars, cut-size, cut-matrix, cut-row, cut-flat, first_rows, first_rows-none, first_rows-next, first_rows-all}
+use Rattle.dense_blocks.proofs.Cutting.{flat, Sized, matrix-sized, flat-size, cut-size, cut-matrix, cut-row, cut-flat, first_rows, first_rows-none, first_rows-next, first_rows-all}
 
 sized-take : (m n i : ℕ) (A : List (List ℕ)) → Sized m n A → i ≤ m → Sized i n (take i A)
 sized-take m n zero A h l = tt

@@ -15,3 +15,5 @@ pub mod Leading
 pub mod Uniqueness
 pub mod ClearingRows
 pub mod ClearingLaws
+pub mod InverseLaws
+pub mod InvertingSteps

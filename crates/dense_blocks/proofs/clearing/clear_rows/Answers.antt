@@ -1,10 +1,9 @@
-use Rattle.std.proofs.Common.{◌≡◌, ℕ, ◌+◌, ◌-◌, ◌*◌, ◌<◌, List, ◌++◌, length, take, drop, get_or, refl, sym, ap, ap₂, ◌∙◌, subst, arith, length-drop}
-use Rattle.std.proofs.lemmas.List.{length-take-le}
+use Rattle.std.proofs.Common.{◌≡◌, ℕ, ◌+◌, ◌-◌, ◌*◌, ◌<◌, List, ◌++◌, length, take, drop, ap, ap₂, ◌∙◌, arith}
 use Rattle.std.proofs.lemmas.List.Elements.{All-get_or, All-take, All-drop}
 use Rattle.dense_blocks.specs.Field.{Ops, IsField}
-use Rattle.dense_blocks.specs.Vectors.{AllScalars, plus, scaled}
+use Rattle.dense_blocks.specs.Vectors.{plus, scaled}
 use Rattle.dense_blocks.specs.Clearing.{without}
-use Rattle.dense_blocks.proofs.ClearingRows.{ClearsRows, clears_rows-start, clears_rows-next, clears_rows-end, next_row-size}
+use Rattle.dense_blocks.proofs.ClearingRows.{clears_rows-start, clears_rows-next, clears_rows-end, next_row-size}
 use Rattle.dense_blocks.proofs.clearing.clear_rows.Goals as goal
 
 pub loop-i-init : goal.loop-i-init
