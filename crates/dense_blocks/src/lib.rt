@@ -9,6 +9,8 @@ mod combining;
 mod entries;
 mod inverse;
 mod inverting;
+#[cfg(test)]
+mod inverting_tests;
 mod laws;
 mod listed;
 mod operations;
