@@ -25,7 +25,7 @@ take-plus K (suc i) [] v = refl
 take-plus K (suc i) (a ∷ u) [] = refl
 take-plus K (suc i) (a ∷ u) (b ∷ v) = ap (λ t. K.add a b ∷ t) (take-plus K i u v)
 
-take-vector : (K : Ops) (n i : ℕ) (u : List ℕ) → Vector K n u → i ≤ n → Vector K i (take i u)
+pub take-vector : (K : Ops) (n i : ℕ) (u : List ℕ) → Vector K n u → i ≤ n → Vector K i (take i u)
 take-vector K n zero u hu l = tt
 take-vector K zero (suc i) u hu l = absurd (omega arith)
 take-vector K (suc n) (suc i) [] hu l = absurd hu

@@ -13,3 +13,8 @@ pub mod EliminationSteps
 pub mod Solutions
 pub mod Leading
 pub mod SameBlocks
+pub mod Uniqueness
+pub mod ClearingRows
+pub mod ClearingLaws
+pub mod InverseLaws
+pub mod InvertingSteps

@@ -92,7 +92,7 @@ pub zeros-replicate : (n : ℕ) → replicate n 0 ≡ zeros n
 zeros-replicate zero = refl
 zeros-replicate (suc n) = ap (λ t. 0 ∷ t) (zeros-replicate n)
 
-zeros-push : (n : ℕ) → zeros n ++ 0 ∷ [] ≡ zeros (suc n)
+pub zeros-push : (n : ℕ) → zeros n ++ 0 ∷ [] ≡ zeros (suc n)
 zeros-push zero = refl
 zeros-push (suc n) = ap (λ t. 0 ∷ t) (zeros-push n)
 

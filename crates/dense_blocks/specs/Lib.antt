@@ -5,4 +5,7 @@ pub mod Spans
 pub mod Blocks
 pub mod Two
 pub mod Solving
+pub mod LeadingAnswers
 pub mod Elimination
+pub mod Clearing
+pub mod Inverses

@@ -64,6 +64,22 @@ impl Entries {
         Ok(())
     }
 
+    /// Adds these entries at the end; without memory nothing changes.
+    pub(crate) fn push_all(&mut self, more: &[u8]) -> Result<(), NoMemory>
+        ensures ok { OnOk result (self.new ≡ self.old ++ more.now) }
+        ensures err { OnErr result (self.new ≡ self.old) }
+    {
+        self.items.extend_from_slice(more)
+    }
+
+    /// The entries in a vector that may be changed.
+    pub(crate) fn into_items(self) -> SmallVec<u8, 16>
+        ensures { result.items ≡ self }
+    {
+        let Entries { items } = self;
+        items
+    }
+
     /// Adds `count` zeros at the end; without memory some may have been added.
     #[tactic(auto, using(crate::proofs::VectorLaws::pushing))]
     pub fn push_zeros(&mut self, count: usize) -> Result<(), NoMemory>

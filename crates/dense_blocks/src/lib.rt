@@ -4,8 +4,14 @@
 mod block;
 #[cfg(test)]
 mod block_tests;
+mod clearing;
 mod combining;
 mod entries;
+mod inverse;
+mod inverting;
+#[cfg(test)]
+mod inverting_tests;
+mod laws;
 mod listed;
 mod operations;
 mod rows;
@@ -17,6 +23,9 @@ mod two;
 
 pub use block::Block;
 pub use entries::Entries;
+pub use inverse::Inverse;
+pub use inverting::invert;
+pub use laws::{leading_combination_is_unique, leading_functional_is_unique};
 pub use listed::Listed;
 pub use operations::{apply, minus, product, sum};
 pub use rows::{add_scaled, dot_product, first_nonzero, scale, zeros};

@@ -5,7 +5,7 @@ ghost use Rattle.field_table.specs.Modular.{IsModular};
 ghost use Rattle.field_table.specs.Table.{ops_of};
 
 use crate::field::Field;
-use dense_blocks::{Block, Scalars, Solution, all_scalars, minus, product, solve};
+use dense_blocks::{Block, Inverse, Scalars, Solution, all_scalars, apply, invert, minus, product, solve};
 use std::alloc::{AllocError as NoMemory, Global};
 use std::process::Abort;
 
@@ -177,6 +177,11 @@ fn solves(rt: HostRuntime) -> Result<(), NoMemory> {
     let cases = [
         ([[1, 2], [0, 1]], [3, 0], true, [3, 4]),
         ([[1, 2], [2, 4]], [0, 1], false, [3, 1]),
+        // The second column is twice the first.
+        ([[1, 2], [2, 4]], [3, 1], true, [3, 0]),
+        ([[2, 2], [2, 2]], [1, 1], true, [3, 0]),
+        ([[0, 0], [0, 0]], [0, 4], false, [0, 4]),
+        ([[3, 1], [1, 1]], [0, 0], true, [0, 0]),
     ];
     let f = field(&rt, 5);
     for (rows, v, found, want) in cases {
@@ -186,6 +191,78 @@ fn solves(rt: HostRuntime) -> Result<(), NoMemory> {
         let (is_combination, answer) = shown(&solution);
         assert_eq!(rt; is_combination, found);
         assert_eq!(rt; answer, want.as_slice());
+    }
+    Ok(())
+}
+
+fn shown_inverse(inverse: &Inverse) -> (bool, &[u8]) {
+    match inverse {
+        Inverse::Both(block) => (true, block.entries.as_slice()),
+        Inverse::Singular(vector) => (false, vector.as_slice()),
+    }
+}
+
+#[test]
+fn inverts_blocks(rt: HostRuntime) -> Result<(), NoMemory> {
+    let cases = [
+        (3, [1, 2, 2, 2], true, [2, 1, 1, 1].as_slice()),
+        (2, [1, 1, 1, 1], false, [1, 1].as_slice()),
+        (5, [0, 2, 3, 0], true, [0, 2, 3, 0].as_slice()),
+        (5, [1, 2, 2, 4], false, [3, 1].as_slice()),
+    ];
+    for (order, entries, found, want) in cases {
+        let f = field(&rt, order);
+        scalars(&rt, &f, &entries);
+        let a = square(&rt, rt.alloc(), &entries)?;
+        let inverse = invert(rt.alloc(), &f, &a)?;
+        let (is_inverse, answer) = shown_inverse(&inverse);
+        assert_eq!(rt; is_inverse, found);
+        assert_eq!(rt; answer, want);
+    }
+    Ok(())
+}
+
+// The inverse is one on both sides, or the vector is in the kernel, as the determinant says.
+fn inverts_by_determinant<F: Scalars>(
+    rt: &impl Abort,
+    alloc: Global,
+    f: &F,
+    entries: [u8; 4],
+) -> Result<(), NoMemory> {
+    scalars(rt, f, &entries);
+    let [a, b, c, d] = entries.map(u32::from);
+    let order = f.order();
+    assert!(rt; order != 0);
+    let invertible = a * d % order != b * c % order;
+    let block = square(rt, alloc, &entries)?;
+    match invert(alloc, f, &block)? {
+        Inverse::Both(inverse) => {
+            assert!(rt; invertible, "{entries:?}");
+            let left = product(alloc, f, &inverse, &block)?;
+            let right = product(alloc, f, &block, &inverse)?;
+            assert_eq!(rt; left.entries.as_slice(), [1, 0, 0, 1].as_slice(), "{entries:?}");
+            assert_eq!(rt; right.entries.as_slice(), [1, 0, 0, 1].as_slice(), "{entries:?}");
+        }
+        Inverse::Singular(vector) => {
+            assert!(rt; !invertible, "{entries:?}");
+            let image = apply(alloc, f, &block, vector.as_slice())?;
+            assert_ne!(rt; vector.as_slice(), [0, 0].as_slice(), "{entries:?}");
+            assert_eq!(rt; image.as_slice(), [0, 0].as_slice(), "{entries:?}");
+        }
+    }
+    Ok(())
+}
+
+#[test]
+fn inverts_all_squares(rt: HostRuntime) -> Result<(), NoMemory> {
+    let two = field(&rt, 2);
+    let three = field(&rt, 3);
+    for code in 0..81 {
+        let entries: [u8; 4] = [code / 27, code / 9 % 3, code / 3 % 3, code % 3];
+        inverts_by_determinant(&rt, rt.alloc(), &three, entries)?;
+        if all_scalars(&two, &entries) {
+            inverts_by_determinant(&rt, rt.alloc(), &two, entries)?;
+        }
     }
     Ok(())
 }

@@ -7,6 +7,9 @@
 //! - `solve`: a combination of n columns of n coordinates that gives their sum;
 //! - `apart`: a functional that is 0 on n columns of n coordinates, which are 0 in the second half of the coordinates,
 //!   and 1 on a vector that is 1 there;
+//! - `invert`: the inverse of a block of n rows and n columns, a product of one with zeros below its diagonal of ones and
+//!   one with zeros above it;
+//! - `wide`: a combination of n columns of 16 coordinates that gives their sum;
 //! - `build`: the complex of a simplex with n vertices and a point beside it, out of its 2ⁿ cells and its faces;
 //! - `check`: the check of the incidences of that complex.
 //!
@@ -14,14 +17,16 @@
 //! or chains of two faces there are, and a checksum of the result. It is the same in every run. Standard error has the
 //! time of the call alone, without the making of its arguments: nanoseconds in all, and for each that is counted.
 //!
-//! The textbook counts multiplications and additions: 2n³ for `product`, 2n² for `apply`, and for the other two those of
-//! elimination, which takes each independent column off each later column and off the vector, 2n for each time. Of the
-//! columns the first n are taken to be independent in `solve`, and the first half of n, rounded down, in `apart`.
+//! The textbook counts multiplications and additions: 2n³ for `product` and `invert`, 2n² for `apply`, and for the other three
+//! those of elimination, which takes each independent column off each later column and off the vector, 2n (of `wide` 32) for each time. Of the
+//! columns the first n are taken to be independent in `solve`, the first half of n, rounded down, in `apart`, and
+//! the first 16 in `wide`.
 //!
-//! The size is a number from 1 to 1,024, of `build` and `check` from 1 to 12. Any other size, a workload of another name, and more or fewer words are refused
+//! The size is a number from 1 to 1,024, of `wide` from 1 to 4,096, of `build` and `check` from 1 to 12. Any other size, a workload of another name, and more or fewer words are refused
 //! by a line on standard error and exit status 2. Without memory, or where the clock or the output fails, the status is 1.
 #![tactic(auto)]
 
+mod inverses;
 mod request;
 mod runs;
 mod sequence;

@@ -12,7 +12,7 @@ pub enum Refusal {
     #[error("two words are wanted, a workload and a size, as in 'product 256'")]
     Words,
     /// The first word is no workload.
-    #[error("the workloads are product, apply, solve, apart, build and check")]
+    #[error("the workloads are product, apply, solve, apart, invert, wide, build and check")]
     Workload,
     /// The second word is no size.
     #[error("the size is a number from 1 to {most}")]

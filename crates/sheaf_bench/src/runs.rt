@@ -2,6 +2,7 @@ ghost use Rattle.std.specs.Prelude.{◌≡◌, ◌≤◌, length, All, IfOk};
 ghost use Rattle.dense_blocks.specs.Vectors.{AllScalars};
 ghost use Rattle.dense_blocks.specs.Two.{two};
 
+use crate::inverses::{run_invert, run_wide};
 use crate::request::Request;
 use crate::sequence::Sequence;
 use crate::simplex::Simplex;
@@ -32,6 +33,8 @@ pub fn run<R: Clock + AllocGlobal>(rt: &R, request: &Request) -> Result<Outcome>
         Workload::Apply => run_apply(rt, request.size),
         Workload::Solve => run_solve(rt, request.size),
         Workload::Apart => run_apart(rt, request.size),
+        Workload::Invert => run_invert(rt, request.size),
+        Workload::Wide => run_wide(rt, request.size),
         Workload::Build => run_build(rt, request.size),
         Workload::Check => run_check(rt, request.size),
     }
@@ -74,7 +77,7 @@ fn run_solve<R: Clock + AllocGlobal>(rt: &R, size: u32) -> Result<Outcome>
     requires { size ≤ 1024 }
 {
     let n = size as usize;
-    let columns = Sequence::new().columns(rt.alloc(), n, n)?;
+    let columns = Sequence::new().columns(rt.alloc(), n, n, n)?;
     let sum = sum_of(rt.alloc(), n, &columns)?;
     time_solve(rt, elimination(size, size), &columns, &sum)
 }
@@ -84,7 +87,7 @@ fn run_apart<R: Clock + AllocGlobal>(rt: &R, size: u32) -> Result<Outcome>
 {
     let n = size as usize;
     let mut sequence = Sequence::new();
-    let columns = sequence.columns(rt.alloc(), n, n / 2)?;
+    let columns = sequence.columns(rt.alloc(), n, n, n / 2)?;
     let v = sequence.vector(rt.alloc(), n, n / 2, 1)?;
     time_solve(rt, elimination(size, size / 2), &columns, &v)
 }
@@ -98,7 +101,7 @@ fn elimination(n: u32, rank: u32) -> u32
     n * rank * (2 * n - rank + 1)
 }
 
-fn time_solve<R: Clock + AllocGlobal>(
+pub(crate) fn time_solve<R: Clock + AllocGlobal>(
     rt: &R,
     count: u32,
     columns: &[Vec<u8>],
@@ -176,7 +179,7 @@ fn faces_checksum(complex: &Complex) -> u32 {
 }
 
 /// The sum of columns of `size` coordinates.
-fn sum_of(alloc: Global, size: usize, columns: &[Vec<u8>]) -> Result<Vec<u8>, NoMemory>
+pub(crate) fn sum_of(alloc: Global, size: usize, columns: &[Vec<u8>]) -> Result<Vec<u8>, NoMemory>
     requires sizes { All (λ c. length c.items ≡ size) columns.now }
     requires scalars { All (λ c. AllScalars two c.items) columns.now }
     ensures size { IfOk result (λ v. length v.items ≡ size) }
@@ -190,7 +193,7 @@ fn sum_of(alloc: Global, size: usize, columns: &[Vec<u8>]) -> Result<Vec<u8>, No
 }
 
 /// A number that the bytes, in their order, and the kind determine.
-fn checksum(kind: u32, bytes: &[u8]) -> u32 {
+pub(crate) fn checksum(kind: u32, bytes: &[u8]) -> u32 {
     let mut checksum = kind;
     for byte in bytes {
         checksum = mixed(checksum, u32::from(*byte));

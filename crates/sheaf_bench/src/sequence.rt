@@ -59,18 +59,48 @@ impl Sequence {
         Block::of(alloc, size, size, &entries)
     }
 
-    /// Columns, as many as each has coordinates, with 0 in all but the first `free` coordinates.
+    /// A block with ones on the diagonal, and scalars of the sequence above it, or else below it, and zeros elsewhere.
+    pub fn triangle(&mut self, alloc: Global, size: u32, above: bool) -> Result<Block, NoMemory>
+        requires positive { 1 ≤ size }
+        requires small { size ≤ 1024 }
+        ensures rows { IfOk result (λ b. b.rows ≡ size) }
+        ensures columns { IfOk result (λ b. b.cols ≡ size) }
+        ensures scalars { IfOk result (λ b. AllScalars two b.entries) }
+    {
+        let n = size as usize;
+        let mut entries = Vec::with_capacity(alloc, n * n)?;
+        for place in 0..n * n {
+            let (i, j) = (place / n, place % n);
+            entries.push(self.triangle_entry(i, j, above))?;
+        }
+        Block::of(alloc, size, size, &entries)
+    }
+
+    fn triangle_entry(&mut self, i: usize, j: usize, above: bool) -> u8
+        ensures { result < two.order }
+    {
+        if i == j {
+            1
+        } else if (i < j) == above {
+            self.scalar()
+        } else {
+            0
+        }
+    }
+
+    /// So many columns, with 0 in all but the first `free` of their coordinates.
     pub fn columns(
         &mut self,
         alloc: Global,
+        count: usize,
         size: usize,
         free: usize,
     ) -> Result<Vec<Vec<u8>>, NoMemory>
         ensures sizes { IfOk result (λ cs. All (λ c. length c.items ≡ size) cs.items) }
         ensures scalars { IfOk result (λ cs. All (λ c. AllScalars two c.items) cs.items) }
     {
-        let mut columns = Vec::with_capacity(alloc, size)?;
-        for _column in 0..size {
+        let mut columns = Vec::with_capacity(alloc, count)?;
+        for _column in 0..count {
             columns.push(self.vector(alloc, size, free, 0)?)?;
         }
         Ok(columns)

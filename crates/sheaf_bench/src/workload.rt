@@ -12,6 +12,10 @@ pub enum Workload {
     Solve,
     /// A functional that tells a vector apart from columns.
     Apart,
+    /// The inverse of a square block.
+    Invert,
+    /// A combination of columns of few coordinates that gives a vector.
+    Wide,
     /// A complex out of the list of its faces.
     Build,
     /// The check of the incidences of a complex.
@@ -26,6 +30,8 @@ impl Workload {
             "apply" => Some(Workload::Apply),
             "solve" => Some(Workload::Solve),
             "apart" => Some(Workload::Apart),
+            "invert" => Some(Workload::Invert),
+            "wide" => Some(Workload::Wide),
             "build" => Some(Workload::Build),
             "check" => Some(Workload::Check),
             _ => None,
@@ -39,6 +45,8 @@ impl Workload {
             Workload::Apply => "apply",
             Workload::Solve => "solve",
             Workload::Apart => "apart",
+            Workload::Invert => "invert",
+            Workload::Wide => "wide",
             Workload::Build => "build",
             Workload::Check => "check",
         }
@@ -59,6 +67,7 @@ impl Workload {
     {
         match self {
             Workload::Build | Workload::Check => 12,
+            Workload::Wide => 4096,
             _ => 1024,
         }
     }
