@@ -1,0 +1,8 @@
+//! Edits of a sheaf: the verdict on an edit, and the edited sheaf.
+#![tactic(auto)]
+
+mod fault;
+mod judging;
+mod work;
+
+pub use fault::EditFault;
