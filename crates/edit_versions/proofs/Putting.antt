@@ -1,5 +1,5 @@
 -- What it does to put blocks at faces.
-use Rattle.std.proofs.Common.{◌≡◌, ℕ, zero, suc, ◌+◌, ◌<◌, ◌≤◌, Bool, true, false, ◌||◌, nat_eq, List, [], ◌∷◌, ◌++◌, length, map, get_or, set, take, slice_get, Some, All, refl, sym, ap, ap₂, ◌∙◌, subst, subst₂, arith}
+use Rattle.std.proofs.Common.{◌≡◌, ℕ, zero, suc, ◌+◌, ◌*◌, ◌<◌, ◌≤◌, Bool, true, false, ◌||◌, nat_eq, List, [], ◌∷◌, ◌++◌, length, map, get_or, set, take, slice_get, slice_index, Some, Result, Ok, Err, OnOk, All, refl, sym, ap, ap₂, ◌∙◌, subst, subst₂, arith}
 use Rattle.std.specs.List.{list_any}
 use Rattle.std.proofs.lemmas.Bool.{both_ways, and_parts, and_from, eqb-true, eq-eqb}
 use Rattle.std.proofs.lemmas.List.{length-set, length-map}
@@ -8,6 +8,11 @@ use Rattle.std.proofs.lemmas.List.Folds.{list_any_more, list_any-append}
 use Rattle.cell_complex.specs.declared.face.Face.{Face}
 use Rattle.cell_complex.specs.Complexes.{CellComplex, IsComplex, joins, is_face}
 use Rattle.dense_blocks.specs.declared.block.Block.{Block}
+use Rattle.dense_blocks.specs.Vectors.{zeros}
+use Rattle.dense_blocks.specs.Matrices.{zero_matrix}
+use Rattle.dense_blocks.specs.Blocks.{IsBlock}
+use Rattle.dense_blocks.proofs.Cutting.{flat-zero_matrix}
+use Rattle.dense_blocks.proofs.BlockLaws.{is_block-entries}
 use Rattle.square_check.proofs.Placed.{IsPlaced}
 use Rattle.edit_versions.specs.declared.work.Work.{Work}
 use Rattle.edit_versions.specs.Edits.{WrittenMatrix, written, replaced, zero_between, zero_at}
@@ -106,27 +111,40 @@ puts-puts c p q make old mid new g h =
     }
 
 -- one face more to a cell
-pub puts-from-more : (c : CellComplex) (make : Face → WrittenMatrix) (below : List ℕ) (t i s : ℕ) (old mid new : Work) → i < length below → s ≡ get_or below i s
-    → Puts c (is_from (take i below) t) make old mid → Puts c (joins s t) make mid new → Puts c (is_from (take (i + 1) below) t) make old new
-puts-from-more c make below t i s old mid new l is g h =
-    puts-same c (λ f. is_from (take i below) t f || joins s t f) (is_from (take (i + 1) below) t) make old new
-    (λ k d m.
-    ap (λ q. is_from (take i below) t (get_or c.faces k d) || joins q t (get_or c.faces k d)) is
-    ∙ sym (list_any_more (λ q. joins q t (get_or c.faces k d)) below i s l))
-    (puts-puts c (is_from (take i below) t) (joins s t) make old mid new g h)
+pub puts-from-more : (c : CellComplex) (make : Face → WrittenMatrix) (below : List ℕ) (t i : ℕ) (old mid new : Work) → i < length below
+    → Puts c (is_from (take i below) t) make old mid → Puts c (joins (get_or below i 0) t) make mid new → Puts c (is_from (take (i + 1) below) t) make old new
+puts-from-more c make below t i old mid new l g h =
+    puts-same c (λ f. is_from (take i below) t f || joins (get_or below i 0) t f) (is_from (take (i + 1) below) t) make old new
+    (λ k d m. sym (list_any_more (λ q. joins q t (get_or c.faces k d)) below i 0 l))
+    (puts-puts c (is_from (take i below) t) (joins (get_or below i 0) t) make old mid new g h)
 
 -- one face more from a cell
-pub puts-to-more : (c : CellComplex) (make : Face → WrittenMatrix) (above : List ℕ) (s i t : ℕ) (old mid new : Work) → i < length above → t ≡ get_or above i t
-    → Puts c (is_to (take i above) s) make old mid → Puts c (joins s t) make mid new → Puts c (is_to (take (i + 1) above) s) make old new
-puts-to-more c make above s i t old mid new l is g h =
-    puts-same c (λ f. is_to (take i above) s f || joins s t f) (is_to (take (i + 1) above) s) make old new
-    (λ k d m.
-    ap (λ q. is_to (take i above) s (get_or c.faces k d) || joins s q (get_or c.faces k d)) is
-    ∙ sym (list_any_more (λ q. joins s q (get_or c.faces k d)) above i t l))
-    (puts-puts c (is_to (take i above) s) (joins s t) make old mid new g h)
+pub puts-to-more : (c : CellComplex) (make : Face → WrittenMatrix) (above : List ℕ) (s i : ℕ) (old mid new : Work) → i < length above
+    → Puts c (is_to (take i above) s) make old mid → Puts c (joins s (get_or above i 0)) make mid new → Puts c (is_to (take (i + 1) above) s) make old new
+puts-to-more c make above s i old mid new l g h =
+    puts-same c (λ f. is_to (take i above) s f || joins s (get_or above i 0) f) (is_to (take (i + 1) above) s) make old new
+    (λ k d m. sym (list_any_more (λ q. joins s q (get_or c.faces k d)) above i 0 l))
+    (puts-puts c (is_to (take i above) s) (joins s (get_or above i 0)) make old mid new g h)
 
 -- the zero matrix between two cells is that of the face that joins them
 pub zero-joined : (stalks : List ℕ) (s t : ℕ) (f : Face) → joins s t f ≡ true → zero_between stalks s t ≡ zero_at stalks f
 zero-joined stalks s t f e =
     let p = and_parts (nat_eq s f.s) (nat_eq t f.t) e in
     ap₂ (zero_between stalks) (eqb-true s f.s p.0) (eqb-true t f.t p.1)
+
+pub same-written : (b : Block) (m n : ℕ) (entries : List ℕ) → b.rows ≡ m → b.cols ≡ n → b.entries ≡ entries
+    → written b ≡ record { rows = m; cols = n; entries = entries }
+same-written b m n entries e f g = ap₂ (λ r k. record { rows = r; cols = k; entries = b.entries }) e f ∙ ap (λ xs. record { rows = m; cols = n; entries = xs }) g
+
+-- the zero block is the zero matrix
+pub zero-written : (stalks : List ℕ) (s t m n : ℕ) (b : Block) → IsBlock b m n (zero_matrix m n) → m ≡ slice_index stalks t → n ≡ slice_index stalks s
+    → written b ≡ zero_between stalks s t
+zero-written stalks s t m n b h e f =
+    same-written b (slice_index stalks t) (slice_index stalks s) (zeros (slice_index stalks t * slice_index stalks s))
+    (h.rows_are ∙ e) (h.columns_are ∙ f)
+    (is_block-entries b m n (zero_matrix m n) h ∙ flat-zero_matrix m n ∙ ap₂ (λ x y. zeros (x * y)) e f)
+
+-- what follows from a fact on success follows on success
+pub on_ok : {A E : Type 0} (r : Result A E) (P Q : Type 0) → OnOk r P → (P → Q) → OnOk r Q
+on_ok (Ok x) P Q h f = f h
+on_ok (Err e) P Q h f = h

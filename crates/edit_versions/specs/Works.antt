@@ -4,9 +4,8 @@ use Rattle.std.specs.List.{list_any}
 use Rattle.cell_complex.specs.declared.face.Face.{Face}
 use Rattle.cell_complex.specs.Complexes.{CellComplex, joins, faces_of, cofaces_of}
 use Rattle.dense_blocks.specs.Field.{Ops}
-use Rattle.dense_blocks.specs.Vectors.{AllScalars}
 use Rattle.dense_blocks.specs.declared.block.Block.{Block}
-use Rattle.square_check.specs.Squares.{HaveShapes}
+use Rattle.sheaf_data.specs.Sheaves.{AreBlocks}
 use Rattle.sheaf_words.specs.declared.editing.Set.{Set}
 use Rattle.edit_versions.specs.declared.work.Work.{Work}
 use Rattle.edit_versions.specs.Edits.{WrittenMatrix, SheafLists, written, lists_of, replaced, with_set}
@@ -19,8 +18,7 @@ work_lists w = lists_of w.stalks.items w.blocks.items
 pub record IsWork (K : Ops) (c : CellComplex) (w : Work) : Type 0 where
   pub one_each : length w.stalks.items ≡ length c.dims
   pub low : All (λ size. size ≤ 16) w.stalks.items
-  pub shapes : HaveShapes w.stalks.items c.faces w.blocks.items
-  pub scalars : All (λ b. AllScalars K b.entries) w.blocks.items
+  pub blocks_fit : AreBlocks K c.faces w.stalks.items w.blocks.items
 
 -- each block that differs from the one at the start is that of a face at one of the touched places
 pub record IsTouched (c : CellComplex) (start : List Block) (w : Work) : Type 0 where

@@ -3,6 +3,7 @@
 
 mod fault;
 mod judging;
+mod making;
 mod work;
 
 pub use fault::EditFault;

@@ -59,8 +59,8 @@ impl Work {
         requires count { length self.old.blocks.items ≡ length c.now.faces }
         ensures { OnOk result (Puts c.now (joins s t) (zero_at self.old.stalks.items) self.old self.new) }
     {
-        let rows = u32::from(self.stalks[t as usize]);
-        let cols = u32::from(self.stalks[s as usize]);
+        let rows = size_at(&self.stalks, t);
+        let cols = size_at(&self.stalks, s);
         let block = Block::zero(alloc, rows, cols)?;
         self.put(c, s, t, block)
     }
@@ -141,12 +141,21 @@ impl Work {
         requires bytes { All (λ a. a < 256) entries.now }
         ensures { OnOk result (Takes c.now (Restrict s t entries.now) self.old self.new) }
     {
-        let rows = u32::from(self.stalks[t as usize]);
-        let cols = u32::from(self.stalks[s as usize]);
+        let rows = size_at(&self.stalks, t);
+        let cols = size_at(&self.stalks, s);
         let entries = bytes_of(alloc, entries)?;
         let block = Block::of(alloc, rows, cols, &entries)?;
         self.put(c, s, t, block)
     }
+}
+
+/// The size of the stalk of the cell.
+fn size_at(stalks: &[u8], cell: u32) -> u32
+    requires { cell < length stalks.now }
+    ensures value { result ≡ slice_index stalks.now cell }
+    ensures few { result ≤ 255 }
+{
+    u32::from(stalks[cell as usize])
 }
 
 /// The numbers as bytes.
