@@ -1,0 +1,4 @@
+pub mod Replacing
+pub mod Ends
+pub mod Putting
+pub mod Fitting
