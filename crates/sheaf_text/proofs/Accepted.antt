@@ -1,0 +1,114 @@
+-- What is known of a line that is not refused.
+use Rattle.std.proofs.Common.{◌≡◌, ℕ, ◌+◌, ◌<◌, ◌≤◌, ◌⊎◌, inl, inr, Bool, true, false, cond, not, List, drop, length, refl, ap, ◌∙◌, Option, Some, None, Contains, nat_eq, nat_lt, nat_le}
+use Rattle.std.specs.Prelude.{sum}
+use Rattle.std.specs.List.{list_any}
+use Rattle.std.proofs.lemmas.Bool.{eqb-true, ltb-false, leb-false}
+use Rattle.std.proofs.lemmas.Map.Views.{Contains-from_any}
+use Rattle.cell_complex.specs.declared.fault.FaceFault.{FaceFault}
+use Rattle.cell_complex.specs.Verdicts.{fault_of}
+use Rattle.field_table.specs.Table.{orders}
+use Rattle.sheaf_text.specs.Cut.{are_below}
+use Rattle.sheaf_text.specs.Lines.{value, may_stand, count_fits, are_numerals, is_sign, word, face_of}
+use Rattle.sheaf_text.specs.Grammar.{Known, is_full, complex_of, field_refusal, cell_refusal, face_refusal, entries_refusal, incidence_refusal, command_refusal, kind_refusal, known_kind_refusal}
+use Rattle.sheaf_text.specs.Reading.{is_set_kind}
+use Rattle.sheaf_text.specs.Parts.{TakesFace}
+use Rattle.sheaf_text.specs.State.{known_by, IsAccepted}
+use Rattle.sheaf_text.specs.declared.fault.Refusal.{Refusal}
+use Rattle.sheaf_text.specs.declared.state.State.{State}
+use Rattle.sheaf_text.specs.declared.line.Kind.{Kind}
+use Rattle.sheaf_text.specs.declared.line.Kind.TheVariants as kinds
+use Rattle.sheaf_text.specs.declared.line.Stage.{Stage}
+use Rattle.sheaf_text.specs.declared.line.Stage.TheVariants as stages
+
+-- one test of a chain that gives no refusal
+passes : (b : Bool) (r : Refusal) (rest : Option Refusal) → cond b (Some r) rest ≡ None → (b ≡ false) × (rest ≡ None)
+passes true r rest e = absurd cc
+passes false r rest e = (refl, e)
+
+holds : (b : Bool) → not b ≡ false → b ≡ true
+holds true e = refl
+holds false e = absurd cc
+
+not_true : (b : Bool) → (b ≡ true → ⊥) → b ≡ false
+not_true true h = absurd (h refl)
+not_true false h = refl
+
+pub no_order : (q : ℕ) → (Contains orders q → ⊥) → list_any (nat_eq q) orders ≡ false
+no_order q h = not_true (list_any (nat_eq q) orders) (λ e. h (Contains-from_any eqb-true q orders e))
+
+in_table : (b : Bool) (r : Refusal) → cond b None (Some r) ≡ None → b ≡ true
+in_table true r e = refl
+in_table false r e = absurd cc
+
+field_fits : (ws : List (List ℕ)) → field_refusal ws ≡ None → Contains orders (value ws 1)
+field_fits ws e = Contains-from_any eqb-true (value ws 1) orders (in_table _ _ e)
+
+record IsRight (k : Known) (kind : Kind) (ws : List (List ℕ)) : Type 0 where
+  pub stands : may_stand k.stage kind ≡ true
+  pub counted : count_fits kind (length ws) ≡ true
+  pub numerals : are_numerals kind ws ≡ true
+  pub fits : kind_refusal k kind ws ≡ None
+
+right : (k : Known) (kind : Kind) (ws : List (List ℕ)) → known_kind_refusal k kind ws ≡ None → IsRight k kind ws
+right k kind ws e =
+    let a = passes (not (may_stand k.stage kind)) _ _ e in
+    let b = passes (not (count_fits kind (length ws))) _ _ a.1 in
+    let c = passes (not (are_numerals kind ws)) _ _ b.1 in
+    record { stands = holds _ a.0; counted = holds _ b.0; numerals = holds _ c.0; fits = c.1 }
+
+record FaceFits (k : Known) (ws : List (List ℕ)) : Type 0 where
+  pub no_fault : fault_of (complex_of k) (face_of ws) ≡ None
+  pub full : is_full k.stalks (face_of ws) (length (drop 4 ws)) ≡ true
+  pub below : are_below k.order (drop 4 ws) ≡ true
+
+no_fault : (k : Known) (ws : List (List ℕ)) (f : Option FaceFault) → incidence_refusal k ws f ≡ None → (f ≡ None) × (entries_refusal k ws ≡ None)
+no_fault k ws (Some f) e = absurd cc
+no_fault k ws None e = (refl, e)
+
+face_fits : (k : Known) (ws : List (List ℕ)) → face_refusal k ws ≡ None → FaceFits k ws
+face_fits k ws e =
+    let a = passes (not (is_sign (word ws 3))) _ _ e in
+    let b = no_fault k ws (fault_of (complex_of k) (face_of ws)) a.1 in
+    let c = passes (not (is_full k.stalks (face_of ws) (length (drop 4 ws)))) _ _ b.1 in
+    let d = passes (not (are_below k.order (drop 4 ws))) _ _ c.1 in
+    record { no_fault = b.0; full = holds _ c.0; below = holds _ d.0 }
+
+-- ---- where a line stands
+
+betti_stands : (s : Stage) → may_stand s kinds.Betti ≡ true → s ≡ stages.InClient
+betti_stands stages.InClient e = refl
+betti_stands s e = absurd cc
+
+edit_stands : (s : Stage) → may_stand s kinds.Edit ≡ true → s ≡ stages.InClient
+edit_stands stages.InClient e = refl
+edit_stands s e = absurd cc
+
+set_stands : (kind : Kind) (s : Stage) → is_set_kind kind ≡ true → may_stand s kind ≡ true → s ≡ stages.InEdit
+set_stands kinds.Stalk stages.InEdit e h = refl
+set_stands kinds.Stalk s e h = absurd cc
+set_stands kinds.Restrict stages.InEdit e h = refl
+set_stands kinds.Restrict s e h = absurd cc
+set_stands kind s e h = absurd cc
+
+-- ---- lines that were not refused
+
+pub field_accepted : (s : State) (ws : List (List ℕ)) → IsAccepted s kinds.Field ws → Contains orders (value ws 1)
+field_accepted s ws a = field_fits ws (right (known_by s) kinds.Field ws a.accepted).fits
+
+pub face_accepted : (s : State) (ws : List (List ℕ)) → IsAccepted s kinds.Face ws → TakesFace s.parts ws
+face_accepted s ws a =
+    let fits = face_fits (known_by s) ws (right (known_by s) kinds.Face ws a.accepted).fits in
+    record {
+      no_fault = ap (λ (ds : List ℕ). fault_of (record { dims = ds; faces = s.parts.complex.faces }) (face_of ws)) a.ready ∙ fits.no_fault;
+      full = fits.full;
+      below = fits.below;
+    }
+
+pub betti_accepted : (s : State) (ws : List (List ℕ)) → IsAccepted s kinds.Betti ws → s.stage ≡ stages.InClient
+betti_accepted s ws a = betti_stands s.stage (right (known_by s) kinds.Betti ws a.accepted).stands
+
+pub edit_accepted : (s : State) (ws : List (List ℕ)) → IsAccepted s kinds.Edit ws → s.stage ≡ stages.InClient
+edit_accepted s ws a = edit_stands s.stage (right (known_by s) kinds.Edit ws a.accepted).stands
+
+pub set_accepted : (s : State) (kind : Kind) (ws : List (List ℕ)) → is_set_kind kind ≡ true → IsAccepted s kind ws → s.stage ≡ stages.InEdit
+set_accepted s kind ws e a = set_stands kind s.stage e (right (known_by s) kind ws a.accepted).stands

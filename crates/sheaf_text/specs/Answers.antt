@@ -1,0 +1,33 @@
+-- What a call of the reader answers, beside the reading of its bytes.
+use Rattle.std.specs.Prelude.{◌≡◌, List, map, Result, Ok, Err}
+use Rattle.dense_blocks.specs.declared.block.Block.{Block}
+use Rattle.field_table.specs.Table.{order_of}
+use Rattle.sheaf_text.specs.Reading.{Reading, Good, BadLine, Limit, InputValue, Matrix}
+use Rattle.sheaf_text.specs.declared.input.Input.{Input}
+use Rattle.sheaf_text.specs.declared.fault.TextFault.{TextFault}
+use Rattle.sheaf_text.specs.declared.fault.TextFault.TheVariants as faults
+
+abbrev pub matrix_of : Block → Matrix
+matrix_of b = record { rows = b.rows; cols = b.cols; entries = b.entries }
+
+-- an input as a plain value
+abbrev pub input_value : Input → InputValue
+input_value i = record {
+  order = order_of i.draft.field;
+  dims = i.draft.complex.dims;
+  faces = i.draft.complex.faces;
+  stalks = i.draft.stalks;
+  blocks = map matrix_of i.draft.blocks;
+  scripts = i.scripts;
+}
+
+-- want of memory says nothing of the bytes
+abbrev pub GivesFault : TextFault → Reading → Type 0
+GivesFault (faults.BadLine line cause) reading = reading ≡ BadLine line cause
+GivesFault (faults.Limit line which) reading = reading ≡ Limit line which
+GivesFault faults.NoMemory reading = Unit {0}
+
+-- the answer is the reading, unless memory ran out
+abbrev pub Gives : Result Input TextFault → Reading → Type 0
+Gives (Ok input) reading = reading ≡ Good (input_value input)
+Gives (Err fault) reading = GivesFault fault reading

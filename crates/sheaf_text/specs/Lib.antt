@@ -1,0 +1,9 @@
+pub mod Cut
+pub mod Lines
+pub mod Grammar
+pub mod Reading
+pub mod Keeping
+pub mod Answers
+pub mod Parts
+pub mod Scripts
+pub mod State

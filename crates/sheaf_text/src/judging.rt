@@ -1,0 +1,202 @@
+ghost use Rattle.std.specs.Prelude.{◌≡◌, length, IfOk, IfErr};
+ghost use Rattle.sheaf_text.specs.Cut.{words};
+ghost use Rattle.sheaf_text.specs.Parts.{AreParts, IsClosed};
+ghost use Rattle.sheaf_text.specs.Grammar.{is_ended, is_full, cause_of, field_refusal, cell_refusal, entries_refusal, face_refusal, client_refusal, command_refusal, done_refusal, reach, kind_refusal, known_kind_refusal, content_refusal};
+ghost use Rattle.sheaf_text.specs.State.{known_by, scripts_at, IsSound, IsReadyFor, IsFound};
+
+use crate::fault::{LineCause, Refusal, Which};
+use crate::line::{Kind, Stage, are_numerals, count_fits, face_of, is_sign, may_stand};
+use crate::parts::stalk_of;
+use crate::state::State;
+use crate::words::{after_words, are_below, value_at, word_at, word_count};
+use cell_complex::{Face, FaceFault};
+use dense_blocks::Scalars;
+use field_table::Field;
+
+const HIGHEST: u32 = 15;
+const MOST_OF_A_STALK: u32 = 16;
+const MOST_CELLS: usize = 4096;
+const MOST_OF_ALL: u32 = 4096;
+const MOST_FACES: u32 = 32_768;
+const MOST_CLIENTS: usize = 8;
+const MOST_COMMANDS: u32 = 4096;
+const MOST_ROOM: u64 = 1_073_741_824;
+
+fn field_refusal(text: &[u8]) -> Option<Refusal>
+    ensures { result ≡ field_refusal (words text.now) }
+{
+    match Field::of(value_at(text, 1)) {
+        Some(_) => None,
+        None => Some(Refusal::Bad(LineCause::Field)),
+    }
+}
+
+fn cell_refusal(state: &State, text: &[u8]) -> Option<Refusal>
+    requires { AreParts state.now.parts }
+    ensures { result ≡ cell_refusal (known_by state.now) (words text.now) }
+{
+    let stalk = value_at(text, 2);
+    if value_at(text, 1) > HIGHEST {
+        Some(Refusal::Over(Which::Dimension))
+    } else if stalk > MOST_OF_A_STALK {
+        Some(Refusal::Over(Which::Stalk))
+    } else if state.parts.dims.len() >= MOST_CELLS {
+        Some(Refusal::Over(Which::Cells))
+    } else if state.parts.total + stalk > MOST_OF_ALL {
+        Some(Refusal::Over(Which::Total))
+    } else {
+        None
+    }
+}
+
+fn cause_of(fault: FaceFault) -> LineCause
+    ensures { result ≡ cause_of fault }
+{
+    match fault {
+        FaceFault::UnknownCell { id: _ } => LineCause::Cell,
+        FaceFault::WrongDims { s: _, t: _ } => LineCause::Dims,
+        FaceFault::TwiceFace { s: _, t: _ } => LineCause::Twice,
+    }
+}
+
+fn is_full(stalks: &[u8], face: Face, count: usize) -> bool
+    ensures { result ≡ is_full stalks.now face count }
+{
+    count == stalk_of(stalks, face.t) as usize * stalk_of(stalks, face.s) as usize
+}
+
+fn entries_refusal(state: &State, text: &[u8]) -> Option<Refusal>
+    ensures { result ≡ entries_refusal (known_by state.now) (words text.now) }
+{
+    let entries = after_words(text, 4);
+    if !is_full(&state.parts.stalks, face_of(text), word_count(entries)) {
+        Some(Refusal::Bad(LineCause::Shape))
+    } else if !are_below(entries, state.parts.field.order()) {
+        Some(Refusal::Bad(LineCause::Entry))
+    } else if state.parts.complex.face_count() >= MOST_FACES {
+        Some(Refusal::Over(Which::Faces))
+    } else {
+        None
+    }
+}
+
+fn face_refusal(state: &State, text: &[u8]) -> Option<Refusal>
+    requires { IsClosed state.now.parts }
+    ensures { result ≡ face_refusal (known_by state.now) (words text.now) }
+{
+    if !is_sign(word_at(text, 3)) {
+        return Some(Refusal::Bad(LineCause::Sign));
+    }
+    match state.parts.complex.fault_of(face_of(text)) {
+        Some(fault) => Some(Refusal::Bad(cause_of(fault))),
+        None => entries_refusal(state, text),
+    }
+}
+
+fn client_count(state: &State) -> usize
+    ensures { result ≡ length (scripts_at state.now.stage state.now.scripts) }
+{
+    let ended = state.scripts.ended.len();
+    match state.stage {
+        Stage::InClient | Stage::InEdit => ended + 1,
+        _ => ended,
+    }
+}
+
+fn client_refusal(state: &State) -> Option<Refusal>
+    ensures { result ≡ client_refusal (known_by state.now) }
+{
+    if client_count(state) >= MOST_CLIENTS {
+        Some(Refusal::Over(Which::Clients))
+    } else {
+        None
+    }
+}
+
+fn command_refusal(state: &State) -> Option<Refusal>
+    ensures { result ≡ command_refusal (known_by state.now) }
+{
+    if state.scripts.count >= MOST_COMMANDS {
+        Some(Refusal::Over(Which::Commands))
+    } else {
+        None
+    }
+}
+
+/// The most coordinates that the sheaf may come to have.
+fn reach(state: &State) -> u32
+    requires { AreParts state.now.parts }
+    ensures { result ≡ reach (known_by state.now) }
+{
+    MOST_OF_ALL.min(state.parts.total + state.scripts.growth)
+}
+
+fn done_refusal(state: &State) -> Option<Refusal>
+    requires { AreParts state.now.parts }
+    ensures { result ≡ done_refusal (known_by state.now) }
+{
+    let reach = u64::from(reach(state));
+    if u64::from(state.scripts.heavy) * reach * reach > MOST_ROOM {
+        Some(Refusal::Over(Which::Room))
+    } else {
+        None
+    }
+}
+
+fn kind_refusal(state: &State, kind: Kind, text: &[u8]) -> Option<Refusal>
+    requires sound { IsSound state.now }
+    requires ready { IsReadyFor (Some kind) state.now.parts }
+    ensures { result ≡ kind_refusal (known_by state.now) kind (words text.now) }
+{
+    match kind {
+        Kind::Field => field_refusal(text),
+        Kind::Cell => cell_refusal(state, text),
+        Kind::Face => face_refusal(state, text),
+        Kind::Client => client_refusal(state),
+        Kind::Betti | Kind::Edit => command_refusal(state),
+        Kind::Stalk | Kind::Restrict | Kind::Commit => None,
+        Kind::Done => done_refusal(state),
+    }
+}
+
+fn known_kind_refusal(state: &State, kind: Kind, text: &[u8]) -> Option<Refusal>
+    requires sound { IsSound state.now }
+    requires ready { IsReadyFor (Some kind) state.now.parts }
+    ensures { result ≡ known_kind_refusal (known_by state.now) kind (words text.now) }
+{
+    if !may_stand(state.stage, kind) {
+        Some(Refusal::Bad(LineCause::Word))
+    } else if !count_fits(kind, word_count(text)) {
+        Some(Refusal::Bad(LineCause::Count))
+    } else if !are_numerals(kind, text) {
+        Some(Refusal::Bad(LineCause::Number))
+    } else {
+        kind_refusal(state, kind, text)
+    }
+}
+
+/// Whether the line `done` has come.
+pub(crate) fn is_ended(stage: Stage) -> bool
+    ensures { result ≡ is_ended stage }
+{
+    matches!(stage, Stage::Ended)
+}
+
+/// The kind of a line that is not skipped, or why it is refused.
+pub(crate) fn judged(state: &State, kind: Option<Kind>, text: &[u8]) -> Result<Kind, Refusal>
+    requires sound { IsSound state.now }
+    requires ready { IsReadyFor kind state.now.parts }
+    ensures ok { IfOk result (λ found. IsFound (known_by state.now) kind (words text.now) found) }
+    ensures err { IfErr result (λ refusal. content_refusal (known_by state.now) kind (words text.now) ≡ Some refusal) }
+{
+    if is_ended(state.stage) {
+        return Err(Refusal::Bad(LineCause::After));
+    }
+    let Some(kind) = kind else {
+        return Err(Refusal::Bad(LineCause::Word));
+    };
+    match known_kind_refusal(state, kind, text) {
+        Some(refusal) => Err(refusal),
+        None => Ok(kind),
+    }
+}
