@@ -4,7 +4,9 @@
 mod draft;
 mod fault;
 mod sheaf;
+mod stalks;
 
-pub use draft::{Draft, stalks_fit};
+pub use draft::Draft;
 pub use fault::SealFault;
 pub use sheaf::Sheaf;
+pub use stalks::stalks_fit;
