@@ -7,5 +7,7 @@
 mod arrows;
 mod cells;
 mod numbers;
+#[cfg(test)]
+mod tests;
 
 pub use numbers::betti;
