@@ -1,0 +1,5 @@
+pub mod Numbers
+pub mod Steps
+pub mod Writing
+pub mod Words
+pub mod Again
