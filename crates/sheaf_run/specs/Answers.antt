@@ -114,27 +114,14 @@ AnswersJob (Some job) bytes a = AnswersBytes job bytes a
 abbrev pub Answers : List (List ℕ) → List ℕ → Outcome → Type 0
 Answers words bytes a = AnswersJob (job_of words) bytes a
 
--- the bytes are the text of a small draft of which P holds
-abbrev pub IsTextOf : (SheafData Field → Type 0) → List ℕ → Type 0
-IsTextOf P bytes = (d : SheafData Field) × IsSmall d × (bytes ≡ text_of d) × P d
+-- the status that a draft is due: it is a sheaf, its incidences are not regular, or they are and some square does not commute
+abbrev pub DraftIsDue : SheafData Field → Status → Type 0
+DraftIsDue d Done = IsSheaf (ops_of d.field) d.complex d.stalks d.blocks
+DraftIsDue d BadComplex = ¬ HasRegularIncidences d.complex
+DraftIsDue d BadSheaf = HasRegularIncidences d.complex × ((s : ℕ) × (u : ℕ) × (¬ Commutes (ops_of d.field) d.complex d.blocks s u))
+DraftIsDue d _ = ⊥
 
--- a sheaf; a complex whose incidences are not regular; a regular one with a square that does not commute
-abbrev pub IsGood : SheafData Field → Type 0
-IsGood d = IsSheaf (ops_of d.field) d.complex d.stalks d.blocks
-
-abbrev pub IsIrregular : SheafData Field → Type 0
-IsIrregular d = ¬ HasRegularIncidences d.complex
-
-abbrev pub IsNoncommuting : SheafData Field → Type 0
-IsNoncommuting d = HasRegularIncidences d.complex × ((s : ℕ) × (u : ℕ) × (¬ Commutes (ops_of d.field) d.complex d.blocks s u))
-
--- the status that the bytes are due, where the words are accepted
+-- the status that the bytes are due where the words are accepted: that of the small draft whose text they are, if there is one
 abbrev pub IsDue : List ℕ → Status → Type 0
-IsDue bytes Done = IsTextOf IsGood bytes
 IsDue bytes BadInput = ¬ IsSmallText bytes
-IsDue bytes BadComplex = IsTextOf IsIrregular bytes
-IsDue bytes BadSheaf = IsTextOf IsNoncommuting bytes
-IsDue bytes BadWords = ⊥
-IsDue bytes ReadFault = ⊥
-IsDue bytes WriteFault = ⊥
-IsDue bytes NoMemory = ⊥
+IsDue bytes status = (d : SheafData Field) × IsSmall d × (bytes ≡ text_of d) × DraftIsDue d status

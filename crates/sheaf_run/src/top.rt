@@ -1,7 +1,11 @@
-ghost use Rattle.std.specs.Prelude.{◌≡◌, ◌≢◌, map, string_bytes, None};
-ghost use Rattle.sheaf_run.specs.Answers.{AnswersBytes, job_of};
-ghost use Rattle.sheaf_run.specs.Replies.{Replies};
-ghost use Rattle.sheaf_run.specs.Runs.{Ran, Serves};
+ghost use Rattle.std.specs.Prelude.{◌≡◌, ◌≢◌, ◌↔◌, ◌⊎◌, map, string_bytes, None, IsSome, IfSome};
+ghost use Rattle.std.specs.Io.KnownBytes.{IsAtEnd};
+ghost use Rattle.io_edge.specs.Faults.{Rose};
+ghost use Rattle.io_edge.specs.Bytes.{IsFlushed};
+ghost use Rattle.sheaf_run.specs.declared.status.Status.{Status};
+ghost use Rattle.sheaf_run.specs.Answers.{IsAnswer, AnswersBytes, Answers, IsDue, bad_words, job_of};
+ghost use Rattle.sheaf_run.specs.Replies.{Replies, Sent};
+ghost use Rattle.sheaf_run.specs.Runs.{Answered, Broken, Ran, Serves};
 
 use crate::answering::answer_draft;
 use crate::job::{Job, job_of};
@@ -42,6 +46,40 @@ fn answer_source<S: Source, K: Sink>(
     }
 }
 
+/// Does the job that the words ask for, and says all that holds then.
+fn served<S: Source, K: Sink>(
+    alloc: Global,
+    words: &[String],
+    source: &mut S,
+    sink: &mut K,
+) -> Status
+    ensures answered { IsAnswer result →
+        Answered (Answers (map string_bytes words.now)) (S.left source.old) (K.taken sink.old) (K.taken sink.new) (K.flushed sink.new) result }
+    ensures flushed { IsAnswer result → IsFlushed (K.taken sink.new) (K.flushed sink.new) }
+    ensures whole { result ≡ Status.Done → IsAtEnd (S.left source.new) }
+    ensures refused { IsAnswer result → ((result ≡ Status.BadWords) ↔ (job_of (map string_bytes words.now) ≡ None)) }
+    ensures refusal { result ≡ Status.BadWords → Sent bad_words (K.taken sink.old) (K.taken sink.new) (K.flushed sink.new) result }
+    ensures unread { job_of (map string_bytes words.now) ≡ None → source.new ≡ source.old }
+    ensures exact { IsAnswer result → IsSome (job_of (map string_bytes words.now)) → IfSome (S.left source.old) (λ bytes.
+        (status : Status) → (result ≡ status) ↔ IsDue bytes status) }
+    ensures read { result ≡ Status.ReadFault → Rose (S.fault_count source.old) (S.fault_count source.new) }
+    ensures unwritten { result ≡ Status.ReadFault → K.taken sink.new ≡ K.taken sink.old }
+    ensures write { result ≡ Status.WriteFault → Rose (K.fault_count sink.old) (K.fault_count sink.new) }
+    ensures front { result ≡ Status.WriteFault →
+        Broken (Answers (map string_bytes words.now)) (S.left source.old) (K.taken sink.old) (K.taken sink.new) }
+    ensures memory { result ≡ Status.NoMemory → K.taken sink.new ≡ K.taken sink.old }
+    ensures complete_words { job_of (map string_bytes words.now) ≡ None →
+        ¬ (Rose (K.fault_count sink.old) (K.fault_count sink.new)) → result ≡ Status.BadWords }
+    ensures complete { IsSome (job_of (map string_bytes words.now)) → IfSome (S.left source.old) (λ bytes. (status : Status) → IsDue bytes status →
+        ¬ (Rose (S.fault_count source.old) (S.fault_count source.new)) → ¬ (Rose (K.fault_count sink.old) (K.fault_count sink.new)) →
+        (result ≡ status) ⊎ (result ≡ Status.NoMemory)) }
+{
+    match job_of(words) {
+        None => refuse_words(sink),
+        Some(job) => answer_source(alloc, job, source, sink),
+    }
+}
+
 /// Does the job that the words ask for: reads the source to its end, and writes what it is answered.
 ///
 /// The words are those after the program's name. The order is: words, the whole input, its form, its complex, its sheaf, the
@@ -58,10 +96,7 @@ pub fn run_solo<S: Source, K: Sink>(
     // With refused words nothing is read.
     ensures unread { job_of (map string_bytes words.now) ≡ None → source.new ≡ source.old }
 {
-    match job_of(words) {
-        None => refuse_words(sink),
-        Some(job) => answer_source(alloc, job, source, sink),
-    }
+    served(alloc, words, source, sink)
 }
 
 /// Does all that the program does: for now what `run_solo` does.
