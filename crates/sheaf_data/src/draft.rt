@@ -3,7 +3,7 @@ ghost use Rattle.dense_blocks.specs.Vectors.{AllScalars};
 ghost use Rattle.sheaf_data.specs.Sheaves.{AreStalks, HasShape, IsZero, AreZeroBlocks, IsDraft};
 
 use cell_complex::{Complex, Face};
-use dense_blocks::{Block, Listed, Scalars};
+use dense_blocks::{Block, Listed, Scalars, all_scalars};
 use std::alloc::{AllocError as NoMemory, Global};
 use std::marker::Model;
 
@@ -57,6 +57,17 @@ impl<F: Scalars> Draft<F> {
         })
     }
 
+    /// Whether the block may stand at `place`: there is a face, the shape is right, and the entries are scalars.
+    pub fn takes(&self, place: u32, b: &Block) -> bool
+        ensures { IsTrue result ↔ ((place < length self.now.complex.faces)
+            × IfSome (slice_get self.now.complex.faces place) (λ f. HasShape self.now.stalks f b.now)
+            × AllScalars (F.ops self.now.field) b.now.entries) }
+    {
+        place < self.complex.face_count()
+            && has_shape(self.stalks.as_slice(), self.complex.face_at(place), b)
+            && all_scalars(&self.field, b.entries.as_slice())
+    }
+
     /// Puts the block in place of that of the face at `place`; takes no memory.
     pub fn put(&mut self, place: u32, b: Block)
         requires face { place < length self.old.complex.faces }
@@ -101,6 +112,15 @@ fn copies(alloc: Global, blocks: &[Block]) -> Result<Vec<Block>, NoMemory>
         copies.push(block.copy(alloc)?)?;
     }
     Ok(copies)
+}
+
+/// Whether the block goes from the stalk of the face's cell `s` to that of its cell `t`.
+fn has_shape(stalks: &[u8], face: Face, b: &Block) -> bool
+    requires s_has_stalk { face.s < length stalks.now }
+    requires t_has_stalk { face.t < length stalks.now }
+    ensures { IsTrue result ↔ HasShape stalks.now face b.now }
+{
+    b.cols == u32::from(stalks[face.s as usize]) && b.rows == u32::from(stalks[face.t as usize])
 }
 
 /// The zero block of a face.

@@ -1,4 +1,5 @@
 ghost use Rattle.std.specs.Prelude.{◌≡◌, ℕ, ◌<◌, ◌↔◌, All, IsOk, IfOk, IfErr, OnOk, OnErr, MatchOption, length};
+ghost use Rattle.square_check.specs.Answers.{IsFirst};
 ghost use Rattle.square_check.specs.Squares.{Commutes};
 ghost use Rattle.sheaf_data.specs.Sheaves.{IsDraft, IsSheaf};
 ghost use Rattle.sheaf_data.specs.Refusals.{IsFirstBad, IsFault, AreSameElsewhere};
@@ -99,12 +100,27 @@ impl<F: Scalars> Sheaf<F> {
         ensures ok { OnOk result (self.new ≡ record self.old { stalks = stalks; blocks = blocks }) }
         ensures err { OnErr result (self.new ≡ self.old) }
     {
-        let draft = &mut self.draft;
-        let touched = Touched::Faces(touched);
-        if let Some(pair) = first_bad(&draft.field, &draft.complex, blocks.as_slice(), touched) {
+        if let Some(pair) = self.first_bad_with(&stalks, &blocks, touched) {
             return Err(pair);
         }
-        draft.replace(stalks, blocks);
+        self.draft.replace(stalks, blocks);
         Ok(())
+    }
+
+    /// The first pair of cells whose square does not commute with these stalks and blocks.
+    fn first_bad_with(
+        &self,
+        stalks: &Listed<u8>,
+        blocks: &Listed<Block>,
+        touched: &[u32],
+    ) -> Option<(u32, u32)>
+        requires fits { IsDraft (F.ops self.now.field) self.now.complex stalks.now blocks.now }
+        requires faces { All (λ p. p < length self.now.complex.faces) touched.now }
+        requires others { AreSameElsewhere touched.now self.now.blocks blocks.now }
+        ensures { IsFirst (Commutes (F.ops self.now.field) self.now.complex blocks.now) (length self.now.complex.dims) result }
+    {
+        let draft = &self.draft;
+        let touched = Touched::Faces(touched);
+        first_bad(&draft.field, &draft.complex, blocks.as_slice(), touched)
     }
 }
