@@ -5,7 +5,6 @@ use Rattle.dense_blocks.specs.Field.{Ops}
 use Rattle.dense_blocks.specs.Vectors.{AllScalars}
 use Rattle.dense_blocks.specs.declared.block.Block.{Block}
 use Rattle.cell_complex.specs.declared.face.Face.{Face}
-use Rattle.cochain_vec.specs.declared.cell.Cell.{Cell}
 use Rattle.plain_bases.specs.declared.complex.Arrow.{Arrow}
 use Rattle.plain_bases.specs.View.{FitsCells}
 use Rattle.sheaf_data.specs.Betti.{numbered, arrows_of, arrow_of_face}

@@ -1,6 +1,6 @@
 -- The cells of a sheaf, one by one.
-use Rattle.std.proofs.Common.{◌≡◌, ◌⊎◌, inl, inr, ℕ, zero, suc, ◌+◌, ◌≤◌, ◌<◌, List, [], ◌∷◌, ◌++◌, length, take, get_or, max, All, refl, sym, ap, ap₂, ◌∙◌, subst, arith, add-one, add-zero, zero-add}
-use Rattle.std.specs.Prelude.{sum, sum_by, slice_index, EachIndex}
+use Rattle.std.proofs.Common.{◌≡◌, ◌⊎◌, inl, inr, ℕ, zero, suc, ◌+◌, ◌≤◌, ◌<◌, List, [], ◌∷◌, ◌++◌, length, take, get_or, max, refl, sym, ap, ◌∙◌, subst, arith, add-one, add-zero, zero-add}
+use Rattle.std.specs.Prelude.{sum, slice_index, EachIndex}
 use Rattle.std.proofs.lemmas.Bool.{cases_lt}
 use Rattle.std.proofs.lemmas.List.{length-append}
 use Rattle.std.proofs.lemmas.List.Sums.{sum_by-cons}

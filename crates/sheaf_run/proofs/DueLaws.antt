@@ -3,11 +3,7 @@ use Rattle.std.proofs.Common.{◌≡◌, ◌⊎◌, inl, inr, ℕ, List, [], ◌
 use Rattle.std.specs.Prelude.{◌↔◌, IfSome}
 use Rattle.field_table.specs.declared.field.Field.{Field}
 use Rattle.field_table.specs.Table.{ops_of}
-use Rattle.cell_complex.specs.Complexes.{CellComplex, IsComplex}
-use Rattle.incidence_check.specs.declared.incidence.Incidence.{Incidence}
 use Rattle.incidence_check.specs.declared.incidence.Incidence.TheVariants.{EdgeEnds, Middles, Signs}
-use Rattle.incidence_check.specs.Incidences.{HasRegularIncidences, faults}
-use Rattle.incidence_check.proofs.Faults.{none_from_regular}
 use Rattle.sheaf_data.specs.declared.fault.SealFault.{SealFault}
 use Rattle.sheaf_data.specs.declared.fault.SealFault.TheVariants.{Complex, Noncommuting}
 use Rattle.sheaf_data.specs.Sheaves.{SheafData}
@@ -23,25 +19,20 @@ use Rattle.sheaf_run.specs.Replies.{Sent}
 use Rattle.sheaf_run.specs.Runs.{Answered}
 use Rattle.io_edge.specs.Faults.{Rose}
 
--- a complex with a fault is not regular
-irregular : (c : CellComplex) (fault : Incidence) → IsComplex c → slice_get (faults c) 0 ≡ Some fault → ¬ HasRegularIncidences c
-irregular c fault h first regular =
-    let none : slice_get (faults c) 0 ≡ None = ap (λ (fs : List Incidence). slice_get fs 0) (none_from_regular c h regular) in cc
-
 -- a refused draft is due what it is refused with
-due_of_fault : (d : SheafData Field) (fault : SealFault) → IsComplex d.complex → IsFault (ops_of d.field) d.complex d.blocks fault → DraftIsDue d (refusal fault).status
-due_of_fault d (Complex (EdgeEnds t)) h first = irregular d.complex (EdgeEnds t) h first
-due_of_fault d (Complex (Middles s u count)) h first = irregular d.complex (Middles s u count) h first
-due_of_fault d (Complex (Signs s u)) h first = irregular d.complex (Signs s u) h first
-due_of_fault d (Noncommuting s u) h first = (first.0, (s, u, first.1.fails))
+due_of_fault : (d : SheafData Field) (fault : SealFault) → IsFault (ops_of d.field) d.complex d.blocks fault → DraftIsDue d (refusal fault).status
+due_of_fault d (Complex (EdgeEnds t)) first = first.0
+due_of_fault d (Complex (Middles s u count)) first = first.0
+due_of_fault d (Complex (Signs s u)) first = first.0
+due_of_fault d (Noncommuting s u) first = (first.0, (s, u, first.1.fails))
 
 done_of_sheaf : (job : Job) (d : SheafData Field) (a : Outcome) → AnswersSheaf job d a → a.status ≡ Done
 done_of_sheaf Solve d a right = ap (λ (o : Outcome). o.status) right.is
 done_of_sheaf Check d a right = ap (λ (o : Outcome). o.status) right
 
-due_of_draft : (job : Job) (d : SheafData Field) (a : Outcome) → IsComplex d.complex → AnswersDraft (AnswersSheaf job d) d a → DraftIsDue d a.status
-due_of_draft job d a h (inl refused) = subst (DraftIsDue d) (sym (ap (λ (o : Outcome). o.status) refused.is)) (due_of_fault d refused.fault h refused.first)
-due_of_draft job d a h (inr answered) = subst (DraftIsDue d) (sym (done_of_sheaf job d a answered.1)) answered.0
+due_of_draft : (job : Job) (d : SheafData Field) (a : Outcome) → AnswersDraft (AnswersSheaf job d) d a → DraftIsDue d a.status
+due_of_draft job d a (inl refused) = subst (DraftIsDue d) (sym (ap (λ (o : Outcome). o.status) refused.is)) (due_of_fault d refused.fault refused.first)
+due_of_draft job d a (inr answered) = subst (DraftIsDue d) (sym (done_of_sheaf job d a answered.1)) answered.0
 
 -- the three cases exclude each other
 done_only : (d : SheafData Field) → DraftIsDue d Done → (status : Status) → DraftIsDue d status → Done ≡ status
@@ -78,16 +69,16 @@ draft_due_of_bytes bytes d read BadInput due = absurd (due (d, read.small, read.
 draft_due_of_bytes bytes d read status due = subst (λ (e : SheafData Field). DraftIsDue e status) (read.only due.0 due.1 due.2) due.3
 
 refused_only : (bytes : List ℕ) → ¬ IsSmallText bytes → (status : Status) → IsDue bytes status → BadInput ≡ status
-refused_only bytes no BadInput due = refl
-refused_only bytes no _ due = absurd (no (due.0, due.1, due.2))
+refused_only bytes other BadInput due = refl
+refused_only bytes other _ due = absurd (other (due.0, due.1, due.2))
 
 due_of_bytes : (job : Job) (bytes : List ℕ) (a : Outcome) → AnswersBytes job bytes a → IsDue bytes a.status
-due_of_bytes job bytes a (inl found) = due_of_read bytes found.0 found.1 a.status (due_of_draft job found.0 a found.1.small.draft.complex found.2)
+due_of_bytes job bytes a (inl found) = due_of_read bytes found.0 found.1 a.status (due_of_draft job found.0 a found.2)
 due_of_bytes job bytes a (inr refused) = subst (IsDue bytes) (sym (ap (λ (o : Outcome). o.status) refused.1)) refused.0
 
 due_only : (job : Job) (bytes : List ℕ) (a : Outcome) → AnswersBytes job bytes a → (status : Status) → IsDue bytes status → a.status ≡ status
 due_only job bytes a (inl found) status due =
-    draft_due_only found.0 a.status status (due_of_draft job found.0 a found.1.small.draft.complex found.2) (draft_due_of_bytes bytes found.0 found.1 status due)
+    draft_due_only found.0 a.status status (due_of_draft job found.0 a found.2) (draft_due_of_bytes bytes found.0 found.1 status due)
 due_only job bytes a (inr refused) status due = ap (λ (o : Outcome). o.status) refused.1 ∙ refused_only bytes refused.0 status due
 
 exactly : (job : Job) (bytes : List ℕ) (a : Outcome) (result : Status) → AnswersBytes job bytes a → result ≡ a.status → (status : Status)
@@ -110,11 +101,13 @@ pub complete : (job : Job) (left old new : Option (List ℕ)) (flush read_before
     → IfSome left (λ bytes. (status : Status) → IsDue bytes status → ¬ (Rose read_before read_now) → ¬ (Rose write_before write_now)
     → (result ≡ status) ⊎ (result ≡ NoMemory))
 complete job None old new flush rb rn wb wn result answered read write = tt
-complete job (Some bytes) old new flush rb rn wb wn result answered read write status due no_read no_write = go result answered read write
+complete job (Some bytes) old new flush rb rn wb wn result answered read write = λ status due no_read no_write. go result status due no_read no_write answered read write
   where
-    go : (r : Status) → (IsAnswer r → Answered (AnswersBytes job) (Some bytes) old new flush r) → (r ≡ ReadFault → Rose rb rn)
-        → (r ≡ WriteFault → Rose wb wn) → (r ≡ status) ⊎ (r ≡ NoMemory)
-    go ReadFault answered read write = absurd (no_read (read refl))
-    go WriteFault answered read write = absurd (no_write (write refl))
-    go NoMemory answered read write = inr refl
-    go r answered read write = let known = answered tt in inl (known.2.status ∙ due_only job bytes known.0 known.1 status due)
+    go : (r status : Status) → IsDue bytes status → ¬ (Rose rb rn) → ¬ (Rose wb wn)
+        → (IsAnswer r → Answered (AnswersBytes job) (Some bytes) old new flush r) → (r ≡ ReadFault → Rose rb rn) → (r ≡ WriteFault → Rose wb wn)
+        → (r ≡ status) ⊎ (r ≡ NoMemory)
+    go ReadFault status due no_read no_write answered read write = absurd (no_read (read refl))
+    go WriteFault status due no_read no_write answered read write = absurd (no_write (write refl))
+    go NoMemory status due no_read no_write answered read write = inr refl
+    go _ status due no_read no_write answered read write =
+        let known = answered tt in inl (known.2.status ∙ due_only job bytes known.0 known.1 status due)

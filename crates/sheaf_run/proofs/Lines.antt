@@ -1,5 +1,5 @@
 -- Lines of words and numbers, written number by number.
-use Rattle.std.proofs.Common.{◌≡◌, ℕ, zero, suc, ◌<◌, List, [], ◌∷◌, ◌++◌, length, get_or, take, drop, Option, refl, sym, ap, ◌∙◌, subst, append_assoc, arith}
+use Rattle.std.proofs.Common.{Result, Ok, Err, OnErr, ◌≡◌, ℕ, zero, suc, ◌<◌, List, [], ◌∷◌, ◌++◌, length, get_or, take, drop, Option, refl, sym, ap, ◌∙◌, subst, append_assoc, arith}
 use Rattle.std.specs.Prelude.{codes, decimal}
 use Rattle.io_edge.specs.Bytes.{Took, TookFront}
 use Rattle.io_edge.proofs.Known.{took_front_then, took_front_longer}
@@ -25,3 +25,8 @@ front_of_numbers old new newer numbers i l took front =
     let own = codes " " ++ decimal (get_or numbers i 0) in
     subst (TookFront old newer) (sym (spaced-split numbers i l))
     (took_front_longer old newer (before ++ own) (spaced (drop (suc i) numbers)) (took_front_then old new newer before own took front))
+
+-- what holds anyway holds on an error
+pub on_err : {T E P : Type 0} (r : Result T E) → P → OnErr r P
+on_err (Ok x) p = tt
+on_err (Err e) p = p

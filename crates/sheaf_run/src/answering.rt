@@ -39,7 +39,12 @@ fn check<K: Sink>(draft: &Draft<Field>, clients: u32, commands: u32, sink: &mut 
 {
     let cells = draft.complex.dims().len() as u32;
     let faces = draft.complex.face_count();
-    send_line(sink, Status::Done, b"good", &[cells, faces, clients, commands])
+    send_line(
+        sink,
+        Status::Done,
+        b"good",
+        &[cells, faces, clients, commands],
+    )
 }
 
 /// Writes the solution of a sheaf; of a draft that is none, its first fault.
@@ -49,7 +54,7 @@ pub fn solve_draft<K: Sink>(alloc: Global, draft: Draft<Field>, sink: &mut K) ->
 {
     match draft.seal() {
         Ok(sheaf) => solve(alloc, sheaf.draft(), sink),
-        Err((_, fault)) => refuse_draft(sink, fault),
+        Err(refused) => refuse_draft(sink, refused.1),
     }
 }
 
@@ -65,17 +70,12 @@ pub fn check_draft<K: Sink>(
 {
     match draft.seal() {
         Ok(sheaf) => check(sheaf.draft(), clients, commands, sink),
-        Err((_, fault)) => refuse_draft(sink, fault),
+        Err(refused) => refuse_draft(sink, refused.1),
     }
 }
 
 /// Does the job on a draft with one client, which has one command.
-pub fn answer_draft<K: Sink>(
-    alloc: Global,
-    job: Job,
-    draft: Draft<Field>,
-    sink: &mut K,
-) -> Status
+pub fn answer_draft<K: Sink>(alloc: Global, job: Job, draft: Draft<Field>, sink: &mut K) -> Status
     ensures { Replies (AnswersDraft (AnswersSheaf job draft) draft)
         (K.taken sink.old) (K.taken sink.new) (K.flushed sink.new) (K.fault_count sink.old) (K.fault_count sink.new) result }
 {

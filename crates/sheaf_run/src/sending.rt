@@ -33,7 +33,8 @@ fn put_number<K: Sink>(sink: &mut K, number: u32) -> Result<(), WriteFault>
 {
     let mut buffer = Buffer::new();
     write_all(sink, b" ")?;
-    write_all(sink, buffer.format(number).as_bytes())
+    write_all(sink, buffer.format(number).as_bytes())?;
+    Ok(())
 }
 
 /// Gives the sink the numbers, each after a space. Takes no memory.
@@ -60,7 +61,8 @@ fn put_line<K: Sink>(sink: &mut K, words: &[u8], numbers: &[u32]) -> Result<(), 
 {
     write_all(sink, words)?;
     put_numbers(sink, numbers)?;
-    write_all(sink, b"\n")
+    write_all(sink, b"\n")?;
+    Ok(())
 }
 
 /// Gives the sink a line of words and then numbers, and flushes it; answers the status, or WriteFault. Takes no memory.
@@ -72,8 +74,8 @@ pub fn send_line<K: Sink>(sink: &mut K, status: Status, words: &[u8], numbers: &
     if put_line(sink, words, numbers).is_err() {
         return Status::WriteFault;
     }
-    match sink.flush() {
-        Ok(()) => status,
-        Err(_) => Status::WriteFault,
+    if sink.flush().is_err() {
+        return Status::WriteFault;
     }
+    status
 }

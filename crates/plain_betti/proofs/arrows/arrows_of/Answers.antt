@@ -1,10 +1,9 @@
-use Rattle.std.proofs.Common.{◌≡◌, ◌∙◌, ◌++◌, ◌∷◌, [], ◌≤◌, List, length, map, All, sym, subst, ap, ap₂, arith}
+use Rattle.std.proofs.Common.{◌∙◌, ◌++◌, ◌∷◌, [], ◌≤◌, List, length, map, All, sym, subst, ap, arith}
 use Rattle.std.proofs.lemmas.List.{map-append, take_all}
 use Rattle.std.proofs.lemmas.List.Elements.{All-push}
 use Rattle.cochain_vec.specs.Complexes as complexes
 use Rattle.plain_bases.specs.declared.complex.Arrow.{Arrow}
 use Rattle.plain_bases.specs.View.{arrow_of, FitsCells}
-use Rattle.sheaf_data.specs.Sheaves.{SheafData}
 use Rattle.sheaf_data.specs.Betti.{arrows_of, numbered}
 use Rattle.plain_betti.proofs.ArrowLaws.{length-arrows, take_next_known}
 use Rattle.plain_betti.proofs.arrows.arrows_of.Goals as goal

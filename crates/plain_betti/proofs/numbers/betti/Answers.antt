@@ -1,4 +1,4 @@
-use Rattle.std.proofs.Common.{◌≡◌, ◌∙◌, ◌+◌, ◌++◌, ◌∷◌, [], ℕ, List, length, map, sym, subst, ap, rules}
+use Rattle.std.proofs.Common.{◌≡◌, ◌∙◌, ◌+◌, ◌∷◌, [], ℕ, List, length, sym, subst, ap, rules}
 use Rattle.std.specs.Prelude.{EachIndex, slice_index}
 use Rattle.std.proofs.lemmas.List.{length-append, length-map}
 use Rattle.dense_blocks.specs.Solving.{lists}
