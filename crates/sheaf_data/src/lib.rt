@@ -5,6 +5,8 @@ mod draft;
 mod fault;
 mod sheaf;
 mod stalks;
+#[cfg(test)]
+mod tests;
 
 pub use draft::Draft;
 pub use fault::SealFault;
