@@ -12,3 +12,4 @@ pub mod Reductions
 pub mod EliminationSteps
 pub mod Solutions
 pub mod Leading
+pub mod SameBlocks

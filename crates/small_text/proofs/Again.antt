@@ -15,7 +15,7 @@ use Rattle.small_text.specs.declared.candidate.Cell.{Cell}
 use Rattle.small_text.specs.declared.candidate.Restricted.{Restricted}
 use Rattle.small_text.proofs.Words.{is_word, is_line, said_again, words_first, decimal_is_word, number_of-decimal}
 
--- the cell of a dimension and a stalk, and the face with its entries
+-- the cell of a dimension and a stalk, and a face with its entries
 abbrev pub cell_at : ℕ × ℕ → Cell
 cell_at c = record { dim = c.0; stalk = c.1 }
 

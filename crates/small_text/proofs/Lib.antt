@@ -3,3 +3,4 @@ pub mod Steps
 pub mod Writing
 pub mod Words
 pub mod Again
+pub mod Drafts

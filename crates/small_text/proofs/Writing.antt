@@ -9,12 +9,28 @@ use Rattle.std.proofs.lemmas.List.Concat.{flat_map-append}
 use Rattle.std.proofs.lemmas.Slice.Zip.{get_or-zip, length-zip}
 use Rattle.cell_complex.specs.declared.face.Face.{Face}
 use Rattle.dense_blocks.specs.declared.block.Block.{Block}
-use Rattle.small_text.specs.Text.{spaced, sign_word, line_text, lines_text, cell_words, face_words}
+use Rattle.small_text.specs.Text.{spaced, sign_word, line_text, lines_text, field_words, cell_words, face_words, last_lines, sheaf_lines, entries_of}
 
 -- words joined, as the first and a space before each other
 pub join_spaced : (word : List ℕ) (words : List (List ℕ)) → join_with_byte 32 (word ∷ words) ≡ word ++ spaced words
 join_spaced word [] = sym (append-nil word)
 join_spaced word (next ∷ words) = ap (λ rest. word ++ 32 ∷ rest) (join_spaced next words)
+
+-- the text of all lines, in the order of the writing
+text_parts : (order : ℕ) (cells : List (ℕ × ℕ)) (faces : List (Face × List ℕ)) → lines_text (sheaf_lines order cells faces)
+    ≡ ((line_text (field_words order) ++ lines_text (map cell_words cells)) ++ lines_text (map face_words faces)) ++ lines_text last_lines
+text_parts order cells faces =
+    let field = line_text (field_words order) in
+    ap (λ rest. field ++ rest)
+    (flat_map-append line_text (map cell_words cells) (map face_words faces ++ last_lines) ∙ ap (λ rest. lines_text (map cell_words cells) ++ rest) (flat_map-append line_text (map face_words faces) last_lines))
+    ∙ sym (append_assoc field (lines_text (map cell_words cells)) (lines_text (map face_words faces) ++ lines_text last_lines))
+    ∙ sym (append_assoc (field ++ lines_text (map cell_words cells)) (lines_text (map face_words faces)) (lines_text last_lines))
+
+pub text_written : (order : ℕ) (cells : List (ℕ × ℕ)) (faces : List (Face × List ℕ)) (none field with_cells with_faces all : List ℕ) → none ≡ [] → field ≡ none ++ line_text (field_words order)
+    → with_cells ≡ field ++ lines_text (map cell_words cells) → with_faces ≡ with_cells ++ lines_text (map face_words faces) → all ≡ with_faces ++ lines_text last_lines → all ≡ lines_text (sheaf_lines order cells faces)
+text_written order cells faces none field with_cells with_faces all p q r s t =
+    t ∙ ap (λ bytes. bytes ++ lines_text last_lines) (s ∙ ap (λ bytes. bytes ++ lines_text (map face_words faces)) (r ∙ ap (λ bytes. bytes ++ lines_text (map cell_words cells)) (q ∙ ap (λ bytes. bytes ++ line_text (field_words order)) p)))
+    ∙ sym (text_parts order cells faces)
 
 -- what is written of a face, in the order of the writing
 abbrev pub face_text : Face → List ℕ → List ℕ
@@ -53,10 +69,6 @@ length-pairs xs ys same = length-zip xs ys ∙ omega arith
 pub cell_pair : (dims stalks : List ℕ) (i : ℕ) → i < length dims → length stalks ≡ length dims → get_or (zip dims stalks) i (get_or dims i 0, get_or stalks i 0) ≡ (get_or dims i 0, get_or stalks i 0)
 cell_pair dims stalks i lt same =
     get_or-zip dims stalks i (get_or dims i 0, get_or stalks i 0) lt (omega arith) ∙ ap₂ (λ d s. (d, s)) (get_or_default dims i (get_or dims i 0) 0 lt) (get_or_default stalks i (get_or stalks i 0) 0 (omega arith))
-
--- the entries of blocks
-abbrev pub entries_of : List Block → List (List ℕ)
-entries_of blocks = map (λ b. b.entries) blocks
 
 pub face_pair : (faces : List Face) (blocks : List Block) (i : ℕ) (f : Face) (b : Block) → i < length faces → length blocks ≡ length faces → slice_get faces i ≡ Some f → b ≡ get_or blocks i b
     → get_or (zip faces (entries_of blocks)) i (f, b.entries) ≡ (f, b.entries)

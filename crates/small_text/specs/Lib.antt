@@ -1,2 +1,4 @@
 pub mod Text
+pub mod Small
 pub mod Candidate
+pub mod Says

@@ -1,10 +1,14 @@
--- The text of a sheaf: lines of words.
+-- The text of a draft of a sheaf: lines of words.
 use Rattle.std.specs.Prelude.{ℕ, List, [], ◌∷◌, ◌++◌, map, codes}
-use Rattle.std.specs.List.{flat_map, join_with_byte}
+use Rattle.std.specs.List.{flat_map, join_with_byte, zip}
 use Rattle.std.specs.Fmt.{decimal}
 use Rattle.cell_complex.specs.declared.face.Face.{Face}
 use Rattle.cell_complex.specs.declared.face.Sign.{Sign}
 use Rattle.cell_complex.specs.declared.face.Sign.TheVariants.{Plus, Minus}
+use Rattle.dense_blocks.specs.declared.block.Block.{Block}
+use Rattle.field_table.specs.declared.field.Field.{Field}
+use Rattle.field_table.specs.Table.{order_of}
+use Rattle.sheaf_data.specs.Sheaves.{SheafData}
 
 -- a space between each two words, and the byte 10 after the last
 abbrev pub line_text : List (List ℕ) → List ℕ
@@ -38,3 +42,10 @@ last_lines = (codes "client" ∷ []) ∷ (codes "betti" ∷ []) ∷ (codes "done
 -- the lines of a sheaf over the field of this order, with these cells and faces
 abbrev pub sheaf_lines : ℕ → List (ℕ × ℕ) → List (Face × List ℕ) → List (List (List ℕ))
 sheaf_lines order cells faces = field_words order ∷ (map cell_words cells ++ (map face_words faces ++ last_lines))
+
+-- the entries of each block
+abbrev pub entries_of : List Block → List (List ℕ)
+entries_of blocks = map (λ b. b.entries) blocks
+
+unfoldable pub text_of : SheafData Field → List ℕ
+text_of d = lines_text (sheaf_lines (order_of d.field) (zip d.complex.dims d.stalks) (zip d.complex.faces (entries_of d.blocks)))

@@ -1,11 +1,14 @@
 ghost use Rattle.std.specs.Prelude.{◌≡◌, ◌∷◌, ◌++◌, map, length, IfOk, OnOk};
 ghost use Rattle.std.specs.Fmt.{decimal};
 ghost use Rattle.std.specs.List.{zip};
-ghost use Rattle.small_text.specs.Text.{line_text, lines_text, cell_words, sign_word, face_words, spaced};
+ghost use Rattle.field_table.specs.Table.{order_of};
+ghost use Rattle.small_text.specs.Text.{line_text, lines_text, field_words, cell_words, sign_word, face_words, spaced, entries_of, sheaf_lines, text_of};
 
 use cell_complex::{Complex, Face, Sign};
-use dense_blocks::Block;
+use dense_blocks::{Block, Scalars};
+use field_table::Field;
 use itoa::Buffer;
+use sheaf_data::Draft;
 use std::alloc::{AllocError as NoMemory, Global};
 
 fn put_number(out: &mut Vec<u8>, number: u32) -> Result<(), NoMemory>
@@ -69,10 +72,54 @@ fn put_face(out: &mut Vec<u8>, face: Face, block: &Block) -> Result<(), NoMemory
 fn put_faces(out: &mut Vec<u8>, complex: &Complex, blocks: &[Block]) -> Result<(), NoMemory>
     requires { length blocks.now ≡ length complex.now.faces }
     ensures { OnOk result (out.new.items
-        ≡ out.old.items ++ lines_text (map face_words (zip complex.now.faces (map (λ b. b.entries) blocks.now)))) }
+        ≡ out.old.items ++ lines_text (map face_words (zip complex.now.faces (entries_of blocks.now)))) }
 {
     for place in 0..complex.face_count() {
         put_face(out, complex.face_at(place), &blocks[place as usize])?;
     }
     Ok(())
+}
+
+fn put_field(out: &mut Vec<u8>, field: Field) -> Result<(), NoMemory>
+    ensures { OnOk result (out.new.items ≡ out.old.items ++ line_text (field_words (order_of field))) }
+{
+    out.extend_from_slice(b"field")?;
+    put_number(out, field.order())?;
+    out.push(b'\n')?;
+    Ok(())
+}
+
+fn text_of_parts(
+    alloc: Global,
+    field: Field,
+    complex: &Complex,
+    stalks: &[u8],
+    blocks: &[Block],
+) -> Result<Vec<u8>, NoMemory>
+    requires stalks { length stalks.now ≡ length complex.now.dims }
+    requires blocks { length blocks.now ≡ length complex.now.faces }
+    ensures { IfOk result (λ text. text.items ≡ lines_text (sheaf_lines (order_of field)
+        (zip complex.now.dims stalks.now) (zip complex.now.faces (entries_of blocks.now)))) }
+{
+    let mut out = Vec::new(alloc);
+    put_field(&mut out, field)?;
+    put_cells(&mut out, complex.dims(), stalks)?;
+    put_faces(&mut out, complex, blocks)?;
+    out.extend_from_slice(b"client\nbetti\ndone\n")?;
+    Ok(out)
+}
+
+/// The text of a draft: each has one, whether or not it is small.
+pub fn print(alloc: Global, draft: &Draft<Field>) -> Result<Vec<u8>, NoMemory>
+    ensures { IfOk result (λ text. text.items ≡ text_of draft.now) }
+{
+    let parts = draft.parts();
+    let text = text_of_parts(
+        alloc,
+        parts.field,
+        &parts.complex,
+        parts.stalks.as_slice(),
+        parts.blocks.as_slice(),
+    )?;
+    Ok(text)
 }

@@ -2,8 +2,8 @@ use Rattle.std.proofs.Common.{◌<◌, length, ◌∙◌, arith}
 use Rattle.std.proofs.lemmas.List.{length-map}
 use Rattle.std.specs.List.{zip}
 use Rattle.dense_blocks.specs.declared.block.Block.{Block}
-use Rattle.small_text.specs.Text.{face_words}
-use Rattle.small_text.proofs.Writing.{one_more, all_written, length-pairs, face_pair, entries_of}
+use Rattle.small_text.specs.Text.{face_words, entries_of}
+use Rattle.small_text.proofs.Writing.{one_more, all_written, length-pairs, face_pair}
 use Rattle.small_text.proofs.printing.put_faces.Goals as goal
 
 pub loop-place-preserved : goal.loop-place-preserved
