@@ -1,3 +1,3 @@
-pub mod Degrees
+pub mod DueLaws
+pub mod Lines
 pub mod RunLaws
-pub mod SheafLaws

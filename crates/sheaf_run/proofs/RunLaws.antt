@@ -1,10 +1,15 @@
 -- What a run did, from what it read and what it replied.
-use Rattle.std.proofs.Common.{◌≡◌, ℕ, List, Option, Some, None, sym, subst}
+use Rattle.std.proofs.Common.{◌≡◌, ℕ, List, Option, Some, None, inl, sym, subst}
 use Rattle.std.specs.Prelude.{IfSome}
 use Rattle.std.specs.Io.KnownBytes.{IsAtEnd}
 use Rattle.io_edge.specs.Bytes.{Gave, TookFront}
 use Rattle.io_edge.proofs.Known.{gave_whole}
-use Rattle.sheaf_run.specs.Answers.{Outcome, IsAnswer}
+use Rattle.field_table.specs.declared.field.Field.{Field}
+use Rattle.field_table.specs.Table.{ops_of}
+use Rattle.sheaf_data.specs.declared.fault.SealFault.{SealFault}
+use Rattle.sheaf_data.specs.Sheaves.{SheafData}
+use Rattle.sheaf_data.specs.Refusals.{IsFault}
+use Rattle.sheaf_run.specs.Answers.{Outcome, IsAnswer, AnswersDraft, refusal}
 use Rattle.sheaf_run.specs.Replies.{Replies, Sent}
 use Rattle.sheaf_run.specs.Runs.{Answered, Broken, Ran}
 use Rattle.sheaf_run.specs.declared.status.Status.{Status}
@@ -28,3 +33,22 @@ ran_from_replies IsRight bytes {left} {left_new} {old} {new} {flush} {read_befor
       front = λ e. told (λ b. (a : Outcome) × IsRight b a × TookFront old new a.text) left bytes same (replies.front e);
       memory = replies.memory;
     }
+
+-- whatever is right for P is right for Q
+pub replies_weaker : (P Q : Outcome → Type 0) {old new : Option (List ℕ)} {flush before now : ℕ} {result : Status} → ((a : Outcome) → P a → Q a)
+    → Replies P old new flush before now result → Replies Q old new flush before now result
+replies_weaker P Q {old} {new} {flush} {before} {now} {result} weaker replies = record {
+  sent = λ h. let s = replies.sent h in (s.0, weaker s.0 s.1, s.2);
+  rose = replies.rose;
+  front = λ e. let s = replies.front e in (s.0, weaker s.0 s.1, s.2);
+  memory = replies.memory;
+  no_read = replies.no_read;
+  later = replies.later;
+}
+
+-- a draft that is refused with its first fault is answered
+pub replies_refused : (IsRight : Outcome → Type 0) (d : SheafData Field) (fault : SealFault) {old new : Option (List ℕ)} {flush before now : ℕ} {result : Status}
+    → IsFault (ops_of d.field) d.complex d.blocks fault → Replies (λ a. a ≡ refusal fault) old new flush before now result
+    → Replies (AnswersDraft IsRight d) old new flush before now result
+replies_refused IsRight d fault first replies =
+    replies_weaker (λ a. a ≡ refusal fault) (AnswersDraft IsRight d) (λ a is. inl (record { fault = fault; first = first; is = is })) replies

@@ -1,15 +1,23 @@
 -- What the words and the bytes of the input are answered.
-use Rattle.std.specs.Prelude.{◌≡◌, ◌⊎◌, ℕ, List, [], ◌∷◌, ◌++◌, Option, Some, None, codes, decimal, if◌then◌else◌}
+use Rattle.std.specs.Prelude.{◌≡◌, ◌⊎◌, ℕ, List, [], ◌∷◌, ◌++◌, Option, Some, None, length, codes, decimal, if◌then◌else◌}
 use Rattle.std.specs.List.{flat_map}
 use Rattle.std.specs.Str.{bytes_eq}
-use Rattle.sheaf_text.specs.declared.input.Input.{Input}
-use Rattle.sheaf_text.specs.Text.{text_of}
-use Rattle.sheaf_text.specs.Small.{IsSmall, IsSmallText}
-use Rattle.sheaf_run.specs.Sheaves.{AreBetti}
+use Rattle.field_table.specs.declared.field.Field.{Field}
+use Rattle.field_table.specs.Table.{ops_of}
+use Rattle.incidence_check.specs.declared.incidence.Incidence.TheVariants.{EdgeEnds, Middles, Signs}
+use Rattle.incidence_check.specs.Incidences.{HasRegularIncidences}
+use Rattle.square_check.specs.Squares.{Commutes}
+use Rattle.sheaf_data.specs.declared.fault.SealFault.{SealFault}
+use Rattle.sheaf_data.specs.declared.fault.SealFault.TheVariants.{Complex, Noncommuting}
+use Rattle.sheaf_data.specs.Sheaves.{SheafData, IsSheaf}
+use Rattle.sheaf_data.specs.Refusals.{IsFault}
+use Rattle.sheaf_data.specs.Betti.{AreBetti}
+use Rattle.small_text.specs.Text.{text_of}
+use Rattle.small_text.specs.Small.{IsSmall, IsSmallText}
 use Rattle.sheaf_run.specs.declared.job.Job.{Job}
-use Rattle.sheaf_run.specs.declared.job.Job.TheVariants.{Solve}
+use Rattle.sheaf_run.specs.declared.job.Job.TheVariants.{Solve, Check}
 use Rattle.sheaf_run.specs.declared.status.Status.{Status}
-use Rattle.sheaf_run.specs.declared.status.Status.TheVariants.{Done, ReadFault, WriteFault, NoMemory, BadWords, BadInput}
+use Rattle.sheaf_run.specs.declared.status.Status.TheVariants.{Done, ReadFault, WriteFault, NoMemory, BadWords, BadInput, BadComplex, BadSheaf}
 
 -- a status, and the text that is written with it
 pub record Outcome : Type 0 where
@@ -24,11 +32,17 @@ IsAnswer NoMemory = ⊥
 IsAnswer Done = Unit {0}
 IsAnswer BadWords = Unit {0}
 IsAnswer BadInput = Unit {0}
+IsAnswer BadComplex = Unit {0}
+IsAnswer BadSheaf = Unit {0}
 
--- the job that the words ask for: the one word `solve`, and nothing else
+-- the job that one word asks for
+abbrev pub job_of_word : List ℕ → Option Job
+job_of_word word = if bytes_eq word (codes "solve") then Some Solve else if bytes_eq word (codes "check") then Some Check else None
+
+-- the job that the words ask for: one word, and nothing else
 abbrev pub job_of : List (List ℕ) → Option Job
 job_of [] = None
-job_of (word ∷ []) = if bytes_eq word (codes "solve") then Some Solve else None
+job_of (word ∷ []) = job_of_word word
 job_of (word ∷ other ∷ more) = None
 
 abbrev pub bad_words : Outcome
@@ -37,32 +51,77 @@ bad_words = record { status = BadWords; text = codes "bad words\n" }
 abbrev pub bad_input : Outcome
 bad_input = record { status = BadInput; text = codes "bad input\n" }
 
+-- numbers, with a space before each
+abbrev pub spaced : List ℕ → List ℕ
+spaced numbers = flat_map (λ number. codes " " ++ decimal number) numbers
+
+-- a line of words and then numbers
+abbrev pub line_of : List ℕ → List ℕ → List ℕ
+line_of words numbers = (words ++ spaced numbers) ++ codes "\n"
+
+-- what is wrong with a draft that is no sheaf
+abbrev pub refusal : SealFault → Outcome
+refusal (Complex (EdgeEnds t)) = record { status = BadComplex; text = line_of (codes "bad complex edge") (t ∷ []) }
+refusal (Complex (Middles s u count)) = record { status = BadComplex; text = line_of (codes "bad complex middles") (s ∷ u ∷ count ∷ []) }
+refusal (Complex (Signs s u)) = record { status = BadComplex; text = line_of (codes "bad complex signs") (s ∷ u ∷ []) }
+refusal (Noncommuting s u) = record { status = BadSheaf; text = line_of (codes "bad sheaf square") (s ∷ u ∷ []) }
+
+-- how many cells and faces a sheaf has, how many clients ask, and how many commands these have
+abbrev pub good : SheafData Field → ℕ → ℕ → Outcome
+good d clients commands = record { status = Done; text = line_of (codes "good") (length d.complex.dims ∷ length d.complex.faces ∷ clients ∷ commands ∷ []) }
+
 -- the transcript of one client that asks once for the Betti numbers and is answered these
 abbrev pub transcript : List ℕ → List ℕ
-transcript numbers =
-    (codes "client 0\n1 v0 betti" ++ flat_map (λ number. codes " " ++ decimal number) numbers) ++ codes "\norder\nask 0 1\nreply 0 1\nend\n"
+transcript numbers = (codes "client 0\n1 v0 betti" ++ spaced numbers) ++ codes "\norder\nask 0 1\nreply 0 1\nend\n"
 
--- the transcript with the Betti numbers of an input
-pub record IsSolution (input : Input) (a : Outcome) : Type 0 where
+-- the transcript with the Betti numbers of a sheaf
+pub record IsSolution (d : SheafData Field) (a : Outcome) : Type 0 where
   pub numbers : List ℕ
-  pub betti : AreBetti input numbers
+  pub betti : AreBetti (ops_of d.field) d.complex d.stalks d.blocks numbers
   pub is : a ≡ record { status = Done; text = transcript numbers }
 
--- the bytes are the text of a small input, and this is its solution
-pub record IsSolved (bytes : List ℕ) (a : Outcome) : Type 0 where
-  pub input : Input
-  pub small : IsSmall input
-  pub text : bytes ≡ text_of input
-  pub solution : IsSolution input a
+-- what a sheaf is answered
+abbrev pub AnswersSheaf : Job → SheafData Field → Outcome → Type 0
+AnswersSheaf Solve d a = IsSolution d a
+AnswersSheaf Check d a = a ≡ good d 1 1
 
--- a small text is solved, and any other bytes are refused
-abbrev pub AnswersBytes : List ℕ → Outcome → Type 0
-AnswersBytes bytes a = IsSolved bytes a ⊎ ((¬ IsSmallText bytes) × (a ≡ bad_input))
+-- the first fault of a draft is what it is refused with
+pub record IsRefused (d : SheafData Field) (a : Outcome) : Type 0 where
+  pub fault : SealFault
+  pub first : IsFault (ops_of d.field) d.complex d.blocks fault
+  pub is : a ≡ refusal fault
+
+-- a sheaf is answered, and a draft that is none is refused
+abbrev pub AnswersDraft : (Outcome → Type 0) → SheafData Field → Outcome → Type 0
+AnswersDraft IsRight d a = IsRefused d a ⊎ (IsSheaf (ops_of d.field) d.complex d.stalks d.blocks × IsRight a)
+
+-- the bytes are the text of this small draft, and of no other
+pub record IsRead (bytes : List ℕ) (d : SheafData Field) : Type 0 where
+  pub small : IsSmall d
+  pub text : bytes ≡ text_of d
+  pub only : (e : SheafData Field) → IsSmall e → bytes ≡ text_of e → e ≡ d
+
+-- a small text is answered by its draft, and any other bytes are refused
+abbrev pub AnswersBytes : Job → List ℕ → Outcome → Type 0
+AnswersBytes job bytes a =
+    ((d : SheafData Field) × IsRead bytes d × AnswersDraft (AnswersSheaf job d) d a) ⊎ ((¬ IsSmallText bytes) × (a ≡ bad_input))
 
 -- refused words are answered so whatever the bytes are
 abbrev pub AnswersJob : Option Job → List ℕ → Outcome → Type 0
 AnswersJob None bytes a = a ≡ bad_words
-AnswersJob (Some Solve) bytes a = AnswersBytes bytes a
+AnswersJob (Some job) bytes a = AnswersBytes job bytes a
 
 abbrev pub Answers : List (List ℕ) → List ℕ → Outcome → Type 0
 Answers words bytes a = AnswersJob (job_of words) bytes a
+
+-- the status that a draft is due: it is a sheaf, its incidences are not regular, or they are and some square does not commute
+abbrev pub DraftIsDue : SheafData Field → Status → Type 0
+DraftIsDue d Done = IsSheaf (ops_of d.field) d.complex d.stalks d.blocks
+DraftIsDue d BadComplex = ¬ HasRegularIncidences d.complex
+DraftIsDue d BadSheaf = HasRegularIncidences d.complex × ((s : ℕ) × (u : ℕ) × (¬ Commutes (ops_of d.field) d.complex d.blocks s u))
+DraftIsDue d _ = ⊥
+
+-- the status that the bytes are due where the words are accepted: that of the small draft whose text they are, if there is one
+abbrev pub IsDue : List ℕ → Status → Type 0
+IsDue bytes BadInput = ¬ IsSmallText bytes
+IsDue bytes status = (d : SheafData Field) × IsSmall d × (bytes ≡ text_of d) × DraftIsDue d status

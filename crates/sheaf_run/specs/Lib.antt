@@ -1,4 +1,3 @@
-pub mod Sheaves
 pub mod Answers
 pub mod Replies
 pub mod Runs

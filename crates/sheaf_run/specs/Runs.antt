@@ -3,11 +3,10 @@ use Rattle.std.specs.Prelude.{◌≡◌, ◌⊎◌, ◌↔◌, ℕ, List, Option
 use Rattle.std.specs.Io.KnownBytes.{IsAtEnd}
 use Rattle.io_edge.specs.Faults.{Rose}
 use Rattle.io_edge.specs.Bytes.{TookFront, IsFlushed}
-use Rattle.sheaf_text.specs.Small.{IsSmallText}
-use Rattle.sheaf_run.specs.Answers.{Outcome, IsAnswer, Answers, job_of, bad_words}
+use Rattle.sheaf_run.specs.Answers.{Outcome, IsAnswer, Answers, IsDue, job_of, bad_words}
 use Rattle.sheaf_run.specs.Replies.{Sent}
 use Rattle.sheaf_run.specs.declared.status.Status.{Status}
-use Rattle.sheaf_run.specs.declared.status.Status.TheVariants.{Done, ReadFault, WriteFault, NoMemory, BadWords, BadInput}
+use Rattle.sheaf_run.specs.declared.status.Status.TheVariants.{Done, ReadFault, WriteFault, NoMemory, BadWords}
 
 -- where the source tells its bytes, the sink took an outcome that is right for them, and it is flushed
 abbrev pub Answered : (List ℕ → Outcome → Type 0) → Option (List ℕ) → Option (List ℕ) → Option (List ℕ) → ℕ → Status → Type 0
@@ -40,15 +39,15 @@ pub record Serves (words : List (List ℕ)) (left left_new taken taken_new : Opt
   -- The words alone decide whether they are refused.
   pub refused : IsAnswer result → ((result ≡ BadWords) ↔ (job_of words ≡ None))
   pub refusal : result ≡ BadWords → Sent bad_words taken taken_new flush result
-  -- An input is refused exactly where its bytes are no small text.
-  pub bad_input : IsAnswer result → IsSome (job_of words) → IfSome left (λ bytes. (result ≡ BadInput) ↔ (¬ IsSmallText bytes))
+  -- With accepted words each status comes exactly where the bytes are due it.
+  pub exact : IsAnswer result → IsSome (job_of words) → IfSome left (λ bytes. (status : Status) → (result ≡ status) ↔ IsDue bytes status)
   -- Faults come from the source or from the sink.
   pub read : result ≡ ReadFault → Rose read_before read_now
   pub unwritten : result ≡ ReadFault → taken_new ≡ taken
   pub write : result ≡ WriteFault → Rose write_before write_now
   pub front : result ≡ WriteFault → Broken (Answers words) left taken taken_new
   pub memory : result ≡ NoMemory → taken_new ≡ taken
-  -- With no fault refused words are answered so, and a small text is served unless memory runs out.
+  -- With no fault refused words are answered so, and bytes are answered the status that they are due unless memory runs out.
   pub complete_words : job_of words ≡ None → ¬ (Rose write_before write_now) → result ≡ BadWords
-  pub complete : IsSome (job_of words) → IfSome left (λ bytes. IsSmallText bytes → ¬ (Rose read_before read_now)
-      → ¬ (Rose write_before write_now) → (result ≡ Done) ⊎ (result ≡ NoMemory))
+  pub complete : IsSome (job_of words) → IfSome left (λ bytes. (status : Status) → IsDue bytes status → ¬ (Rose read_before read_now)
+      → ¬ (Rose write_before write_now) → (result ≡ status) ⊎ (result ≡ NoMemory))

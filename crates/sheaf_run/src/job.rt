@@ -4,7 +4,10 @@ ghost use Rattle.sheaf_run.specs.Answers.{job_of};
 /// What the words can ask for.
 #[derive(Clone, Copy, Debug, PartialEq, Eq)]
 pub enum Job {
+    /// The Betti numbers of the sheaf.
     Solve,
+    /// Whether the input is a sheaf.
+    Check,
 }
 
 /// The job that the words ask for; None where they are refused.
@@ -13,6 +16,7 @@ pub fn job_of(words: &[String]) -> Option<Job>
 {
     match words {
         [word] if word.as_str() == "solve" => Some(Job::Solve),
+        [word] if word.as_str() == "check" => Some(Job::Check),
         _ => None,
     }
 }

@@ -1,8 +1,9 @@
 //! The top call: words and bytes in, one line or a transcript out.
 #![tactic(auto)]
 
-mod betti;
+mod answering;
 mod job;
+mod refusing;
 mod sending;
 mod status;
 mod top;

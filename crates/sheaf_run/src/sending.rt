@@ -1,9 +1,12 @@
-ghost use Rattle.std.specs.Prelude.{◌≡◌, ◌⊎◌};
-ghost use Rattle.sheaf_run.specs.Answers.{IsAnswer};
-ghost use Rattle.sheaf_run.specs.Replies.{Replies};
+ghost use Rattle.std.specs.Prelude.{◌≡◌, ◌⊎◌, ◌++◌, ◌≤◌, codes, decimal, OnOk, OnErr};
+ghost use Rattle.io_edge.specs.Faults.{HasCause};
+ghost use Rattle.io_edge.specs.Bytes.{Took, TookFront, IsFlushed};
+ghost use Rattle.sheaf_run.specs.Answers.{IsAnswer, spaced, line_of};
+ghost use Rattle.sheaf_run.specs.Replies.{Replies, Sent};
 
 use crate::status::Status;
-use io_edge::{Sink, write_all};
+use io_edge::{Sink, WriteFault, write_all};
+use itoa::Buffer;
 
 /// Gives the sink a text and flushes it; answers the status, or WriteFault. Takes no memory.
 pub fn send<K: Sink>(sink: &mut K, status: Status, text: &[u8]) -> Status
@@ -19,4 +22,60 @@ pub fn send<K: Sink>(sink: &mut K, status: Status, text: &[u8]) -> Status
         Ok(()) => status,
         Err(_) => Status::WriteFault,
     }
+}
+
+/// Gives the sink a space and the number. Takes no memory.
+#[tactic(auto, using(io_edge::proofs::Known::taken_pieces))]
+fn put_number<K: Sink>(sink: &mut K, number: u32) -> Result<(), WriteFault>
+    ensures ok { OnOk result (Took (K.taken sink.old) (K.taken sink.new) (codes " " ++ decimal number)) }
+    ensures err { OnErr result (TookFront (K.taken sink.old) (K.taken sink.new) (codes " " ++ decimal number)) }
+    ensures cause { HasCause (K.fault_count sink.old) (K.fault_count sink.new) result }
+{
+    let mut buffer = Buffer::new();
+    write_all(sink, b" ")?;
+    write_all(sink, buffer.format(number).as_bytes())?;
+    Ok(())
+}
+
+/// Gives the sink the numbers, each after a space. Takes no memory.
+fn put_numbers<K: Sink>(sink: &mut K, numbers: &[u32]) -> Result<(), WriteFault>
+    ensures ok { OnOk result (Took (K.taken sink.old) (K.taken sink.new) (spaced numbers.now)) }
+    ensures err { OnErr result (TookFront (K.taken sink.old) (K.taken sink.new) (spaced numbers.now)) }
+    ensures cause { HasCause (K.fault_count sink.old) (K.fault_count sink.new) result }
+{
+    for number in numbers {
+        match put_number(sink, *number) {
+            Ok(()) => {}
+            Err(fault) => return Err(fault),
+        }
+    }
+    Ok(())
+}
+
+/// Gives the sink a line of words and then numbers. Takes no memory.
+#[tactic(auto, using(io_edge::proofs::Known::taken_pieces))]
+fn put_line<K: Sink>(sink: &mut K, words: &[u8], numbers: &[u32]) -> Result<(), WriteFault>
+    ensures ok { OnOk result (Took (K.taken sink.old) (K.taken sink.new) (line_of words.now numbers.now)) }
+    ensures err { OnErr result (TookFront (K.taken sink.old) (K.taken sink.new) (line_of words.now numbers.now)) }
+    ensures cause { HasCause (K.fault_count sink.old) (K.fault_count sink.new) result }
+{
+    write_all(sink, words)?;
+    put_numbers(sink, numbers)?;
+    write_all(sink, b"\n")?;
+    Ok(())
+}
+
+/// Gives the sink a line of words and then numbers, and flushes it; answers the status, or WriteFault. Takes no memory.
+pub fn send_line<K: Sink>(sink: &mut K, status: Status, words: &[u8], numbers: &[u32]) -> Status
+    requires { IsAnswer status }
+    ensures { Replies (λ a. a ≡ record { status = status; text = line_of words.now numbers.now })
+        (K.taken sink.old) (K.taken sink.new) (K.flushed sink.new) (K.fault_count sink.old) (K.fault_count sink.new) result }
+{
+    if put_line(sink, words, numbers).is_err() {
+        return Status::WriteFault;
+    }
+    if sink.flush().is_err() {
+        return Status::WriteFault;
+    }
+    status
 }

@@ -13,4 +13,8 @@ pub enum Status {
     BadWords = 4,
     /// The input is refused.
     BadInput = 5,
+    /// The complex of the input is refused: its incidences are not regular.
+    BadComplex = 6,
+    /// The sheaf of the input is refused: a square does not commute.
+    BadSheaf = 7,
 }

@@ -1,83 +1,49 @@
-ghost use Rattle.std.specs.Prelude.{◌≡◌, ◌≢◌, ◌↔◌, ◌⊎◌, map, string_bytes, Some, None, IsSome, IfSome, IfOk};
+ghost use Rattle.std.specs.Prelude.{◌≡◌, ◌≢◌, ◌↔◌, ◌⊎◌, map, string_bytes, None, IsSome, IfSome};
 ghost use Rattle.std.specs.Io.KnownBytes.{IsAtEnd};
 ghost use Rattle.io_edge.specs.Faults.{Rose};
-ghost use Rattle.io_edge.specs.Bytes.{TookFront, IsFlushed};
-ghost use Rattle.sheaf_text.specs.Small.{IsSmallSheaf, IsSmallText};
-ghost use Rattle.sheaf_run.specs.Answers.{Outcome, IsAnswer, IsSolution, AnswersBytes, Answers, bad_words, bad_input, job_of};
+ghost use Rattle.io_edge.specs.Bytes.{IsFlushed};
+ghost use Rattle.sheaf_run.specs.declared.status.Status.{Status};
+ghost use Rattle.sheaf_run.specs.Answers.{IsAnswer, AnswersBytes, Answers, IsDue, bad_words, job_of};
 ghost use Rattle.sheaf_run.specs.Replies.{Replies, Sent};
 ghost use Rattle.sheaf_run.specs.Runs.{Answered, Broken, Ran, Serves};
 
-use crate::betti::betti;
+use crate::answering::answer_draft;
 use crate::job::{Job, job_of};
-use crate::sending::send;
+use crate::refusing::{refuse_input, refuse_words};
 use crate::status::Status;
-use crate::transcript::transcript;
 use io_edge::{ReadAll, Sink, Source, read_all};
-use sheaf_text::{Input, MOST_BYTES, TextFault, read};
-use std::alloc::{AllocError as NoMemory, Global};
-
-/// The text of the solution of an input.
-fn solution(alloc: Global, input: &Input) -> Result<Vec<u8>, NoMemory>
-    requires { IsSmallSheaf input.now }
-    ensures { IfOk result (λ text. IsSolution input.now (record { status = Status.Done; text = text.items })) }
-{
-    let numbers = betti(alloc, input)?;
-    transcript(alloc, &numbers)
-}
-
-/// Writes the solution of an input.
-fn solve<K: Sink>(alloc: Global, input: &Input, sink: &mut K) -> Status
-    requires { IsSmallSheaf input.now }
-    ensures { Replies (IsSolution input.now)
-        (K.taken sink.old) (K.taken sink.new) (K.flushed sink.new) (K.fault_count sink.old) (K.fault_count sink.new) result }
-{
-    match solution(alloc, input) {
-        Ok(text) => send(sink, Status::Done, text.as_slice()),
-        Err(_) => Status::NoMemory,
-    }
-}
-
-/// Writes that the input is refused.
-fn refuse_input<K: Sink>(sink: &mut K) -> Status
-    ensures { Replies (λ a. a ≡ bad_input)
-        (K.taken sink.old) (K.taken sink.new) (K.flushed sink.new) (K.fault_count sink.old) (K.fault_count sink.new) result }
-{
-    send(sink, Status::BadInput, b"bad input\n")
-}
+use small_text::{MOST_BYTES, TextFault, read};
+use std::alloc::Global;
 
 /// Answers the bytes of an input.
-fn answer_bytes<K: Sink>(alloc: Global, bytes: &[u8], sink: &mut K) -> Status
-    ensures { Replies (AnswersBytes bytes.now)
+fn answer_bytes<K: Sink>(alloc: Global, job: Job, bytes: &[u8], sink: &mut K) -> Status
+    ensures { Replies (AnswersBytes job bytes.now)
         (K.taken sink.old) (K.taken sink.new) (K.flushed sink.new) (K.fault_count sink.old) (K.fault_count sink.new) result }
 {
     match read(alloc, bytes) {
-        Ok(input) => solve(alloc, &input, sink),
+        Ok(draft) => answer_draft(alloc, job, draft, sink),
         Err(TextFault::BadInput) => refuse_input(sink),
         Err(TextFault::NoMemory) => Status::NoMemory,
     }
 }
 
 /// Reads the whole input and answers it.
-fn answer_source<S: Source, K: Sink>(alloc: Global, source: &mut S, sink: &mut K) -> Status
-    ensures ran { Ran AnswersBytes (S.left source.old) (S.left source.new) (K.taken sink.old) (K.taken sink.new) (K.flushed sink.new)
+fn answer_source<S: Source, K: Sink>(
+    alloc: Global,
+    job: Job,
+    source: &mut S,
+    sink: &mut K,
+) -> Status
+    ensures ran { Ran (AnswersBytes job) (S.left source.old) (S.left source.new) (K.taken sink.old) (K.taken sink.new) (K.flushed sink.new)
         (S.fault_count source.old) (S.fault_count source.new) (K.fault_count sink.old) (K.fault_count sink.new) result }
     ensures accepted { result ≢ Status.BadWords }
 {
     match read_all(alloc, source, MOST_BYTES) {
-        Ok(bytes) => answer_bytes(alloc, &bytes, sink),
+        Ok(bytes) => answer_bytes(alloc, job, &bytes, sink),
         Err(ReadAll::TooLong) => refuse_input(sink),
         Err(ReadAll::ReadFault) => Status::ReadFault,
         Err(ReadAll::NoMemory) => Status::NoMemory,
     }
-}
-
-/// Writes that the words are refused.
-fn refuse_words<K: Sink>(sink: &mut K) -> Status
-    ensures replies { Replies (λ a. a ≡ bad_words)
-        (K.taken sink.old) (K.taken sink.new) (K.flushed sink.new) (K.fault_count sink.old) (K.fault_count sink.new) result }
-    ensures memory { result ≢ Status.NoMemory }
-{
-    send(sink, Status::BadWords, b"bad words\n")
 }
 
 /// Does the job that the words ask for, and says all that holds then.
@@ -94,8 +60,8 @@ fn served<S: Source, K: Sink>(
     ensures refused { IsAnswer result → ((result ≡ Status.BadWords) ↔ (job_of (map string_bytes words.now) ≡ None)) }
     ensures refusal { result ≡ Status.BadWords → Sent bad_words (K.taken sink.old) (K.taken sink.new) (K.flushed sink.new) result }
     ensures unread { job_of (map string_bytes words.now) ≡ None → source.new ≡ source.old }
-    ensures bad_input { IsAnswer result → IsSome (job_of (map string_bytes words.now)) → IfSome (S.left source.old) (λ bytes.
-        (result ≡ Status.BadInput) ↔ (¬ IsSmallText bytes)) }
+    ensures exact { IsAnswer result → IsSome (job_of (map string_bytes words.now)) → IfSome (S.left source.old) (λ bytes.
+        (status : Status) → (result ≡ status) ↔ IsDue bytes status) }
     ensures read { result ≡ Status.ReadFault → Rose (S.fault_count source.old) (S.fault_count source.new) }
     ensures unwritten { result ≡ Status.ReadFault → K.taken sink.new ≡ K.taken sink.old }
     ensures write { result ≡ Status.WriteFault → Rose (K.fault_count sink.old) (K.fault_count sink.new) }
@@ -104,20 +70,20 @@ fn served<S: Source, K: Sink>(
     ensures memory { result ≡ Status.NoMemory → K.taken sink.new ≡ K.taken sink.old }
     ensures complete_words { job_of (map string_bytes words.now) ≡ None →
         ¬ (Rose (K.fault_count sink.old) (K.fault_count sink.new)) → result ≡ Status.BadWords }
-    ensures complete { IsSome (job_of (map string_bytes words.now)) → IfSome (S.left source.old) (λ bytes. IsSmallText bytes →
+    ensures complete { IsSome (job_of (map string_bytes words.now)) → IfSome (S.left source.old) (λ bytes. (status : Status) → IsDue bytes status →
         ¬ (Rose (S.fault_count source.old) (S.fault_count source.new)) → ¬ (Rose (K.fault_count sink.old) (K.fault_count sink.new)) →
-        (result ≡ Status.Done) ⊎ (result ≡ Status.NoMemory)) }
+        (result ≡ status) ⊎ (result ≡ Status.NoMemory)) }
 {
     match job_of(words) {
         None => refuse_words(sink),
-        Some(Job::Solve) => answer_source(alloc, source, sink),
+        Some(job) => answer_source(alloc, job, source, sink),
     }
 }
 
 /// Does the job that the words ask for: reads the source to its end, and writes what it is answered.
 ///
-/// The words are those after the program's name. The order is: words, the whole input, its form, the writing.
-/// Every status but the two faults and NoMemory is answered only after its text was written and flushed.
+/// The words are those after the program's name. The order is: words, the whole input, its form, its complex, its sheaf, the
+/// writing. Every status but the two faults and NoMemory is answered only after its text was written and flushed.
 pub fn run_solo<S: Source, K: Sink>(
     alloc: Global,
     words: &[String],

@@ -9,5 +9,5 @@ returns-in-Ok-clause-ran g c =
     let read = c.in-Ok.ensures in
     let bytes = c.deref.result.now in
     let same = sym read.gave.2.ok.0 ∙ sym c.deref.ensures.value in
-    ran_from_replies AnswersBytes bytes (subst (Gave (g.S.Source.left c.args.source.now) (g.S.Source.left c.read_all.new.source)) same read.gave.1)
+    ran_from_replies (AnswersBytes c.args.job) bytes (subst (Gave (g.S.Source.left c.args.source.now) (g.S.Source.left c.read_all.new.source)) same read.gave.1)
     read.end c.answer_bytes.ensures
