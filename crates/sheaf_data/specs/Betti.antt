@@ -1,0 +1,48 @@
+-- The whole cochain complex of a sheaf, and its Betti numbers.
+use Rattle.std.specs.Prelude.{◌≡◌, ℕ, ◌+◌, List, [], ◌∷◌, length, slice_index, EachIndex, max}
+use Rattle.cell_complex.specs.declared.face.Face.{Face}
+use Rattle.cell_complex.specs.declared.face.Sign.{Sign}
+use Rattle.cell_complex.specs.declared.face.Sign.TheVariants.{Plus, Minus}
+use Rattle.cell_complex.specs.Complexes.{CellComplex}
+use Rattle.cochain_vec.specs.declared.cell.Cell.{Cell}
+use Rattle.cochain_vec.specs.Complexes.{Arrow, CellularComplex}
+use Rattle.cochain_vec.specs.Cohomology.{HasDimension}
+use Rattle.dense_blocks.specs.Field.{Ops}
+use Rattle.dense_blocks.specs.Matrices.{matrix_negative}
+use Rattle.dense_blocks.specs.Blocks.{matrix_of}
+use Rattle.dense_blocks.specs.declared.block.Block.{Block}
+
+-- cells of these dimensions and stalks, numbered from n on: each has its dimension as its degree, and its stalk as its size
+abbrev pub numbered : ℕ → List ℕ → List ℕ → List Cell
+numbered n [] stalks = []
+numbered n (d ∷ dims) [] = []
+numbered n (d ∷ dims) (size ∷ stalks) = record { cell = n; degree = d; size = size } ∷ numbered (n + 1) dims stalks
+
+-- a sign times a matrix
+abbrev pub signed : Ops → Sign → List (List ℕ) → List (List ℕ)
+signed K Plus A = A
+signed K Minus A = matrix_negative K A
+
+-- a face with its block: the sign times the matrix of the block, from the coordinates of s to those of t
+abbrev pub arrow_of_face : Ops → Face → Block → Arrow
+arrow_of_face K f b = record { from = f.s; to = f.t; matrix = signed K f.sign (matrix_of b) }
+
+-- an arrow for each face, in order
+abbrev pub arrows_of : Ops → List Face → List Block → List Arrow
+arrows_of K [] blocks = []
+arrows_of K (f ∷ faces) [] = []
+arrows_of K (f ∷ faces) (b ∷ blocks) = arrow_of_face K f b ∷ arrows_of K faces blocks
+
+-- the whole complex: every cell, and an arrow for every face
+abbrev pub cochain_complex_of : Ops → CellComplex → List ℕ → List Block → CellularComplex
+cochain_complex_of K c stalks blocks = record { cells = numbered 0 c.dims stalks; arrows = arrows_of K c.faces blocks }
+
+-- one more than the largest dimension of a cell, and 0 where there are no cells
+abbrev pub degree_count : List ℕ → ℕ
+degree_count [] = 0
+degree_count (d ∷ dims) = max (d + 1) (degree_count dims)
+
+-- one number per degree, from 0 to the largest dimension: the dimension of the cohomology of that degree
+pub record AreBetti (K : Ops) (c : CellComplex) (stalks : List ℕ) (blocks : List Block) (numbers : List ℕ) : Type 0 where
+  pub one_each : length numbers ≡ degree_count c.dims
+  pub dimensions : EachIndex numbers (λ k. HasDimension K (cochain_complex_of K c stalks blocks) k (slice_index numbers k))

@@ -1,0 +1,2 @@
+pub mod Sheaves
+pub mod Betti
