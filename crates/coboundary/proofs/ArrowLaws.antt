@@ -1,9 +1,9 @@
 -- The arrows of a sheaf from one cell to another: none, or the one of a face.
-use Rattle.std.proofs.Common.{◌≡◌, ℕ, zero, suc, ◌+◌, ◌<◌, Bool, true, false, cond, not, ◌&&◌, ◌||◌, nat_eq, nat_lt, eqb, List, [], ◌∷◌, length, map, filter, find, get_or, slice_get, Option, None, Some, All, AllPairs, refl, sym, ap, ap₂, ◌∙◌, subst, arith}
-use Rattle.std.specs.Prelude.{◌==◌, position}
-use Rattle.std.specs.List.{list_any, zip, position_or_len}
+use Rattle.std.proofs.Common.{◌≡◌, ℕ, suc, ◌+◌, Bool, true, false, cond, not, ◌&&◌, nat_eq, nat_lt, eqb, List, [], ◌∷◌, length, find, slice_get, None, Some, All, AllPairs, refl, sym, ap, ap₂, ◌∙◌, arith}
+use Rattle.std.specs.Prelude.{position}
+use Rattle.std.specs.List.{list_any, position_or_len}
 use Rattle.std.specs.Option.{option_map, option_and_then}
-use Rattle.std.proofs.lemmas.Bool.{true≢false, and_parts, eqb-true, eq-eqb, or_parts, or_from, lt-ltb, le-ltb, ltb-true, ltb-false}
+use Rattle.std.proofs.lemmas.Bool.{and_parts, eqb-true, eq-eqb, or_parts, or_from, lt-ltb, le-ltb, ltb-true, ltb-false}
 use Rattle.std.proofs.lemmas.List.Elements.{All-head, All-tail, All-cons}
 use Rattle.cell_complex.specs.declared.face.Face.{Face}
 use Rattle.cell_complex.specs.declared.face.Sign.{Sign}
@@ -15,17 +15,11 @@ use Rattle.dense_blocks.specs.Blocks.{matrix_of}
 use Rattle.dense_blocks.specs.declared.block.Block.{Block}
 use Rattle.dense_blocks.proofs.Shapes.{Vector}
 use Rattle.dense_blocks.proofs.VectorLaws.{plus-zeros}
+use Rattle.square_check.proofs.Placed.{some-same}
 use Rattle.cochain_vec.specs.Complexes.{Arrow, sum_into}
 use Rattle.cochain_vec.proofs.CoboundaryLaws.{RowsInto, applied-rows}
 use Rattle.cochain_vec.proofs.PathLaws.{arrows_from}
-use Rattle.coboundary.specs.Stand.{signed, arrow_of}
-
--- the arrows of these faces with these blocks
-abbrev pub arrows_of : Ops → List Face → List Block → List Arrow
-arrows_of K fs bs = map (λ (p : Face × Block). arrow_of K p.0 p.1) (zip fs bs)
-
-some-same : {X : Type 0} (x y : X) → Some x ≡ Some y → x ≡ y
-some-same x y e = cc
+use Rattle.sheaf_data.specs.Betti.{signed, arrow_of_face, arrows_of}
 
 eqb-sym : (a b : ℕ) → eqb a b ≡ eqb b a
 eqb-sym a b = go (eqb a b) (eqb b a) refl refl
@@ -36,7 +30,7 @@ eqb-sym a b = go (eqb a b) (eqb b a) refl refl
     go false true e f = sym e ∙ eq-eqb a b (sym (eqb-true b a f))
     go false false e f = refl
 
--- the first face that passes a test is not the head: neither its place
+-- where the head fails the test, what is found lies behind it; where it passes, the head is found
 find-behind : {X : Type 0} (p : X → Bool) (x : X) (xs : List X) → p x ≡ false → find p (x ∷ xs) ≡ find p xs
 find-behind p x xs e = ap (λ b. cond b (Some x) (find p xs)) e
 
@@ -82,7 +76,7 @@ module _ (K : Ops) (F : IsField K) (s t n : ℕ) (value : ℕ → List ℕ) wher
       rest = between fs bs
 
       go : (x : Bool) → (x ≡ true → f.s ≡ s)
-          → sum_into K (cond x (arrow_of K f b ∷ arrows_from (arrows_of K fs bs) s) (arrows_from (arrows_of K fs bs) s)) value n t
+          → sum_into K (cond x (arrow_of_face K f b ∷ arrows_from (arrows_of K fs bs) s) (arrows_from (arrows_of K fs bs) s)) value n t
           ≡ cond (x && eqb f.t t) (plus K (applied K A (value s)) rest) rest
       go true e = ap (λ i. cond (eqb f.t t) (plus K (applied K A (value i)) rest) rest) (e refl)
       go false e = refl
@@ -114,7 +108,7 @@ module _ (K : Ops) (F : IsField K) (s t n : ℕ) (value : ℕ → List ℕ) wher
       between-more f fs c bs
       ∙ go (joins s t f) refl
       (λ later_sign later_block. between-face fs bs (omega arith) (λ i j d l m. h (suc i) (suc j) d (omega arith) (omega arith))
-      (All-tail Rows (arrow_of K f c) (arrows_of K fs bs) rows) g b later_sign later_block)
+      (All-tail Rows (arrow_of_face K f c) (arrows_of K fs bs) rows) g b later_sign later_block)
     where
       Rows : Arrow → Type 0
       Rows a = a.to ≡ t → length a.matrix ≡ n
@@ -132,7 +126,7 @@ module _ (K : Ops) (F : IsField K) (s t n : ℕ) (value : ℕ → List ℕ) wher
           let block : Some c ≡ Some b = sym (at_place-front (joins s t) f fs c bs at) ∙ is_block in
           let none : between fs bs ≡ zeros n = between-none fs bs (apart f fs at (λ i d l. h 0 (suc i) d (omega arith) (omega arith))) in
           let shape : Vector K n first =
-          applied-rows K F n (signed K f.sign (matrix_of c)) (value s) (All-head Rows (arrow_of K f c) (arrows_of K fs bs) rows (sym (eqb-true t f.t ends.1))) in
+          applied-rows K F n (signed K f.sign (matrix_of c)) (value s) (All-head Rows (arrow_of_face K f c) (arrows_of K fs bs) rows (sym (eqb-true t f.t ends.1))) in
           ap (plus K first) none ∙ plus-zeros K F n first shape
           ∙ ap₂ (λ x y. applied K (signed K x (matrix_of y)) (value s)) (some-same f.sign g sign) (some-same c b block)
       go false at later =
@@ -141,8 +135,8 @@ module _ (K : Ops) (F : IsField K) (s t n : ℕ) (value : ℕ → List ℕ) wher
 
 -- what holds of the arrow of each face holds of each arrow
 pub all-arrows : (K : Ops) (P : Arrow → Type 0) (fs : List Face) (bs : List Block)
-    → ((p : ℕ) (f : Face) (b : Block) → slice_get fs p ≡ Some f → slice_get bs p ≡ Some b → P (arrow_of K f b)) → All P (arrows_of K fs bs)
+    → ((p : ℕ) (f : Face) (b : Block) → slice_get fs p ≡ Some f → slice_get bs p ≡ Some b → P (arrow_of_face K f b)) → All P (arrows_of K fs bs)
 all-arrows K P [] bs h = λ k d l. absurd (omega arith)
 all-arrows K P (f ∷ fs) [] h = λ k d l. absurd (omega arith)
 all-arrows K P (f ∷ fs) (b ∷ bs) h =
-    All-cons P (arrow_of K f b) (arrows_of K fs bs) (h 0 f b refl refl) (all-arrows K P fs bs (λ p g c e d. h (suc p) g c e d))
+    All-cons P (arrow_of_face K f b) (arrows_of K fs bs) (h 0 f b refl refl) (all-arrows K P fs bs (λ p g c e d. h (suc p) g c e d))

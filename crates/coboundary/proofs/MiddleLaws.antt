@@ -1,5 +1,5 @@
 -- Signs and squares: the two ways from a cell to one two dimensions up.
-use Rattle.std.proofs.Common.{◌≡◌, ℕ, suc, ◌+◌, ◌<◌, ◌≤◌, Bool, true, false, cond, ◌&&◌, ◌||◌, ⊎_elim, List, [], ◌∷◌, length, find, get_or, slice_get, slice_index, Option, None, Some, All, refl, sym, ap, ap₂, ◌∙◌, subst, arith}
+use Rattle.std.proofs.Common.{◌≡◌, ℕ, ◌<◌, ◌≤◌, Bool, true, false, cond, ◌||◌, ⊎_elim, List, [], ◌∷◌, length, find, get_or, slice_get, None, Some, refl, sym, ap, ◌∙◌, arith}
 use Rattle.std.specs.List.{list_any}
 use Rattle.std.specs.Option.{option_map, option_and_then}
 use Rattle.std.proofs.lemmas.Bool.{true≢false}
@@ -10,18 +10,15 @@ use Rattle.cell_complex.specs.declared.face.Sign.TheVariants.{Plus, Minus}
 use Rattle.cell_complex.specs.Complexes.{CellComplex, joins, is_face, sign}
 use Rattle.dense_blocks.specs.Field.{Ops, IsField}
 use Rattle.dense_blocks.specs.Vectors.{zeros, plus, negative}
-use Rattle.dense_blocks.specs.Matrices.{applied, product, matrix_negative}
-use Rattle.dense_blocks.specs.Blocks.{matrix_of}
+use Rattle.dense_blocks.specs.Matrices.{applied, product}
 use Rattle.dense_blocks.specs.declared.block.Block.{Block}
 use Rattle.dense_blocks.proofs.Shapes.{Vector, Matrix}
 use Rattle.dense_blocks.proofs.VectorLaws.{negative-negative, negative-plus, plus-negative}
 use Rattle.dense_blocks.proofs.MatrixLaws.{applied-negative, matrix_negative-applied, matrix_negative-matrix, product-applied}
 use Rattle.incidence_check.specs.Incidences.{are_opposite, times}
-use Rattle.incidence_check.specs.Incidences as incidences
-use Rattle.square_check.specs.Squares.{restriction, through}
-use Rattle.square_check.proofs.Placed.{placed, some-same}
-use Rattle.square_check.proofs.Commuting.{through-is}
-use Rattle.coboundary.specs.Stand.{signed}
+use Rattle.square_check.specs.Squares.{restriction}
+use Rattle.square_check.proofs.Placed.{placed}
+use Rattle.sheaf_data.specs.Betti.{signed}
 
 -- a vector with a sign
 abbrev pub signed_vector : Ops → Sign → List ℕ → List ℕ

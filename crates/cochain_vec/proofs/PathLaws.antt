@@ -1,18 +1,19 @@
 -- Paths of two arrows: the coboundary of a coboundary, as a sum over the cells where its paths begin and those that they pass.
-use Rattle.std.proofs.Common.{◌≡◌, ℕ, zero, suc, ◌+◌, List, [], ◌∷◌, ◌++◌, length, get_or, take, drop, filter, cond, eqb, Bool, true, false, All, refl, sym, ap, ap₂, ◌∙◌, subst, arith}
+use Rattle.std.proofs.Common.{◌≡◌, ℕ, zero, suc, List, [], ◌∷◌, ◌++◌, length, get_or, take, drop, filter, cond, eqb, Bool, true, false, All, refl, sym, ap, ap₂, ◌∙◌, subst, arith}
 use Rattle.std.specs.Prelude.{◌==◌}
 use Rattle.std.specs.List.{flat_map}
 use Rattle.std.proofs.lemmas.List.Elements.{All-tail, All-head, All-filter}
 use Rattle.std.proofs.Math.Seq.{take-append_seam, drop-append_seam}
 use Rattle.std.proofs.lemmas.Bool.{eqb-true}
 use Rattle.dense_blocks.specs.Field.{Ops, IsField}
-use Rattle.dense_blocks.specs.Vectors.{zeros, plus, scaled}
+use Rattle.dense_blocks.specs.Vectors.{IsVector, zeros, plus}
 use Rattle.dense_blocks.specs.Matrices.{applied}
-use Rattle.dense_blocks.proofs.Shapes.{Vector, vector-size}
-use Rattle.dense_blocks.proofs.VectorLaws.{zeros-append, zeros-vector, plus-vector, plus-assoc, plus-cross, zeros-plus, plus-zeros, zeros-plus-zeros, scaled-zero}
+use Rattle.dense_blocks.proofs.Shapes.{Vector, vector-size, from_vector}
+use Rattle.dense_blocks.proofs.VectorLaws.{zeros-append, zeros-vector, plus-vector, plus-cross, zeros-plus, plus-zeros, zeros-plus-zeros, scaled-zero}
 use Rattle.cochain_vec.specs.declared.cell.Cell.{Cell}
 use Rattle.cochain_vec.specs.Complexes.{Arrow, CellularComplex, cells_of, total_size, coordinates, value_at, sum_into, coboundary, RowsFit}
-use Rattle.cochain_vec.proofs.CoboundaryLaws.{size_at, RowsInto, applied-rows, sum_into-vector, sum_into-plus, sum_into-scaled, piece, pieces}
+use Rattle.cochain_vec.specs.Cohomology.{IsCochainComplex, IsCocycle, IsCoboundary}
+use Rattle.cochain_vec.proofs.CoboundaryLaws.{coboundary-cochain, coboundary-zeros, size_at, RowsInto, applied-rows, sum_into-vector, sum_into-plus, sum_into-scaled, piece, pieces}
 use Rattle.cochain_vec.proofs.StalklessLaws.{sum_into-none, sum_into-same}
 
 -- the sum of vectors of n coordinates, one for each number of a list
@@ -112,7 +113,7 @@ module _ (K : Ops) (F : IsField K) where
         | false ↦ sym (zeros-plus K F n (sum_into K others value n t) (sum_into-vector K F others value n t h))
       ]
 
-  rows_from : (arrows : List Arrow) (n t s : ℕ) → RowsInto arrows n t → RowsInto (arrows_from arrows s) n t
+  pub rows_from : (arrows : List Arrow) (n t s : ℕ) → RowsInto arrows n t → RowsInto (arrows_from arrows s) n t
   unfolding RowsInto
   rows_from arrows n t s h = All-filter (λ (a : Arrow). a.from == s) (λ (a : Arrow). a.to ≡ t → length a.matrix ≡ n) arrows h
 
@@ -212,7 +213,7 @@ module _ (K : Ops) (F : IsField K) where
       go true e r = ap₂ (plus K) (ap (applied K a.matrix) (All-head (λ (a : Arrow). a.to ≡ t → x a.from ≡ y a.from) a others h (e refl))) r
       go false e r = r
 
--- the numbers of the cells, each with its count of coordinates, as those of degree k + 1 and their arrows see them
+-- a count of coordinates for each number that is right at the cells of degree k + 2 and at those below them, and that all matrices fit
 pub record AreSizes (C : CellularComplex) (k : ℕ) (size : ℕ → ℕ) : Type 0 where
   pub rows : (t : ℕ) → RowsInto C.arrows (size t) t
   pub above : All (λ (u : Cell). u.size ≡ size u.cell) (cells_of C (suc (suc k)))
@@ -249,3 +250,14 @@ module _ (K : Ops) (F : IsField K) (C : CellularComplex) (fits : RowsFit C) (k :
           (λ s. sum_over K (size u.cell) (λ t. sum_into K (arrows_from C.arrows t) (after K C.arrows size value s) (size u.cell) u.cell) cells) cells
           (λ s. cancel s u.cell)
           ∙ ap zeros (sym same)
+
+-- in a cochain complex a coboundary is a cocycle
+pub coboundary-cocycle : (K : Ops) (F : IsField K) (C : CellularComplex) → RowsFit C → IsCochainComplex K C → (k : ℕ) (z : List ℕ) → IsCoboundary K C k z → IsCocycle K C k z
+coboundary-cocycle K F C fits closed zero z e = record {
+  cochain = subst (IsVector K (coordinates C 0)) (sym e) (from_vector K (coordinates C 0) (zeros (coordinates C 0)) (zeros-vector K F (coordinates C 0)));
+  closed = ap (coboundary K C 0) e ∙ coboundary-zeros K F C fits 0;
+}
+coboundary-cocycle K F C fits closed (suc k) z of = record {
+  cochain = subst (IsVector K (coordinates C (suc k))) (sym of.2) (from_vector K (coordinates C (suc k)) (coboundary K C k of.0) (coboundary-cochain K F C fits k of.0));
+  closed = ap (coboundary K C (suc k)) of.2 ∙ closed k of.0 of.1;
+}
