@@ -1,4 +1,4 @@
-ghost use Rattle.std.specs.Prelude.{◌≡◌};
+ghost use Rattle.std.specs.Prelude.{◌≡◌, ◌<◌, length, slice_set};
 
 use std::marker::Model;
 
@@ -37,5 +37,15 @@ impl<T> Listed<T> {
     {
         let Listed { items } = self;
         items
+    }
+}
+
+impl<T: Drop> Listed<T> {
+    /// Puts the member at `index` in place of the one there; takes no memory.
+    pub fn set(&mut self, index: usize, member: T)
+        requires { index < length self.old }
+        ensures { self.new ≡ slice_set self.old index member }
+    {
+        self.items[index] = member;
     }
 }

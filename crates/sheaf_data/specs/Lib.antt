@@ -1,2 +1,3 @@
 pub mod Sheaves
 pub mod Betti
+pub mod Refusals

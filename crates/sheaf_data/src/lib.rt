@@ -4,7 +4,11 @@
 mod draft;
 mod fault;
 mod sheaf;
+mod stalks;
+#[cfg(test)]
+mod tests;
 
-pub use draft::{Draft, stalks_fit};
+pub use draft::Draft;
 pub use fault::SealFault;
 pub use sheaf::Sheaf;
+pub use stalks::stalks_fit;
