@@ -27,7 +27,7 @@ drop-vector K (suc m) n [] h = absurd (subst (λ k. Vector K k []) (suc-add m n)
 drop-vector K (suc m) n (a ∷ z) h = let g : Vector K (suc (m + n)) (a ∷ z) = subst (λ k. Vector K k (a ∷ z)) (suc-add m n) h in drop-vector K m n z g.1
 
 -- how many coordinates the cell s has among these cells
-pub size_at : List Cell → ℕ → ℕ
+unfoldable pub size_at : List Cell → ℕ → ℕ
 size_at [] s = 0
 size_at (c ∷ cs) s = cond (eqb c.cell s) c.size (size_at cs s)
 
@@ -59,7 +59,7 @@ value-scaled K (c ∷ cs) k v s =
     ]
 
 -- matrices into the cell t have n rows
-RowsInto : List Arrow → ℕ → ℕ → Type 0
+unfoldable pub RowsInto : List Arrow → ℕ → ℕ → Type 0
 RowsInto arrows n t = All (λ (a : Arrow). a.to ≡ t → length a.matrix ≡ n) arrows
 
 module _ (K : Ops) (F : IsField K) where
@@ -69,7 +69,7 @@ module _ (K : Ops) (F : IsField K) where
   applied-rows (suc n) [] v e = absurd (omega arith)
   applied-rows (suc n) (r ∷ A) v e = (dot-below K F r v, applied-rows n A v (omega arith))
 
-  sum_into-vector : (arrows : List Arrow) (value : ℕ → List ℕ) (n t : ℕ) → RowsInto arrows n t → Vector K n (sum_into K arrows value n t)
+  pub sum_into-vector : (arrows : List Arrow) (value : ℕ → List ℕ) (n t : ℕ) → RowsInto arrows n t → Vector K n (sum_into K arrows value n t)
   unfolding RowsInto
   sum_into-vector [] value n t h = zeros-vector K F n
   sum_into-vector (a ∷ others) value n t h =
@@ -81,7 +81,7 @@ module _ (K : Ops) (F : IsField K) where
           (applied-rows n a.matrix (value a.from) (All-head (λ (a : Arrow). a.to ≡ t → length a.matrix ≡ n) a others h (eqb-true a.to t e))) rest
       go false e rest = rest
 
-  sum_into-plus : (arrows : List Arrow) (size : ℕ → ℕ) (x y z : ℕ → List ℕ) (n t : ℕ) → ((s : ℕ) → Vector K (size s) (x s)) → ((s : ℕ) → Vector K (size s) (y s))
+  pub sum_into-plus : (arrows : List Arrow) (size : ℕ → ℕ) (x y z : ℕ → List ℕ) (n t : ℕ) → ((s : ℕ) → Vector K (size s) (x s)) → ((s : ℕ) → Vector K (size s) (y s))
       → ((s : ℕ) → z s ≡ plus K (x s) (y s)) → sum_into K arrows z n t ≡ plus K (sum_into K arrows x n t) (sum_into K arrows y n t)
   sum_into-plus [] size x y z n t hx hy e = sym (zeros-plus-zeros K F n)
   sum_into-plus (a ∷ others) size x y z n t hx hy e =
@@ -95,7 +95,7 @@ module _ (K : Ops) (F : IsField K) where
         | false ↦ rest
       ]
 
-  sum_into-scaled : (arrows : List Arrow) (k : ℕ) (x z : ℕ → List ℕ) (n t : ℕ) → ((s : ℕ) → z s ≡ scaled K k (x s))
+  pub sum_into-scaled : (arrows : List Arrow) (k : ℕ) (x z : ℕ → List ℕ) (n t : ℕ) → ((s : ℕ) → z s ≡ scaled K k (x s))
       → sum_into K arrows z n t ≡ scaled K k (sum_into K arrows x n t)
   sum_into-scaled [] k x z n t e = sym (scaled-zeros K F k n)
   sum_into-scaled (a ∷ others) k x z n t e =
@@ -130,10 +130,10 @@ module _ (K : Ops) (F : IsField K) where
 
   module _ (C : CellularComplex) (fits : RowsFit C) (k : ℕ) where
     -- the part of a coboundary at a cell
-    piece : List ℕ → Cell → List ℕ
+    unfoldable pub piece : List ℕ → Cell → List ℕ
     piece z t = sum_into K C.arrows (value_at (cells_of C k) z) t.size t.cell
 
-    pieces : (z : List ℕ) → All (λ (t : Cell). Vector K t.size (piece z t)) (cells_of C (suc k))
+    pub pieces : (z : List ℕ) → All (λ (t : Cell). Vector K t.size (piece z t)) (cells_of C (suc k))
     unfolding piece RowsInto
     pieces z =
         All-filter (λ (c : Cell). c.degree == suc k) (λ (t : Cell). Vector K t.size (piece z t)) C.cells

@@ -1,2 +1,3 @@
 pub mod CoboundaryLaws
 pub mod StalklessLaws
+pub mod PathLaws

@@ -77,7 +77,7 @@ value-filter (c ∷ cs) z s h = go (has_coordinates c) (eqb c.cell s) refl refl 
 
 module _ (K : Ops) where
   -- the same values give the same sums
-  sum_into-same : (arrows : List Arrow) (x y : ℕ → List ℕ) (n t : ℕ) → ((s : ℕ) → x s ≡ y s) → sum_into K arrows x n t ≡ sum_into K arrows y n t
+  pub sum_into-same : (arrows : List Arrow) (x y : ℕ → List ℕ) (n t : ℕ) → ((s : ℕ) → x s ≡ y s) → sum_into K arrows x n t ≡ sum_into K arrows y n t
   sum_into-same [] x y n t e = refl
   sum_into-same (a ∷ others) x y n t e =
       let rest = sum_into-same others x y n t e in
@@ -88,7 +88,7 @@ module _ (K : Ops) where
       ]
 
   -- a sum into a cell without coordinates has none
-  sum_into-none : (arrows : List Arrow) (x : ℕ → List ℕ) (t : ℕ) → sum_into K arrows x 0 t ≡ []
+  pub sum_into-none : (arrows : List Arrow) (x : ℕ → List ℕ) (t : ℕ) → sum_into K arrows x 0 t ≡ []
   sum_into-none [] x t = refl
   sum_into-none (a ∷ others) x t =
       let rest = sum_into-none others x t in

@@ -1,0 +1,3 @@
+pub mod ArrowLaws
+pub mod MiddleLaws
+pub mod ClosedLaws

@@ -1,0 +1,91 @@
+-- Signs and squares: the two ways from a cell to one two dimensions up.
+use Rattle.std.proofs.Common.{◌≡◌, ℕ, ◌<◌, ◌≤◌, Bool, true, false, cond, ◌||◌, ⊎_elim, List, [], ◌∷◌, length, find, get_or, slice_get, None, Some, refl, sym, ap, ◌∙◌, arith}
+use Rattle.std.specs.List.{list_any}
+use Rattle.std.specs.Option.{option_map, option_and_then}
+use Rattle.std.proofs.lemmas.Bool.{true≢false}
+use Rattle.std.proofs.lemmas.Option.{slice_get_cases}
+use Rattle.cell_complex.specs.declared.face.Face.{Face}
+use Rattle.cell_complex.specs.declared.face.Sign.{Sign}
+use Rattle.cell_complex.specs.declared.face.Sign.TheVariants.{Plus, Minus}
+use Rattle.cell_complex.specs.Complexes.{CellComplex, joins, is_face, sign}
+use Rattle.dense_blocks.specs.Field.{Ops, IsField}
+use Rattle.dense_blocks.specs.Vectors.{zeros, plus, negative}
+use Rattle.dense_blocks.specs.Matrices.{applied, product}
+use Rattle.dense_blocks.specs.declared.block.Block.{Block}
+use Rattle.dense_blocks.proofs.Shapes.{Vector, Matrix}
+use Rattle.dense_blocks.proofs.VectorLaws.{negative-negative, negative-plus, plus-negative}
+use Rattle.dense_blocks.proofs.MatrixLaws.{applied-negative, matrix_negative-applied, matrix_negative-matrix, product-applied}
+use Rattle.incidence_check.specs.Incidences.{are_opposite, times}
+use Rattle.square_check.specs.Squares.{restriction}
+use Rattle.square_check.proofs.Placed.{placed}
+use Rattle.sheaf_data.specs.Betti.{signed}
+
+-- a vector with a sign
+abbrev pub signed_vector : Ops → Sign → List ℕ → List ℕ
+signed_vector K Plus v = v
+signed_vector K Minus v = negative K v
+
+module _ (K : Ops) (F : IsField K) where
+  signed-applied : (g : Sign) (A : List (List ℕ)) (v : List ℕ) → applied K (signed K g A) v ≡ signed_vector K g (applied K A v)
+  signed-applied Plus A v = refl
+  signed-applied Minus A v = matrix_negative-applied K F A v
+
+  applied-signed : (g : Sign) (A : List (List ℕ)) (v : List ℕ) → applied K A (signed_vector K g v) ≡ signed_vector K g (applied K A v)
+  applied-signed Plus A v = refl
+  applied-signed Minus A v = applied-negative K F A v
+
+  signed-signed : (n : ℕ) (g h : Sign) (v : List ℕ) → Vector K n v → signed_vector K h (signed_vector K g v) ≡ signed_vector K (times g h) v
+  signed-signed n Plus h v s = refl
+  signed-signed n Minus Plus v s = refl
+  signed-signed n Minus Minus v s = negative-negative K F n v s
+
+  pub signed-matrix : (m n : ℕ) (g : Sign) (A : List (List ℕ)) → Matrix K m n A → Matrix K m n (signed K g A)
+  signed-matrix m n Plus A h = h
+  signed-matrix m n Minus A h = matrix_negative-matrix K F m n A h
+
+  -- two signs in turn are their product
+  pub signed-twice : (m n : ℕ) (g h : Sign) (A B : List (List ℕ)) (v : List ℕ) → Matrix K m n B → Vector K (length A) (applied K A (applied K B v))
+      → applied K (signed K h A) (applied K (signed K g B) v) ≡ signed_vector K (times g h) (applied K (product K n A B) v)
+  signed-twice m n g h A B v shape vector =
+      signed-applied h A (applied K (signed K g B) v)
+      ∙ ap (λ w. signed_vector K h (applied K A w)) (signed-applied g B v)
+      ∙ ap (signed_vector K h) (applied-signed g A (applied K B v))
+      ∙ signed-signed (length A) g h (applied K A (applied K B v)) vector
+      ∙ ap (signed_vector K (times g h)) (sym (product-applied K F m n A B v shape))
+
+  -- a vector with opposite signs adds up to zero
+  pub opposite-cancel : (n : ℕ) (g h : Sign) (v : List ℕ) → Vector K n v → are_opposite (Some g) (Some h) ≡ true
+      → plus K (signed_vector K g v) (signed_vector K h v) ≡ zeros n
+  opposite-cancel n Plus Plus v s e = absurd (true≢false (sym e))
+  opposite-cancel n Plus Minus v s e = plus-negative K F n v s
+  opposite-cancel n Minus Plus v s e = negative-plus K F n v s
+  opposite-cancel n Minus Minus v s e = absurd (true≢false (sym e))
+
+-- the sign and the block of s in t
+pub record HasArrow (c : CellComplex) (blocks : List Block) (s t : ℕ) : Type 0 where
+  pub its_sign : Sign
+  pub its_block : Block
+  pub sign_is : sign c s t ≡ Some its_sign
+  pub block_is : restriction c blocks s t ≡ Some its_block
+
+found : {X : Type 0} (p : X → Bool) (xs : List X) → list_any p xs ≡ true → (x : X) × (find p xs ≡ Some x)
+found p [] h = absurd (true≢false (sym h))
+found {X} p (x ∷ xs) h = go (p x) h (found p xs)
+  where
+    go : (b : Bool) → (b || list_any p xs) ≡ true → (list_any p xs ≡ true → (y : X) × (find p xs ≡ Some y)) → (y : X) × (cond b (Some x) (find p xs) ≡ Some y)
+    go true e later = (x, refl)
+    go false e later = later e
+
+pub has_arrow : (c : CellComplex) (blocks : List Block) → length blocks ≡ length c.faces → (s t : ℕ) → is_face c s t ≡ true → HasArrow c blocks s t
+has_arrow c blocks same s t h =
+    let f = found (joins s t) c.faces h in
+    let p = placed c s t h in
+    ⊎_elim
+    (λ (b : (x : Block) × (p.at < length blocks) × (slice_get blocks p.at ≡ Some x) × (get_or blocks p.at x ≡ x)). let r : HasArrow c blocks s t = record {
+      its_sign = f.0.sign;
+      its_block = b.0;
+      sign_is = ap (option_map (λ (g : Face). g.sign)) f.1;
+      block_is = ap (option_and_then (slice_get blocks)) p.is ∙ b.2;
+    } in r)
+    (λ (past : (length blocks ≤ p.at) × (slice_get blocks p.at ≡ None)). let inside : p.at < length c.faces = p.inside in absurd (omega arith))
+    (slice_get_cases blocks p.at).1
