@@ -247,9 +247,10 @@ module _ (K : Ops) (h : IsField K) where
             subst (λ t. StartUnits t 0 (above ++ new ∷ below)) (sym (add-one j))
             (units-join (suc j) 0 above (new ∷ below)
             (units-cleared j w j 0 new A hnew ha inside (λ i low_i e. absurd (omega (arith, rows))) units.0 new_start one)
-            (subst (λ t. StartUnits (suc j) t (new ∷ below)) (sym place)
-            (pivot-scaled w j p hp inside start raised.not_zero,
-            units-cleared m w j (suc j) new B hnew hb inside (λ i low_i e. absurd (omega arith)) own.1 new_start one)));
+            (subst (λ t. StartUnits (suc j) t (new ∷ below)) (sym place) (
+              pivot-scaled w j p hp inside start raised.not_zero,
+              units-cleared m w j (suc j) new B hnew hb inside (λ i low_i e. absurd (omega arith)) own.1 new_start one,
+            )));
       }
 
   pub column-written : (n j : ℕ) (rows above pivot below raised new above' below' : List ℕ) (inverse : ℕ) → j < n → length rows ≡ n * (2 * n) → AllScalars K rows
@@ -265,9 +266,10 @@ module _ (K : Ops) (h : IsField K) where
       let is_scaled : new ≡ scaled K (K.inv (get_or raised j 0)) raised = is_new ∙ ap (λ t. scaled K t raised) is_inverse in
       let up : IsRaised K j w (cut k w below) pivot raised = subst (λ t. IsRaised K j t (cut k t below) pivot raised) ep is_raised in
       let width : length new ≡ w = ap length is_new ∙ length-map raised (K.mul inverse) ∙ up.vector.size in
-      let three : AllScalars K above × AllScalars K below =
-      (front_all (λ a. a < K.order) above (pivot ++ below) (subst (AllScalars K) is scalars),
-      back_all (λ a. a < K.order) pivot below (back_all (λ a. a < K.order) above (pivot ++ below) (subst (AllScalars K) is scalars))) in
+      let three : AllScalars K above × AllScalars K below = (
+        front_all (λ a. a < K.order) above (pivot ++ below) (subst (AllScalars K) is scalars),
+        back_all (λ a. a < K.order) pivot below (back_all (λ a. a < K.order) above (pivot ++ below) (subst (AllScalars K) is scalars)),
+      ) in
       subst (Cleared K n (j + 1) before)
       (ap (λ p. map (without K j p) (cut j w above) ++ p ∷ map (without K j p) (cut k w below)) (sym is_scaled)
       ∙ ap₂ (λ A B. A ++ new ∷ B)

@@ -1,6 +1,7 @@
 -- The loops of an inversion, and what its steps make together.
-use Rattle.std.proofs.Common.{◌≡◌, ℕ, zero, suc, ◌+◌, ◌-◌, ◌*◌, ◌<◌, List, [], ◌∷◌, ◌++◌, length, map, take, drop, get_or, refl, sym, ap, ap₂, ◌∙◌, subst, arith, append_assoc, length-append, length-drop}
+use Rattle.std.proofs.Common.{◌≡◌, ◌≢◌, ℕ, zero, suc, ◌+◌, ◌-◌, ◌*◌, ◌<◌, List, [], ◌∷◌, ◌++◌, length, map, take, drop, get_or, refl, sym, ap, ap₂, ◌∙◌, subst, subst₂, arith, append_assoc, length-append, length-drop}
 use Rattle.std.proofs.lemmas.List.{take_at, drop-drop, drop-take, map_more, get_or-map, length-map, length-take-le}
+use Rattle.std.proofs.lemmas.List.Elements.{All-get_or}
 use Rattle.std.specs.List.{refill}
 use Rattle.dense_blocks.specs.Field.{Ops, IsField}
 use Rattle.dense_blocks.specs.Vectors.{AllScalars, zeros}
@@ -9,7 +10,8 @@ use Rattle.dense_blocks.specs.Blocks.{matrix_of, IsBlock}
 use Rattle.dense_blocks.specs.Clearing.{beside, undoing, Cleared, Stuck}
 use Rattle.dense_blocks.specs.Inverses.{IsInverseBlock, InKernel}
 use Rattle.dense_blocks.specs.declared.block.Block.{Block}
-use Rattle.dense_blocks.proofs.Shapes.{Matrix, to_matrix}
+use Rattle.dense_blocks.proofs.ScalarLaws.{one_below, zero_mul}
+use Rattle.dense_blocks.proofs.Shapes.{Matrix, to_matrix, from_matrix, from_vector}
 use Rattle.dense_blocks.proofs.MatrixLaws.{identity-matrix}
 use Rattle.dense_blocks.proofs.Cutting.{Sized, sized-size, sized-identity, cut-size, cut-row, first_rows, first_rows-next, identity-row}
 use Rattle.dense_blocks.proofs.BlockLaws.{block-matrix_at, is_block-scalars}
@@ -141,3 +143,45 @@ module _ (K : Ops) (h : IsField K) (a : Block) (square : a.rows ≡ a.cols) (sca
       subst (InKernel K n (matrix_of a)) (sym (is_v ∙ ap (λ t. undoing K n j (cut n (2 * n) t)) is_shown))
       (stuck-kernel K h n (matrix_of a) own j (cut n (2 * n) rows) (subst (λ J. Stuck K n j J (cut n (2 * n) rows)) is stuck)) in
       (kernel, λ B inverse. kernel-no_inverse K h n (matrix_of a) own v B kernel inverse)
+
+-- a block of one entry
+module _ (K : Ops) (h : IsField K) (a : Block) (one : a.rows ≡ 1) (square : a.rows ≡ a.cols) (scalars : AllScalars K a.entries) where
+  one-matrix : matrix_of a ≡ (get_or a.entries 0 0 ∷ []) ∷ []
+  one-matrix = ap₂ (λ m n. cut m n a.entries) one (sym square ∙ one) ∙ ap (λ r. r ∷ []) (single a.entries (a.full ∙ ap₂ (λ m n. m * n) one (sym square ∙ one)))
+    where
+      single : (xs : List ℕ) → length xs ≡ 1 → take 1 xs ≡ get_or xs 0 0 ∷ []
+      single [] e = absurd (omega arith)
+      single (x ∷ xs) e = refl
+
+  pub one-scalar : get_or a.entries 0 0 < K.order
+  one-scalar = All-get_or (λ x. x < K.order) a.entries 0 0 (omega (arith, a.full ∙ ap₂ (λ m n. m * n) one (sym square ∙ one))) scalars
+
+  pub one-inverse : (b : Block) (y : ℕ) → get_or a.entries 0 0 ≢ 0 → y ≡ K.inv (get_or a.entries 0 0) → IsBlock b 1 1 (cut 1 1 (y ∷ [])) → IsInverseBlock K a b
+  one-inverse b y not is_y has =
+      let x : ℕ = get_or a.entries 0 0 in
+      let B : List (List ℕ) = (y ∷ []) ∷ [] in
+      let low : y < K.order = subst (λ t. t < K.order) (sym is_y) (h.inv_below x) in
+      let xy : K.mul x y ≡ 1 = ap (K.mul x) is_y ∙ h.mul_inv x one-scalar not in
+      let inverse : IsInverse K 1 ((x ∷ []) ∷ []) B = record {
+        shape = from_matrix K 1 1 B ((low, tt), tt);
+        left = ap (λ t. (t ∷ []) ∷ []) (h.add_zero (K.mul y x) (h.mul_below y x) ∙ h.mul_comm y x ∙ xy);
+        right = ap (λ t. (t ∷ []) ∷ []) (h.add_zero (K.mul x y) (h.mul_below x y) ∙ xy);
+      } in
+      record {
+        rows_are = has.rows_are ∙ sym one;
+        columns_are = has.columns_are ∙ sym one ∙ square;
+        scalars = is_block-scalars K b 1 1 B ((low, tt), tt) has;
+        inverse = subst (λ n. IsInverse K n (matrix_of a) (matrix_of b)) (sym one) (subst₂ (IsInverse K 1) (sym one-matrix) (sym has.matrix_is) inverse);
+      }
+
+  pub one-kernel : (v : List ℕ) → get_or a.entries 0 0 ≡ 0 → v ≡ 1 ∷ [] → InKernel K a.rows (matrix_of a) v × ((B : List (List ℕ)) → IsInverse K a.rows (matrix_of a) B → ⊥)
+  one-kernel v none is_v =
+      let x : ℕ = get_or a.entries 0 0 in
+      let at_one : InKernel K 1 ((x ∷ []) ∷ []) (1 ∷ []) = record {
+        vector = from_vector K 1 (1 ∷ []) (one_below K h, tt);
+        not_zero = λ e. cc;
+        zero = ap (λ t. t ∷ []) (h.add_zero (K.mul x 1) (h.mul_below x 1) ∙ ap (λ t. K.mul t 1) none ∙ zero_mul K h 1);
+      } in
+      let kernel : InKernel K a.rows (matrix_of a) v =
+      subst (λ n. InKernel K n (matrix_of a) v) (sym one) (subst₂ (InKernel K 1) (sym one-matrix) (sym is_v) at_one) in
+      (kernel, λ B inverse. kernel-no_inverse K h a.rows (matrix_of a) (block-matrix_at K a a.rows a.rows refl (sym square) scalars) v B kernel inverse)

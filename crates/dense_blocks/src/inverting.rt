@@ -16,12 +16,15 @@ use std::alloc::{AllocError as NoMemory, Global};
 ///
 /// By elimination on the rows of the block beside those of the identity (Gauss and Jordan). For a block of n rows it takes at
 /// most 2n³ products of scalars, as many sums, n inverses and, beside the result, 2n² bytes; up to two rows it takes no memory
-/// but for the result. The only error is want of memory.
+/// but for the result, and of one row only the inverse of the entry. The only error is want of memory.
 pub fn invert<F: Scalars>(alloc: Global, f: &F, a: &Block) -> Result<Inverse, NoMemory>
     requires square { a.now.rows ≡ a.now.cols }
     requires scalars { AllScalars (F.ops f.now) a.now.entries }
     ensures { IfOk result (Inverts (F.ops f.now) a.now) }
 {
+    if a.rows == 1 {
+        return invert_one(alloc, f, a);
+    }
     let mut joined = beside_identity(alloc, a)?.into_items();
     match eliminate(f, a.rows as usize, joined.as_mut_slice()) {
         None => Ok(Inverse::Both(right_half(alloc, a.rows, joined.as_slice())?)),
@@ -33,6 +36,23 @@ pub fn invert<F: Scalars>(alloc: Global, f: &F, a: &Block) -> Result<Inverse, No
             joined.as_slice(),
         )?)),
     }
+}
+
+/// The inverse of a block of one entry, or the vector of one coordinate that shows that there is none.
+fn invert_one<F: Scalars>(alloc: Global, f: &F, a: &Block) -> Result<Inverse, NoMemory>
+    requires one { a.now.rows ≡ 1 }
+    requires square { a.now.rows ≡ a.now.cols }
+    requires scalars { AllScalars (F.ops f.now) a.now.entries }
+    ensures { IfOk result (Inverts (F.ops f.now) a.now) }
+{
+    let entry = a.entries.as_slice()[0];
+    if entry == 0 {
+        let mut one = Vec::new(alloc);
+        one.push(1)?;
+        return Ok(Inverse::Singular(one));
+    }
+    let inverse = Block::of(alloc, 1, 1, &[f.inv(entry)])?;
+    Ok(Inverse::Both(inverse))
 }
 
 /// The rows of the block, each with that of the identity behind it.

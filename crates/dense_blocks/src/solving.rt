@@ -123,7 +123,7 @@ impl Elimination {
         ensures parts { IfOk result (λ r. r.parts.items ≡ parts (F.ops f.now) self.now.pivots.items vector.now) }
     {
         let mut row = Vec::from_slice(alloc, vector)?;
-        let mut parts = Vec::new(alloc);
+        let mut parts = Vec::with_capacity(alloc, self.pivots.len())?;
         for pivot in &self.pivots {
             let part = f.mul(row[pivot.place], pivot.inverse);
             add_scaled(f, row.as_mut_slice(), f.neg(part), pivot.row.as_slice());

@@ -5,7 +5,9 @@ ghost use Rattle.field_table.specs.Modular.{IsModular};
 ghost use Rattle.field_table.specs.Table.{ops_of};
 
 use crate::field::Field;
-use dense_blocks::{Block, Inverse, Scalars, Solution, all_scalars, apply, invert, minus, product, solve};
+use dense_blocks::{
+    Block, Inverse, Scalars, Solution, all_scalars, apply, invert, minus, product, solve,
+};
 use std::alloc::{AllocError as NoMemory, Global};
 use std::process::Abort;
 
@@ -240,8 +242,16 @@ fn inverts_by_determinant<F: Scalars>(
             assert!(rt; invertible, "{entries:?}");
             let left = product(alloc, f, &inverse, &block)?;
             let right = product(alloc, f, &block, &inverse)?;
-            assert_eq!(rt; left.entries.as_slice(), [1, 0, 0, 1].as_slice(), "{entries:?}");
-            assert_eq!(rt; right.entries.as_slice(), [1, 0, 0, 1].as_slice(), "{entries:?}");
+            assert_eq!(rt;
+                left.entries.as_slice(),
+                [1, 0, 0, 1].as_slice(),
+                "{entries:?}"
+            );
+            assert_eq!(rt;
+                right.entries.as_slice(),
+                [1, 0, 0, 1].as_slice(),
+                "{entries:?}"
+            );
         }
         Inverse::Singular(vector) => {
             assert!(rt; !invertible, "{entries:?}");

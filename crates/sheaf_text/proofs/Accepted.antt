@@ -1,15 +1,14 @@
 -- What is known of a line that is not refused.
-use Rattle.std.proofs.Common.{◌≡◌, ℕ, ◌+◌, ◌<◌, ◌≤◌, ◌⊎◌, inl, inr, Bool, true, false, cond, not, List, drop, length, refl, ap, ◌∙◌, Option, Some, None, Contains, nat_eq, nat_lt, nat_le}
-use Rattle.std.specs.Prelude.{sum}
+use Rattle.std.proofs.Common.{◌≡◌, ℕ, Bool, true, false, cond, not, List, drop, length, refl, ap, ◌∙◌, Option, Some, None, Contains, nat_eq}
 use Rattle.std.specs.List.{list_any}
-use Rattle.std.proofs.lemmas.Bool.{eqb-true, ltb-false, leb-false}
+use Rattle.std.proofs.lemmas.Bool.{eqb-true}
 use Rattle.std.proofs.lemmas.Map.Views.{Contains-from_any}
 use Rattle.cell_complex.specs.declared.fault.FaceFault.{FaceFault}
 use Rattle.cell_complex.specs.Verdicts.{fault_of}
 use Rattle.field_table.specs.Table.{orders}
 use Rattle.sheaf_text.specs.Cut.{are_below}
 use Rattle.sheaf_text.specs.Lines.{value, may_stand, count_fits, are_numerals, is_sign, word, face_of}
-use Rattle.sheaf_text.specs.Grammar.{Known, is_full, complex_of, field_refusal, cell_refusal, face_refusal, entries_refusal, incidence_refusal, command_refusal, kind_refusal, known_kind_refusal}
+use Rattle.sheaf_text.specs.Grammar.{Known, is_full, complex_of, field_refusal, face_refusal, entries_refusal, incidence_refusal, kind_refusal, known_kind_refusal}
 use Rattle.sheaf_text.specs.Reading.{is_set_kind}
 use Rattle.sheaf_text.specs.Parts.{TakesFace}
 use Rattle.sheaf_text.specs.State.{known_by, IsAccepted}

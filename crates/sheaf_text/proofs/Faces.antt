@@ -1,7 +1,7 @@
 -- A face more, and a block for it.
-use Rattle.std.proofs.Common.{◌≡◌, ℕ, zero, suc, ◌<◌, ◌≤◌, ◌⊎◌, inl, inr, Bool, true, false, cond, List, [], ◌∷◌, ◌++◌, length, map, drop, All, refl, sym, ap, subst, ◌∙◌, arith, Some, None, nat_lt}
-use Rattle.std.specs.Prelude.{slice_get, slice_index, sum}
-use Rattle.std.proofs.lemmas.Bool.{true≢false, and_parts, ltb-true}
+use Rattle.std.proofs.Common.{◌≡◌, ℕ, zero, suc, ◌<◌, ◌⊎◌, inl, inr, true, List, [], ◌∷◌, ◌++◌, length, map, drop, All, refl, sym, ap, subst, ◌∙◌, arith, Some, nat_lt}
+use Rattle.std.specs.Prelude.{slice_get, slice_index}
+use Rattle.std.proofs.lemmas.Bool.{and_parts, ltb-true}
 use Rattle.std.proofs.lemmas.List.{length-append, map-append}
 use Rattle.std.proofs.lemmas.List.Elements.{All-push, All-nil, All-cons}
 use Rattle.std.proofs.lemmas.Option.{slice_get_within}
@@ -33,11 +33,11 @@ shape_more faces blocks f b count side size each last p g c at_face at_block =
       | inl l ↦ elim (pushed blocks b c p at_block) [
         | inl m ↦ each p g c l m
         | inr r ↦ absurd (omega (arith, r.0, count, slice_get_within faces p g l))
-        ]
+      ]
       | inr r ↦ elim (pushed blocks b c p at_block) [
         | inl m ↦ absurd (omega (arith, r.0, count, slice_get_within blocks p c m))
         | inr s ↦ ap side (sym s.1) ∙ last ∙ ap size r.1
-        ]
+      ]
     ]
 
 shapes_more : (stalks : List ℕ) (faces : List Face) (blocks : List Block) (f : Face) (b : Block) → HaveShapes stalks faces blocks → b.cols ≡ slice_index stalks f.s → b.rows ≡ slice_index stalks f.t → HaveShapes stalks (faces ++ f ∷ []) (blocks ++ b ∷ [])
@@ -63,7 +63,7 @@ blocks_more : (p : Parts) (ws : List (List ℕ)) (b : Block) → AreParts p → 
 blocks_more p ws b parts takes is = record {
   shapes = shapes_more p.stalks.items p.complex.faces p.blocks.items (face_of ws) b parts.blocks.shapes is.cols_are is.rows_are;
   scalars = All-push (λ (c : Block). AllScalars (ops_of p.field) c.entries) p.blocks.items b parts.blocks.scalars
-    (subst (λ (es : List ℕ). All (λ a. a < order_of p.field) es) (sym is.entries_are) (below_all (order_of p.field) (drop 4 ws) takes.below));
+      (subst (λ (es : List ℕ). All (λ a. a < order_of p.field) es) (sym is.entries_are) (below_all (order_of p.field) (drop 4 ws) takes.below));
 }
 
 -- the parts with a face more, and its block

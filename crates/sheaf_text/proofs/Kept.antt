@@ -1,6 +1,6 @@
 -- What is known of the lines so far may be kept from line to line.
-use Rattle.std.proofs.Common.{◌≡◌, ℕ, ◌+◌, ◌≤◌, List, [], ◌∷◌, ◌++◌, length, map, min, refl, sym, ap, ◌∙◌, arith, Option, Some, None, cond, add-zero, true, false, ◌<◌}
-use Rattle.std.specs.Prelude.{count_by, sum_by, nat_lt}
+use Rattle.std.proofs.Common.{◌≡◌, ℕ, ◌+◌, ◌≤◌, List, [], ◌∷◌, ◌++◌, length, map, refl, sym, ap, ◌∙◌, arith, None, cond, add-zero, true, false, ◌<◌}
+use Rattle.std.specs.Prelude.{sum_by, nat_lt}
 use Rattle.std.specs.List.{fold, filter_map}
 use Rattle.std.specs.Str.Lines.{lines}
 use Rattle.std.proofs.lemmas.Bool.{le-ltb, lt-ltb}
@@ -9,7 +9,7 @@ use Rattle.std.proofs.lemmas.List.Elements.{filter_map-append}
 use Rattle.sheaf_text.specs.Cut.{words}
 use Rattle.sheaf_text.specs.Grammar.{Known, refusal}
 use Rattle.sheaf_text.specs.declared.fault.Which.TheVariants as limits
-use Rattle.sheaf_text.specs.Reading.{Item, Skipped, IsField, IsCell, IsFace, IsClient, IsQuery, IsEdit, IsSet, IsCommit, IsDone, Reading, Limit, item_of, ending, go_on, known_of, reading_from, reading, contents, stage_after, order_after, dim_in, stalk_in, face_in, entries_in, scripts_after, is_command, is_heavy, size_in, set_size, up_to_most}
+use Rattle.sheaf_text.specs.Reading.{Item, Skipped, IsField, IsCell, IsFace, IsClient, IsQuery, IsEdit, IsSet, IsCommit, IsDone, Limit, item_of, ending, go_on, known_of, reading_from, reading, contents, stage_after, order_after, dim_in, stalk_in, face_in, entries_in, scripts_after, is_command, is_heavy, size_in, set_size, up_to_most}
 use Rattle.sheaf_text.specs.Keeping.{advance, nothing_known, run}
 
 -- ---- one item more
@@ -49,8 +49,16 @@ known_after : (earlier : List Item) (i : Item) → known_of (earlier ++ i ∷ []
 unfolding known_of
 known_after earlier i =
     rw (
-      fold_more stage_after _ earlier i, fold_more order_after _ earlier i, filter_map-append dim_in earlier (i ∷ []), filter_map-append stalk_in earlier (i ∷ []), filter_map-append face_in earlier (i ∷ []), filter_map-append entries_in earlier (i ∷ []),
-      fold_more scripts_after _ earlier i, fold_more (λ (a : ℕ) (x : Item). a + cond (is_command x) 1 0) 0 earlier i, fold_more (λ (a : ℕ) (x : Item). a + cond (is_heavy x) 1 0) 0 earlier i, fold_more (λ (a : ℕ) (x : Item). a + size_in x) 0 earlier i,
+      fold_more stage_after _ earlier i,
+      fold_more order_after _ earlier i,
+      filter_map-append dim_in earlier (i ∷ []),
+      filter_map-append stalk_in earlier (i ∷ []),
+      filter_map-append face_in earlier (i ∷ []),
+      filter_map-append entries_in earlier (i ∷ []),
+      fold_more scripts_after _ earlier i,
+      fold_more (λ (a : ℕ) (x : Item). a + cond (is_command x) 1 0) 0 earlier i,
+      fold_more (λ (a : ℕ) (x : Item). a + cond (is_heavy x) 1 0) 0 earlier i,
+      fold_more (λ (a : ℕ) (x : Item). a + size_in x) 0 earlier i,
       growth_more (sum_by size_in earlier) i,
     ) refl
 

@@ -1,5 +1,5 @@
 -- One line of the reading, and its end.
-use Rattle.std.proofs.Common.{◌≡◌, ℕ, suc, ◌+◌, Bool, true, false, List, [], ◌∷◌, length, map, refl, sym, ap, subst, ◌∙◌, arith, Option, Some, None}
+use Rattle.std.proofs.Common.{◌≡◌, ℕ, suc, true, false, List, [], ◌∷◌, map, refl, sym, ap, subst, ◌∙◌, arith, Option, Some, None}
 use Rattle.dense_blocks.specs.declared.block.Block.{Block}
 use Rattle.cell_complex.specs.declared.face.Face.{Face}
 use Rattle.field_table.specs.declared.field.Field.{Field}
@@ -8,7 +8,7 @@ use Rattle.sheaf_data.specs.Sheaves.{SheafData}
 use Rattle.sheaf_words.specs.declared.asking.Command.{Command}
 use Rattle.sheaf_text.specs.Lines.{is_skipped, kind_of}
 use Rattle.sheaf_text.specs.Grammar.{Known, refusal, content_refusal, is_ended}
-use Rattle.sheaf_text.specs.Reading.{Reading, Good, Item, Skipped, item_of, item_of_kind, refused, go_on, ending, blocks_of}
+use Rattle.sheaf_text.specs.Reading.{Good, Skipped, item_of, item_of_kind, refused, go_on, ending, blocks_of}
 use Rattle.sheaf_text.specs.Keeping.{advance}
 use Rattle.sheaf_text.specs.Answers.{GivesFault, matrix_of, input_value}
 use Rattle.sheaf_text.specs.Parts.{IsClosed, IsDraftOf}
@@ -56,8 +56,8 @@ module _ (old ready : State) (ws : List (List ℕ)) (kind : Option Kind) (conten
     accepted = refusal-ready ∙ f.not_refused;
     sound = takes.sound;
     known =
-      takes.known ∙ ap (λ k. advance k (item_of_kind (Some found) ws)) same.known
-      ∙ ap (advance (known_by old)) (ap (λ o. item_of_kind o ws) (sym f.kind_is ∙ is) ∙ sym (item_of-content ws content));
+        takes.known ∙ ap (λ k. advance k (item_of_kind (Some found) ws)) same.known
+        ∙ ap (advance (known_by old)) (ap (λ o. item_of_kind o ws) (sym f.kind_is ∙ is) ∙ sym (item_of-content ws content));
   }
 
   pub refuses_content : (line : ℕ) (r : Refusal) (fault : TextFault) → content_refusal (known_by ready) kind ws ≡ Some r → GivesFault fault (refused line r) → RefusesLine old line ws fault

@@ -1,19 +1,17 @@
 -- What is known after a line of a client.
-use Rattle.std.proofs.Common.{◌≡◌, ℕ, ◌+◌, ◌<◌, ◌^◌, Bool, true, List, [], ◌∷◌, ◌++◌, refl, sym, ap, arith, ◌∙◌, Some}
+use Rattle.std.proofs.Common.{◌≡◌, ℕ, ◌<◌, ◌^◌, true, List, [], ◌∷◌, ◌++◌, refl, ap, arith, Some}
 use Rattle.sheaf_words.specs.declared.asking.Command.{Command}
 use Rattle.sheaf_words.specs.declared.asking.Command.TheVariants.{Change, Ask}
 use Rattle.sheaf_words.specs.declared.asking.Query.{Query}
 use Rattle.sheaf_words.specs.declared.editing.Set.{Set}
-use Rattle.sheaf_text.specs.Lines.{may_stand, value, word}
+use Rattle.sheaf_text.specs.Lines.{word}
 use Rattle.sheaf_text.specs.Reading.{IsQuery, IsEdit, IsSet, item_of_kind, set_of, set_size, is_set_kind, onto_last, into_script, into_last}
-use Rattle.sheaf_text.specs.Keeping.{advance}
 use Rattle.sheaf_text.specs.Parts.{IsClosed}
 use Rattle.sheaf_text.specs.Scripts.{AddsQuery, OpensEdit, AddsSet}
-use Rattle.sheaf_text.specs.State.{known_by, IsSound, Takes}
+use Rattle.sheaf_text.specs.State.{IsSound, Takes}
 use Rattle.sheaf_text.proofs.Numbers.{value_of-below}
 use Rattle.sheaf_text.specs.declared.line.Kind.{Kind}
 use Rattle.sheaf_text.specs.declared.line.Kind.TheVariants as kinds
-use Rattle.sheaf_text.specs.declared.line.Stage.{Stage}
 use Rattle.sheaf_text.specs.declared.line.Stage.TheVariants as stages
 use Rattle.sheaf_text.specs.declared.scripts.Scripts.{Scripts}
 use Rattle.sheaf_text.specs.declared.state.State.{State}
@@ -49,7 +47,13 @@ pub takes_set : (old : State) (scripts : Scripts) (s : Set) → IsSound old → 
 takes_set old scripts s sound at a = record {
   sound = record { parts = sound.parts; stands = sound.stands };
   known = rw (
-    at, a.ended_same, a.commands_same, a.sets_more, a.count_same, a.heavy_same, a.growth_more,
+    at,
+    a.ended_same,
+    a.commands_same,
+    a.sets_more,
+    a.count_same,
+    a.heavy_same,
+    a.growth_more,
     into_last-append old.scripts.ended.items (old.scripts.commands.items ++ Change (record { sets = old.scripts.sets.items }) ∷ []) s,
     into_script-append old.scripts.commands.items old.scripts.sets.items s,
   ) refl;

@@ -1,5 +1,5 @@
 -- What a call of the reader answers, beside the reading of its bytes.
-use Rattle.std.specs.Prelude.{◌≡◌, List, map, Result, Ok, Err}
+use Rattle.std.specs.Prelude.{◌≡◌, map, Result, Ok, Err}
 use Rattle.dense_blocks.specs.declared.block.Block.{Block}
 use Rattle.field_table.specs.Table.{order_of}
 use Rattle.sheaf_text.specs.Reading.{Reading, Good, BadLine, Limit, InputValue, Matrix}

@@ -1,6 +1,6 @@
 -- Which lines are refused, by what the earlier lines say.
-use Rattle.std.specs.Prelude.{◌≡◌, ℕ, ◌+◌, ◌*◌, Bool, true, false, List, drop, length, sum, min, not, Option, Some, None, ◌==◌, nat_le, nat_lt, slice_index, if◌then◌else◌}
-use Rattle.std.specs.List.{list_all, list_any}
+use Rattle.std.specs.Prelude.{ℕ, ◌+◌, ◌*◌, Bool, true, false, List, drop, length, sum, min, not, Option, Some, None, ◌==◌, nat_le, nat_lt, slice_index, if◌then◌else◌}
+use Rattle.std.specs.List.{list_any}
 use Rattle.cell_complex.specs.declared.face.Face.{Face}
 use Rattle.cell_complex.specs.declared.fault.FaceFault.{FaceFault}
 use Rattle.cell_complex.specs.declared.fault.FaceFault.TheVariants.{UnknownCell, WrongDims, TwiceFace}

@@ -1,9 +1,7 @@
 -- The reading of bytes, with what is known kept from line to line.
-use Rattle.std.specs.Prelude.{ℕ, ◌+◌, List, [], ◌∷◌, ◌++◌, Option, Some, None, if◌then◌else◌}
-use Rattle.sheaf_words.specs.declared.asking.Command.{Command}
+use Rattle.std.specs.Prelude.{ℕ, ◌+◌, List, [], ◌∷◌, ◌++◌, if◌then◌else◌}
 use Rattle.sheaf_words.specs.declared.asking.Command.TheVariants.{Change, Ask}
 use Rattle.sheaf_words.specs.declared.asking.Query.{Query}
-use Rattle.sheaf_words.specs.declared.editing.Set.{Set}
 use Rattle.sheaf_text.specs.Grammar.{Known, refusal}
 use Rattle.sheaf_text.specs.Reading.{Item, Skipped, IsField, IsCell, IsFace, IsClient, IsQuery, IsEdit, IsSet, IsCommit, IsDone, Reading, item_of, ending, go_on, is_heavy_query, set_size, up_to_most, onto_last, into_last}
 use Rattle.sheaf_text.specs.declared.line.Stage.TheVariants as stages

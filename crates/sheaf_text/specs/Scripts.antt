@@ -1,5 +1,5 @@
 -- What the lines so far say of the clients, as the reader keeps it.
-use Rattle.std.specs.Prelude.{◌≡◌, ℕ, ◌+◌, Bool, List, [], ◌∷◌, ◌++◌, if◌then◌else◌}
+use Rattle.std.specs.Prelude.{◌≡◌, ◌+◌, Bool, [], ◌∷◌, ◌++◌, if◌then◌else◌}
 use Rattle.sheaf_words.specs.declared.asking.Command.TheVariants.{Change, Ask}
 use Rattle.sheaf_words.specs.declared.asking.Query.{Query}
 use Rattle.sheaf_words.specs.declared.editing.Set.{Set}

@@ -14,12 +14,19 @@ use dense_blocks::Scalars;
 use field_table::Field;
 
 const HIGHEST: u32 = 15;
+
 const MOST_OF_A_STALK: u32 = 16;
+
 const MOST_CELLS: usize = 4096;
+
 const MOST_OF_ALL: u32 = 4096;
+
 const MOST_FACES: u32 = 32_768;
+
 const MOST_CLIENTS: usize = 8;
+
 const MOST_COMMANDS: u32 = 4096;
+
 const MOST_ROOM: u64 = 1_073_741_824;
 
 fn field_refusal(text: &[u8]) -> Option<Refusal>

@@ -3,9 +3,7 @@ use crate::fault::LineCause::{
     After, Cell, Count, Dims, End, Entry, Field, Number, Shape, Sign, Twice, Word,
 };
 use crate::fault::TextFault::{BadLine, Limit};
-use crate::fault::Which::{
-    Bytes, Cells, Clients, Commands, Dimension, Faces, Stalk, Total,
-};
+use crate::fault::Which::{Bytes, Cells, Clients, Commands, Dimension, Faces, Stalk, Total};
 use crate::fault::{LineCause, TextFault, Which};
 use crate::input::Input;
 use crate::reading::{MOST_BYTES, read};
@@ -17,7 +15,8 @@ use std::process::Abort;
 use std::test::Fail;
 
 // Thirteen lines: a triangle seen as a circle.
-const CIRCLE: &str = "field 3\ncell 0 1\ncell 0 1\ncell 0 1\ncell 1 1\ncell 1 1\ncell 1 1\nface 0 3 - 1\nface 1 3 + 1\nface 1 4 - 1\nface 2 4 + 1\nface 0 5 - 1\nface 2 5 + 2\n";
+const CIRCLE: &str =
+    "field 3\ncell 0 1\ncell 0 1\ncell 0 1\ncell 1 1\ncell 1 1\ncell 1 1\nface 0 3 - 1\nface 1 3 + 1\nface 1 4 - 1\nface 2 4 + 1\nface 0 5 - 1\nface 2 5 + 2\n";
 
 // Two vertices and an edge, then their faces' first line is line 5.
 const EDGE: &str = "field 2\ncell 0 1\ncell 0 1\ncell 1 2\n";
@@ -70,7 +69,11 @@ fn names_the_first_fault_of_the_first_bad_line(rt: HostRuntime) -> Result<(), Fa
         ("field 2\n", "cell 16 17\n", over(2, Dimension)),
         ("field 2\n", "cell 16 x\n", bad(2, Number)),
         ("field 2\n", "cell 0 000000001\ndone\n", None),
-        ("field 2\n", "\n# of\x00 any \u{7f} bytes\n\t cell\t0  1 \ndone\n", None),
+        (
+            "field 2\n",
+            "\n# of\x00 any \u{7f} bytes\n\t cell\t0  1 \ndone\n",
+            None,
+        ),
         ("field 2\n", "\n#\nbogus\ncell 0 17\n", bad(4, Word)),
         (EDGE, "face 0 2 - 1 0\nface 1 2 + 0 1\ndone\n", None),
         (EDGE, "face 0 2\n", bad(5, Count)),
@@ -87,7 +90,11 @@ fn names_the_first_fault_of_the_first_bad_line(rt: HostRuntime) -> Result<(), Fa
         (EDGE, "face 0 2 - 1 2\n", bad(5, Entry)),
         (EDGE, "face 0 2 - 1 0\ncell 0 1\n", bad(6, Word)),
         (EDGE, "client\nface 0 2 - 1 0\n", bad(6, Word)),
-        (EDGE, "client\nedit\nstalk 9 99\nrestrict 7 8 4 5\ncommit\ndone\n", None),
+        (
+            EDGE,
+            "client\nedit\nstalk 9 99\nrestrict 7 8 4 5\ncommit\ndone\n",
+            None,
+        ),
         (EDGE, "client\nedit\ndone\n", bad(7, Word)),
         (EDGE, "client\nedit\nclient\n", bad(7, Word)),
         (EDGE, "client\nedit\nstalk 0\n", bad(7, Count)),
@@ -95,8 +102,16 @@ fn names_the_first_fault_of_the_first_bad_line(rt: HostRuntime) -> Result<(), Fa
         (EDGE, "client\ncommit\n", bad(6, Word)),
         (EDGE, "client\nreduce\n", bad(6, Word)),
         (EDGE, "betti\n", bad(5, Word)),
-        ("field 2\n", "client\nclient\nclient\nclient\nclient\nclient\nclient\nclient\ndone\n", None),
-        ("field 2\n", "client\nclient\nclient\nclient\nclient\nclient\nclient\nclient\nclient\n", over(10, Clients)),
+        (
+            "field 2\n",
+            "client\nclient\nclient\nclient\nclient\nclient\nclient\nclient\ndone\n",
+            None,
+        ),
+        (
+            "field 2\n",
+            "client\nclient\nclient\nclient\nclient\nclient\nclient\nclient\nclient\n",
+            over(10, Clients),
+        ),
     ];
     for (front, back, want) in cases {
         let text = joined(rt.alloc(), front, back)?;
@@ -122,7 +137,12 @@ fn serves_up_to_its_limits(rt: HostRuntime) -> Result<(), Fail> {
         ("field 2\n", "cell 0 16\n", 257, over(258, Total)),
         ("field 2\nclient\n", "betti\n", 4096, bad(4099, End)),
         ("field 2\nclient\n", "betti\n", 4097, over(4099, Commands)),
-        ("field 2\nclient\n", "edit\ncommit\n", 4097, over(8195, Commands)),
+        (
+            "field 2\nclient\n",
+            "edit\ncommit\n",
+            4097,
+            over(8195, Commands),
+        ),
         ("", "#\n", MOST_BYTES / 2, bad(8_388_609, End)),
         ("\n", "#\n", MOST_BYTES / 2, over(0, Bytes)),
     ];
@@ -170,7 +190,10 @@ fn reads_the_sheaf(rt: HostRuntime) -> Result<(), Fail> {
     assert_eq!(rt; draft.complex.face_at(0), face(0, 3, FaceSign::Minus));
     assert_eq!(rt; draft.complex.face_at(5), face(2, 5, FaceSign::Plus));
     assert_eq!(rt; draft.blocks.as_slice().len(), 6);
-    assert_eq!(rt; draft.blocks.as_slice()[5].entries.as_slice(), [2].as_slice());
+    assert_eq!(rt;
+        draft.blocks.as_slice()[5].entries.as_slice(),
+        [2].as_slice()
+    );
     assert_eq!(rt; scripts.as_slice().len(), 1);
     let script = scripts.as_slice()[0].as_slice();
     assert!(rt; matches!(script, [Command::Ask(Query::Betti)]));
@@ -186,7 +209,8 @@ fn is_restrict(set: &Set, cells: (u32, u32), numbers: &[u32]) -> bool {
 
 #[test]
 fn reads_the_scripts(rt: HostRuntime) -> Result<(), Fail> {
-    let rest = "client\nclient\nbetti\nedit\nstalk 5 000000017\nrestrict 7 8 99 0\ncommit\nbetti\ndone\n";
+    let rest =
+        "client\nclient\nbetti\nedit\nstalk 5 000000017\nrestrict 7 8 99 0\ncommit\nbetti\ndone\n";
     let input = circle(rt.alloc(), rest)?;
     let scripts = input.scripts.as_slice();
     assert_eq!(rt; scripts.len(), 2);

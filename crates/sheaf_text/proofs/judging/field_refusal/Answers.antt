@@ -1,4 +1,4 @@
-use Rattle.std.proofs.Common.{◌≡◌, ◌∙◌, Bool, true, cond, nat_eq, sym, ap, Some, None}
+use Rattle.std.proofs.Common.{◌∙◌, Bool, cond, nat_eq, sym, ap, Some, None}
 use Rattle.std.specs.List.{list_any}
 use Rattle.field_table.specs.Table.{orders}
 use Rattle.sheaf_text.specs.declared.fault.LineCause.TheVariants as causes

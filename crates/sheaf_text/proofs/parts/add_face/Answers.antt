@@ -1,4 +1,4 @@
-use Rattle.std.proofs.Common.{◌≡◌, Some, None, Err, ap}
+use Rattle.std.proofs.Common.{Err, ap}
 use Rattle.sheaf_text.proofs.parts.add_face.Goals as goal
 
 pub unreachable-requires : goal.unreachable-requires
