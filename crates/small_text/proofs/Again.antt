@@ -8,9 +8,8 @@ use Rattle.std.proofs.lemmas.List.Folds.{list_all-append}
 use Rattle.cell_complex.specs.declared.face.Face.{Face}
 use Rattle.cell_complex.specs.declared.face.Sign.{Sign}
 use Rattle.cell_complex.specs.declared.face.Sign.TheVariants.{Plus, Minus}
-use Rattle.small_text.specs.Candidate.{byte_of, byte_from, order_of_words, order_in, cell_of, sign_of, entry_of, face_of, cell_in, face_in, lines, words, candidate_of}
+use Rattle.small_text.specs.Candidate.{byte_of, byte_from, order_of_words, order_in, cell_of, sign_of, entry_of, face_of, cell_in, face_in, lines, candidate_of}
 use Rattle.small_text.specs.Text.{field_words, cell_words, sign_word, face_words, last_lines, sheaf_lines, lines_text}
-use Rattle.small_text.specs.declared.candidate.Said.{Said}
 use Rattle.small_text.specs.declared.candidate.Cell.{Cell}
 use Rattle.small_text.specs.declared.candidate.Restricted.{Restricted}
 use Rattle.small_text.proofs.Words.{is_word, is_line, said_again, words_first, decimal_is_word, number_of-decimal}

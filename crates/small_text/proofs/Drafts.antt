@@ -1,7 +1,7 @@
 -- What the text of a draft says, and that no other draft says it.
-use Rattle.std.proofs.Common.{◌≡◌, ℕ, zero, suc, ◌+◌, ◌<◌, ◌≤◌, Some, List, [], ◌∷◌, ◌++◌, length, take, get_or, map, slice_get, slice_index, sum, refl, sym, ap, ap₂, ◌∙◌, subst, arith, All}
+use Rattle.std.proofs.Common.{◌≡◌, ℕ, zero, suc, ◌+◌, ◌<◌, ◌≤◌, Some, List, [], ◌∷◌, ◌++◌, length, take, get_or, map, slice_get, slice_index, refl, sym, ap, ap₂, ◌∙◌, subst, arith, All}
 use Rattle.std.specs.List.{AllZip, zip}
-use Rattle.std.proofs.lemmas.List.{take_more, get_or_read}
+use Rattle.std.proofs.lemmas.List.{take_more}
 use Rattle.std.proofs.lemmas.List.Elements.{All-head, All-tail, All-cons, All-nil, All-weaker}
 use Rattle.std.proofs.lemmas.Slice.Zip.{all_zipped_more}
 use Rattle.cell_complex.specs.declared.face.Face.{Face}
@@ -18,12 +18,11 @@ use Rattle.field_table.specs.TableLaws.{table_is_field}
 use Rattle.field_table.proofs.Known.{order_of-injective}
 use Rattle.cell_complex.specs.declared.fault.FaceFault.{FaceFault}
 use Rattle.square_check.specs.Squares.{HaveShapes}
-use Rattle.sheaf_data.specs.Sheaves.{SheafData, IsDraft, AreStalks, AreBlocks}
+use Rattle.sheaf_data.specs.Sheaves.{SheafData, IsDraft, AreBlocks}
 use Rattle.small_text.specs.Says.{dims_in, stalks_in, complex_in, AreSmallStalks, IsAmong, IsBlockOf, Says}
 use Rattle.small_text.specs.Candidate.{candidate_of}
 use Rattle.small_text.specs.Small.{IsSmallDraft, IsSmall, IsSmallText}
 use Rattle.small_text.specs.Text.{entries_of, text_of}
-use Rattle.small_text.specs.declared.candidate.Cell.{Cell}
 use Rattle.small_text.specs.declared.candidate.Restricted.{Restricted}
 use Rattle.small_text.specs.declared.candidate.Said.{Said}
 use Rattle.small_text.proofs.Again.{cell_at, restricted, FitsCell, FitsFace, again}
@@ -68,8 +67,8 @@ module _ (K : Ops) (stalks : List ℕ) where
       scalars = All-head (λ (x : Block). AllScalars K x.entries) b blocks scalars;
     },
     blocks_said faces blocks
-    (record { count = omega (arith, shapes.count); cols = λ p. shapes.cols (suc p); rows = λ p. shapes.rows (suc p) })
-    (All-tail (λ (x : Block). AllScalars K x.entries) b blocks scalars),
+        (record { count = omega (arith, shapes.count); cols = λ p. shapes.cols (suc p); rows = λ p. shapes.rows (suc p) })
+        (All-tail (λ (x : Block). AllScalars K x.entries) b blocks scalars),
   )
 
 says_itself : (d : SheafData Field) → IsSmallDraft d → Says (said_of d) d

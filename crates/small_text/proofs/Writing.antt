@@ -1,7 +1,7 @@
 -- What is written, as the text of lines of words.
 use Rattle.std.proofs.Common.{◌≡◌, ℕ, ◌+◌, ◌<◌, ◌≤◌, Some, List, [], ◌∷◌, ◌++◌, length, get_or, take, map, slice_get, ap, ap₂, ◌∙◌, sym, arith, append-nil, append_assoc}
 use Rattle.std.specs.Prelude.{codes}
-use Rattle.std.specs.List.{flat_map, join_with_byte, zip}
+use Rattle.std.specs.List.{join_with_byte, zip}
 use Rattle.std.specs.Fmt.{decimal}
 use Rattle.std.proofs.lemmas.List.{map_more, take_all, length-map, get_or-map, get_or_default}
 use Rattle.std.proofs.lemmas.Option.{get_or_from_slice_get}

@@ -42,7 +42,10 @@ fn stalks_of(alloc: Global, cells: &[Cell]) -> Result<Vec<u8>, NoMemory>
 fn faces_of(alloc: Global, faces: &[Restricted]) -> Result<Vec<Face>, NoMemory>
     ensures { IfOk result (λ fs. fs.items ≡ map (λ f. f.face) faces.now) }
 {
-    faces.iter().map(|restricted| restricted.face).collect(alloc)
+    faces
+        .iter()
+        .map(|restricted| restricted.face)
+        .collect(alloc)
 }
 
 fn total(stalks: &[u8]) -> u32

@@ -1,4 +1,4 @@
-use Rattle.std.proofs.Common.{take, List}
+use Rattle.std.proofs.Common.{take}
 use Rattle.std.specs.List.{AllZip}
 use Rattle.field_table.specs.Table.{ops_of}
 use Rattle.small_text.specs.Says.{IsBlockOf}
