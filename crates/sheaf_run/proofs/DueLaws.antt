@@ -1,5 +1,5 @@
 -- Which status a draft and bytes are due, and that it is one only.
-use Rattle.std.proofs.Common.{◌≡◌, ◌⊎◌, inl, inr, ℕ, List, [], ◌∷◌, Option, None, Some, slice_get, refl, sym, ap, ◌∙◌, subst}
+use Rattle.std.proofs.Common.{◌≡◌, ◌⊎◌, inl, inr, ℕ, List, Option, None, Some, refl, sym, ap, ◌∙◌, subst}
 use Rattle.std.specs.Prelude.{◌↔◌, IfSome}
 use Rattle.field_table.specs.declared.field.Field.{Field}
 use Rattle.field_table.specs.Table.{ops_of}
@@ -8,14 +8,12 @@ use Rattle.sheaf_data.specs.declared.fault.SealFault.{SealFault}
 use Rattle.sheaf_data.specs.declared.fault.SealFault.TheVariants.{Complex, Noncommuting}
 use Rattle.sheaf_data.specs.Sheaves.{SheafData}
 use Rattle.sheaf_data.specs.Refusals.{IsFault}
-use Rattle.small_text.specs.Text.{text_of}
-use Rattle.small_text.specs.Small.{IsSmall, IsSmallText}
+use Rattle.small_text.specs.Small.{IsSmallText}
 use Rattle.sheaf_run.specs.declared.job.Job.{Job}
 use Rattle.sheaf_run.specs.declared.job.Job.TheVariants.{Solve, Check}
 use Rattle.sheaf_run.specs.declared.status.Status.{Status}
-use Rattle.sheaf_run.specs.declared.status.Status.TheVariants.{Done, ReadFault, WriteFault, NoMemory, BadWords, BadInput, BadComplex, BadSheaf}
-use Rattle.sheaf_run.specs.Answers.{Outcome, IsAnswer, DraftIsDue, IsDue, IsRead, IsRefused, refusal, AnswersSheaf, AnswersDraft, AnswersBytes}
-use Rattle.sheaf_run.specs.Replies.{Sent}
+use Rattle.sheaf_run.specs.declared.status.Status.TheVariants.{Done, ReadFault, WriteFault, NoMemory, BadInput, BadComplex, BadSheaf}
+use Rattle.sheaf_run.specs.Answers.{Outcome, IsAnswer, DraftIsDue, IsDue, IsRead, refusal, AnswersSheaf, AnswersDraft, AnswersBytes}
 use Rattle.sheaf_run.specs.Runs.{Answered}
 use Rattle.io_edge.specs.Faults.{Rose}
 

@@ -9,9 +9,9 @@ use Rattle.field_table.specs.Table.{ops_of}
 use Rattle.sheaf_data.specs.declared.fault.SealFault.{SealFault}
 use Rattle.sheaf_data.specs.Sheaves.{SheafData}
 use Rattle.sheaf_data.specs.Refusals.{IsFault}
-use Rattle.sheaf_run.specs.Answers.{Outcome, IsAnswer, AnswersDraft, refusal}
+use Rattle.sheaf_run.specs.Answers.{Outcome, AnswersDraft, refusal}
 use Rattle.sheaf_run.specs.Replies.{Replies, Sent}
-use Rattle.sheaf_run.specs.Runs.{Answered, Broken, Ran}
+use Rattle.sheaf_run.specs.Runs.{Ran}
 use Rattle.sheaf_run.specs.declared.status.Status.{Status}
 
 -- a fact of the bytes that were read is one of the bytes that are told

@@ -113,13 +113,12 @@ fn text_of_parts(
 pub fn print(alloc: Global, draft: &Draft<Field>) -> Result<Vec<u8>, NoMemory>
     ensures { IfOk result (λ text. text.items ≡ text_of draft.now) }
 {
-    let parts = draft.parts();
     let text = text_of_parts(
         alloc,
-        parts.field,
-        &parts.complex,
-        parts.stalks.as_slice(),
-        parts.blocks.as_slice(),
+        draft.field,
+        &draft.complex,
+        draft.stalks.as_slice(),
+        draft.blocks.as_slice(),
     )?;
     Ok(text)
 }
