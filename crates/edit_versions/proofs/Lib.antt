@@ -1,4 +1,0 @@
-pub mod Replacing
-pub mod Ends
-pub mod Putting
-pub mod Fitting

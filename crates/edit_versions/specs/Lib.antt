@@ -1,4 +1,0 @@
-pub mod Edits
-pub mod Works
-pub mod Verdicts
-pub mod Faults
