@@ -8,7 +8,7 @@ use Rattle.cell_complex.specs.Verdicts.{fault_of}
 use Rattle.field_table.specs.Table.{orders}
 use Rattle.sheaf_text.specs.Cut.{are_below}
 use Rattle.sheaf_text.specs.Lines.{value, may_stand, count_fits, are_numerals, is_sign, word, face_of}
-use Rattle.sheaf_text.specs.Grammar.{Known, is_full, complex_of, field_refusal, face_refusal, entries_refusal, incidence_refusal, kind_refusal, known_kind_refusal}
+use Rattle.sheaf_text.specs.Grammar.{Known, is_full, complex_of, field_refusal, face_refusal, entries_refusal, incidence_refusal, kind_refusal, placed_refusal}
 use Rattle.sheaf_text.specs.Reading.{is_set_kind}
 use Rattle.sheaf_text.specs.Parts.{TakesFace}
 use Rattle.sheaf_text.specs.State.{known_by, IsAccepted}
@@ -48,7 +48,7 @@ record IsRight (k : Known) (kind : Kind) (ws : List (List ℕ)) : Type 0 where
   pub numerals : are_numerals kind ws ≡ true
   pub fits : kind_refusal k kind ws ≡ None
 
-right : (k : Known) (kind : Kind) (ws : List (List ℕ)) → known_kind_refusal k kind ws ≡ None → IsRight k kind ws
+right : (k : Known) (kind : Kind) (ws : List (List ℕ)) → placed_refusal k kind ws ≡ None → IsRight k kind ws
 right k kind ws e =
     let a = passes (not (may_stand k.stage kind)) _ _ e in
     let b = passes (not (count_fits kind (length ws))) _ _ a.1 in

@@ -104,19 +104,19 @@ abbrev pub is_ended : Stage → Bool
 is_ended stages.Ended = true
 is_ended stage = false
 
-abbrev pub known_kind_refusal : Known → Kind → List (List ℕ) → Option Refusal
-known_kind_refusal k kind ws =
+abbrev pub placed_refusal : Known → Kind → List (List ℕ) → Option Refusal
+placed_refusal k kind ws =
     if not (may_stand k.stage kind) then Some (Bad causes.Word)
     else if not (count_fits kind (length ws)) then Some (Bad causes.Count)
     else if not (are_numerals kind ws) then Some (Bad causes.Number)
     else kind_refusal k kind ws
 
-abbrev pub kindly_refusal : Known → Option Kind → List (List ℕ) → Option Refusal
-kindly_refusal k None ws = Some (Bad causes.Word)
-kindly_refusal k (Some kind) ws = known_kind_refusal k kind ws
+abbrev pub named_refusal : Known → Option Kind → List (List ℕ) → Option Refusal
+named_refusal k None ws = Some (Bad causes.Word)
+named_refusal k (Some kind) ws = placed_refusal k kind ws
 
 abbrev pub content_refusal : Known → Option Kind → List (List ℕ) → Option Refusal
-content_refusal k kind ws = if is_ended k.stage then Some (Bad causes.After) else kindly_refusal k kind ws
+content_refusal k kind ws = if is_ended k.stage then Some (Bad causes.After) else named_refusal k kind ws
 
 -- why the line of these words is refused; none where it is not
 unfoldable pub refusal : Known → List (List ℕ) → Option Refusal

@@ -3,7 +3,7 @@ use Rattle.std.specs.Prelude.{◌≡◌, ℕ, List, [], ◌∷◌, ◌++◌, Opt
 use Rattle.field_table.specs.Table.{order_of}
 use Rattle.sheaf_words.specs.declared.asking.Command.{Command}
 use Rattle.sheaf_words.specs.declared.asking.Command.TheVariants.{Change}
-use Rattle.sheaf_text.specs.Grammar.{Known, refusal, known_kind_refusal, content_refusal}
+use Rattle.sheaf_text.specs.Grammar.{Known, refusal, placed_refusal, content_refusal}
 use Rattle.sheaf_text.specs.Reading.{Item, Reading, item_of, go_on}
 use Rattle.sheaf_text.specs.Keeping.{advance, nothing_known}
 use Rattle.sheaf_text.specs.Answers.{GivesFault}
@@ -68,12 +68,12 @@ pub record IsReady (old new : State) (kind : Option Kind) : Type 0 where
 pub record IsAccepted (s : State) (kind : Kind) (ws : List (List ℕ)) : Type 0 where
   pub sound : IsSound s
   pub ready : IsReadyFor (Some kind) s.parts
-  pub accepted : known_kind_refusal (known_by s) kind ws ≡ None
+  pub accepted : placed_refusal (known_by s) kind ws ≡ None
 
 -- the line is of this kind, and is not refused
 pub record IsFound (k : Known) (kind : Option Kind) (ws : List (List ℕ)) (found : Kind) : Type 0 where
   pub kind_is : kind ≡ Some found
-  pub accepted : known_kind_refusal k found ws ≡ None
+  pub accepted : placed_refusal k found ws ≡ None
   pub not_refused : content_refusal k kind ws ≡ None
 
 -- the item is taken

@@ -1,7 +1,7 @@
 ghost use Rattle.std.specs.Prelude.{◌≡◌, length, IfOk, IfErr};
 ghost use Rattle.sheaf_text.specs.Cut.{words};
 ghost use Rattle.sheaf_text.specs.Parts.{AreParts, IsClosed};
-ghost use Rattle.sheaf_text.specs.Grammar.{is_ended, is_full, cause_of, field_refusal, cell_refusal, entries_refusal, face_refusal, client_refusal, command_refusal, done_refusal, reach, kind_refusal, known_kind_refusal, content_refusal};
+ghost use Rattle.sheaf_text.specs.Grammar.{is_ended, is_full, cause_of, field_refusal, cell_refusal, entries_refusal, face_refusal, client_refusal, command_refusal, done_refusal, reach, kind_refusal, placed_refusal, content_refusal};
 ghost use Rattle.sheaf_text.specs.State.{known_by, scripts_at, IsSound, IsReadyFor, IsFound};
 
 use crate::fault::{LineCause, Refusal, Which};
@@ -166,10 +166,10 @@ fn kind_refusal(state: &State, kind: Kind, text: &[u8]) -> Option<Refusal>
     }
 }
 
-fn known_kind_refusal(state: &State, kind: Kind, text: &[u8]) -> Option<Refusal>
+fn placed_refusal(state: &State, kind: Kind, text: &[u8]) -> Option<Refusal>
     requires sound { IsSound state.now }
     requires ready { IsReadyFor (Some kind) state.now.parts }
-    ensures { result ≡ known_kind_refusal (known_by state.now) kind (words text.now) }
+    ensures { result ≡ placed_refusal (known_by state.now) kind (words text.now) }
 {
     if !may_stand(state.stage, kind) {
         Some(Refusal::Bad(LineCause::Word))
@@ -202,7 +202,7 @@ pub(crate) fn judged(state: &State, kind: Option<Kind>, text: &[u8]) -> Result<K
     let Some(kind) = kind else {
         return Err(Refusal::Bad(LineCause::Word));
     };
-    match known_kind_refusal(state, kind, text) {
+    match placed_refusal(state, kind, text) {
         Some(refusal) => Err(refusal),
         None => Ok(kind),
     }

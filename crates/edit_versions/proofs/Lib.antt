@@ -1,0 +1,5 @@
+pub mod Replacing
+pub mod Ends
+pub mod Putting
+pub mod Fitting
+pub mod Unique

@@ -1,0 +1,4 @@
+pub mod Edits
+pub mod Works
+pub mod Verdicts
+pub mod Faults
