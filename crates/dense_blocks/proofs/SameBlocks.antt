@@ -1,5 +1,5 @@
 -- Two blocks with the same numbers are the same.
-use Rattle.std.proofs.Common.{◌≡◌, ℕ, ◌*◌, ◌≤◌, length}
+use Rattle.std.proofs.Common.{◌≡◌, ◌*◌, ◌≤◌, length}
 use Rattle.std.proofs.Math.Bridge.{le_prop}
 use Rattle.dense_blocks.specs.declared.block.Block.{Block}
 use native.Mathlib.Nat.{ℕ_set}
