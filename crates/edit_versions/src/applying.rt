@@ -17,9 +17,9 @@ use std::alloc::Global;
 
 /// Makes the edit, or refuses it by the verdict on it.
 ///
-/// The sets are taken in order. The size of a stalk makes every block at that cell the zero block, also where the size stays; the
-/// entries of a restriction replace its block. All memory is taken before the first change. An edit of one face costs the copy of the stalks and the
-/// blocks, and the squares at that face.
+/// The sets are taken in order. The size of a stalk makes every block at that cell the zero block, also where the size
+/// stays; the entries of a restriction replace its block. All memory is taken before the first change. An edit of one face
+/// costs the copy of the stalks and the blocks, and the squares at that face.
 ///
 /// # Errors
 ///
