@@ -1,6 +1,6 @@
 -- What a reading tells of an input: which one it is, and that it has few commands.
 use Rattle.std.proofs.Common.{◌≡◌, ℕ, zero, suc, ◌+◌, ◌≤◌, ◌<◌, Bool, true, false, nat_eq, List, [], ◌∷◌, ◌++◌, length, map, Option, Some, None, refl, sym, ap, ap₂, subst, ◌∙◌, arith}
-use Rattle.std.specs.Prelude.{sum_by}
+use Rattle.std.specs.Prelude.{sum_by, ◌==◌, if◌then◌else◌}
 use Rattle.std.specs.List.{slice_split}
 use Rattle.std.specs.Str.Lines.{lines, lines_of_parts}
 use Rattle.std.proofs.lemmas.List.{length-map, length-append}
@@ -79,7 +79,7 @@ count-advance k (IsSet s) = omega (arith, count-into_last k.scripts s)
 count-advance k _ = omega arith
 
 count-ending : (k : Known) (line : ℕ) (v : InputValue) (b : Bool) → is_ended k.stage ≡ b → ending k line ≡ Good v → v.scripts ≡ k.scripts
-count-ending k line v true e is = let same : Good (input_of k) ≡ Good v = sym (rw e refl) ∙ is in sym (ap (λ (w : InputValue). w.scripts) cc)
+count-ending k line v true e is = let same : Good (input_of k) ≡ Good v = sym (rw e refl) ∙ is in let value : input_of k ≡ v = cc in sym (ap (λ (w : InputValue). w.scripts) value)
 count-ending k line v false e is = let same : BadLine (line + 1) causes.End ≡ Good v = sym (rw e refl) ∙ is in absurd cc
 
 not_refused : (r : Option Refusal) (line : ℕ) (later : Reading) (v : InputValue) → go_on r line later ≡ Good v → later ≡ Good v
@@ -95,10 +95,13 @@ count-run k line (ws ∷ more) v e =
     let later = not_refused (refusal k ws) (line + 1) (run next (line + 1) more) v e in
     omega (arith, count-run next (line + 1) more v later, count-advance k (item_of ws))
 
+one_line : (b : Bool) (x : List ℕ) → length (if b then [] else x ∷ []) ≤ 1
+one_line true x = omega arith
+one_line false x = omega arith
+
 length-lines_of_parts : (parts : List (List ℕ)) → length (lines_of_parts parts) ≤ length parts
 length-lines_of_parts [] = omega arith
-length-lines_of_parts ([] ∷ []) = omega arith
-length-lines_of_parts ((b ∷ x) ∷ []) = omega arith
+length-lines_of_parts (x ∷ []) = one_line (length x == 0) x
 length-lines_of_parts (x ∷ y ∷ more) = omega (arith, length-lines_of_parts (y ∷ more))
 
 length-contents : (bytes : List ℕ) → length (contents bytes) ≤ length bytes + 1
