@@ -7,8 +7,8 @@ use Rattle.sheaf_text.proofs.Inputs.{few_commands}
 use Rattle.sheaf_run.proofs.RunLaws.{replies_reading, replies_input}
 use Rattle.sheaf_run.proofs.reading.check_bytes.Goals as goal
 
-pub command_count-requires : goal.command_count-requires
-command_count-requires g c = few_commands c.args.bytes.now (input_value c.in-Ok.input) c.in-Ok.ensures
+pub command_count-commands-requires : goal.command_count-commands-requires
+command_count-commands-requires g c = rw c.as_slice-scripts.ensures (few_commands c.args.bytes.now (input_value c.in-Ok.input) c.in-Ok.ensures)
 
 pub returns-in-Ok : goal.returns-in-Ok
 returns-in-Ok g c =
