@@ -1,6 +1,6 @@
 -- What a run did, from what it read and what it replied.
-use Rattle.std.proofs.Common.{◌≡◌, ℕ, List, Option, Some, None, inl, sym, subst}
-use Rattle.std.specs.Prelude.{IfSome}
+use Rattle.std.proofs.Common.{◌≡◌, ℕ, ◌<◌, List, length, Option, Some, None, inl, refl, sym, subst, ◌∙◌}
+use Rattle.std.specs.Prelude.{◌≢◌, IfSome, sum_by}
 use Rattle.std.specs.Io.KnownBytes.{IsAtEnd}
 use Rattle.io_edge.specs.Bytes.{Gave, TookFront}
 use Rattle.io_edge.proofs.Known.{gave_whole}
@@ -9,10 +9,18 @@ use Rattle.field_table.specs.Table.{ops_of}
 use Rattle.sheaf_data.specs.declared.fault.SealFault.{SealFault}
 use Rattle.sheaf_data.specs.Sheaves.{SheafData}
 use Rattle.sheaf_data.specs.Refusals.{IsFault}
-use Rattle.sheaf_run.specs.Answers.{Outcome, AnswersDraft, refusal}
+use Rattle.sheaf_text.specs.Reading.{Reading, reading}
+use Rattle.sheaf_text.specs.Reading as readings
+use Rattle.sheaf_text.specs.Answers.{input_value}
+use Rattle.sheaf_text.specs.declared.input.Input.{Input}
+use Rattle.sheaf_text.specs.declared.fault.Which.TheVariants as limits
+use Rattle.sheaf_text.proofs.Kept.{reading-long}
+use Rattle.sheaf_text.proofs.Inputs.{input_value-injective}
+use Rattle.sheaf_run.specs.Answers.{Outcome, IsAnswer, AnswersDraft, AnswersReading, refusal, good, over_limit}
 use Rattle.sheaf_run.specs.Replies.{Replies, Sent}
 use Rattle.sheaf_run.specs.Runs.{Ran}
 use Rattle.sheaf_run.specs.declared.status.Status.{Status}
+use Rattle.sheaf_run.specs.declared.status.Status.TheVariants.{Done}
 
 -- a fact of the bytes that were read is one of the bytes that are told
 told : (P : List ℕ → Type 0) (left : Option (List ℕ)) (bytes : List ℕ) → IfSome left (λ b. b ≡ bytes) → P bytes → IfSome left P
@@ -52,3 +60,53 @@ pub replies_refused : (IsRight : Outcome → Type 0) (d : SheafData Field) (faul
     → Replies (AnswersDraft IsRight d) old new flush before now result
 replies_refused IsRight d fault first replies =
     replies_weaker (λ a. a ≡ refusal fault) (AnswersDraft IsRight d) (λ a is. inl (record { fault = fault; first = first; is = is })) replies
+
+-- nothing was done with bytes that were not read, and what is replied is right for them
+pub ran_unread : (IsRight : List ℕ → Outcome → Type 0) (P : Outcome → Type 0) {left left_new old new : Option (List ℕ)} {flush read_before read_now write_before write_now : ℕ} {result : Status}
+    → IfSome left (λ bytes. (a : Outcome) → P a → IsRight bytes a) → ((a : Outcome) → P a → a.status ≢ Done) → Replies P old new flush write_before write_now result
+    → Ran IsRight left left_new old new flush read_before read_now write_before write_now result
+ran_unread IsRight P {left} {left_new} {old} {new} {flush} {read_before} {read_now} {write_before} {write_now} {result} right not_done replies = record {
+  answered = λ h. let s = replies.sent h in each left right (λ bytes r. (s.0, r s.0 s.1, s.2));
+  flushed = λ h. (replies.sent h).2.flushed;
+  whole = λ e. absurd (done e);
+  read = λ e. absurd (replies.no_read e);
+  unwritten = λ e. absurd (replies.no_read e);
+  write = replies.rose;
+  front = λ e. let s = replies.front e in each left right (λ bytes r. (s.0, r s.0 s.1, s.2));
+  memory = replies.memory;
+}
+  where
+    each : {P Q : List ℕ → Type 0} (o : Option (List ℕ)) → IfSome o P → ((bytes : List ℕ) → P bytes → Q bytes) → IfSome o Q
+    each None h f = tt
+    each (Some bytes) h f = f bytes h
+
+    done : ¬ (result ≡ Done)
+    done e = let s = replies.sent (subst IsAnswer (sym e) tt) in not_done s.0 s.1 (sym s.2.status ∙ e)
+
+-- more bytes than are read
+pub over_bytes : (left : Option (List ℕ)) → IfSome left (λ bytes. 16777216 < length bytes)
+    → IfSome left (λ bytes. (a : Outcome) → (a ≡ over_limit 0 limits.Bytes) → AnswersReading (reading bytes) a)
+over_bytes None h = tt
+over_bytes (Some bytes) h = λ a is. subst (λ (r : Reading). AnswersReading r a) (sym (reading-long bytes h)) is
+
+-- what is right for a reading is right for an equal one
+pub replies_reading : (r s : Reading) {old new : Option (List ℕ)} {flush before now : ℕ} {result : Status} → r ≡ s
+    → Replies (AnswersReading s) old new flush before now result → Replies (AnswersReading r) old new flush before now result
+replies_reading r s e replies = replies_weaker (AnswersReading s) (AnswersReading r) (λ a h. subst (λ (t : Reading). AnswersReading t a) (sym e) h) replies
+
+-- the input that was read is answered
+pub replies_input : (r : Reading) (i : Input) (clients commands : ℕ) {old new : Option (List ℕ)} {flush before now : ℕ} {result : Status}
+    → r ≡ readings.Good (input_value i) → clients ≡ length i.scripts → commands ≡ sum_by length i.scripts
+    → Replies (AnswersDraft (λ a. a ≡ good i.draft clients commands) i.draft) old new flush before now result
+    → Replies (AnswersReading r) old new flush before now result
+replies_input r i clients commands {old} {new} {flush} {before} {now} {result} e client_count command_count replies =
+    replies_reading r (readings.Good (input_value i)) e
+    (replies_weaker (AnswersDraft (λ a. a ≡ good i.draft clients commands) i.draft) (AnswersReading (readings.Good (input_value i))) right replies)
+  where
+    right : (a : Outcome) → AnswersDraft (λ b. b ≡ good i.draft clients commands) i.draft a → AnswersReading (readings.Good (input_value i)) a
+    right a h = (
+      i,
+      record { value = refl; only = λ j same. sym (input_value-injective i j same) },
+      subst (λ n. AnswersDraft (λ b. b ≡ good i.draft n (sum_by length i.scripts)) i.draft a) client_count
+          (subst (λ m. AnswersDraft (λ b. b ≡ good i.draft clients m) i.draft a) command_count h),
+    )

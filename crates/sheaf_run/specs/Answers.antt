@@ -1,5 +1,5 @@
 -- What the words and the bytes of the input are answered.
-use Rattle.std.specs.Prelude.{◌≡◌, ◌⊎◌, ℕ, List, [], ◌∷◌, ◌++◌, Option, Some, None, length, codes, decimal, if◌then◌else◌}
+use Rattle.std.specs.Prelude.{◌≡◌, ◌⊎◌, ℕ, List, [], ◌∷◌, ◌++◌, Option, Some, None, length, sum_by, codes, decimal, if◌then◌else◌}
 use Rattle.std.specs.List.{flat_map}
 use Rattle.std.specs.Str.{bytes_eq}
 use Rattle.field_table.specs.declared.field.Field.{Field}
@@ -14,10 +14,17 @@ use Rattle.sheaf_data.specs.Refusals.{IsFault}
 use Rattle.sheaf_data.specs.Betti.{AreBetti}
 use Rattle.small_text.specs.Text.{text_of}
 use Rattle.small_text.specs.Small.{IsSmall, IsSmallText}
+use Rattle.sheaf_text.specs.Reading.{Reading, InputValue, reading}
+use Rattle.sheaf_text.specs.Reading as readings
+use Rattle.sheaf_text.specs.Answers.{input_value}
+use Rattle.sheaf_text.specs.declared.fault.LineCause.{LineCause}
+use Rattle.sheaf_text.specs.declared.fault.Which.{Which}
+use Rattle.sheaf_text.specs.declared.input.Input.{Input}
+use Rattle.sheaf_run.specs.Words.{cause_word, limit_word}
 use Rattle.sheaf_run.specs.declared.job.Job.{Job}
 use Rattle.sheaf_run.specs.declared.job.Job.TheVariants.{Solve, Check}
 use Rattle.sheaf_run.specs.declared.status.Status.{Status}
-use Rattle.sheaf_run.specs.declared.status.Status.TheVariants.{Done, ReadFault, WriteFault, NoMemory, BadWords, BadInput, BadComplex, BadSheaf}
+use Rattle.sheaf_run.specs.declared.status.Status.TheVariants.{Done, ReadFault, WriteFault, NoMemory, BadWords, BadLine, BadComplex, BadSheaf, Limit}
 
 -- a status, and the text that is written with it
 pub record Outcome : Type 0 where
@@ -31,9 +38,10 @@ IsAnswer WriteFault = ⊥
 IsAnswer NoMemory = ⊥
 IsAnswer Done = Unit {0}
 IsAnswer BadWords = Unit {0}
-IsAnswer BadInput = Unit {0}
+IsAnswer BadLine = Unit {0}
 IsAnswer BadComplex = Unit {0}
 IsAnswer BadSheaf = Unit {0}
+IsAnswer Limit = Unit {0}
 
 -- the job that one word asks for
 abbrev pub job_of_word : List ℕ → Option Job
@@ -48,16 +56,29 @@ job_of (word ∷ other ∷ more) = None
 abbrev pub bad_words : Outcome
 bad_words = record { status = BadWords; text = codes "bad words\n" }
 
+-- an input that is no small text
 abbrev pub bad_input : Outcome
-bad_input = record { status = BadInput; text = codes "bad input\n" }
+bad_input = record { status = BadLine; text = codes "bad input\n" }
 
 -- numbers, with a space before each
 abbrev pub spaced : List ℕ → List ℕ
 spaced numbers = flat_map (λ number. codes " " ++ decimal number) numbers
 
+-- words, then numbers, and then the rest
+abbrev pub text_of_parts : List ℕ → List ℕ → List ℕ → List ℕ
+text_of_parts words numbers rest = (words ++ spaced numbers) ++ rest
+
 -- a line of words and then numbers
 abbrev pub line_of : List ℕ → List ℕ → List ℕ
-line_of words numbers = (words ++ spaced numbers) ++ codes "\n"
+line_of words numbers = text_of_parts words numbers (codes "\n")
+
+-- a line that is refused: its number, and the cause
+abbrev pub bad_line : ℕ → LineCause → Outcome
+bad_line line cause = record { status = BadLine; text = text_of_parts (codes "bad line") (line ∷ []) (codes " " ++ (cause_word cause ++ codes "\n")) }
+
+-- a limit that is passed, and the number of the line
+abbrev pub over_limit : ℕ → Which → Outcome
+over_limit line which = record { status = Limit; text = line_of (codes "limit " ++ limit_word which) (line ∷ []) }
 
 -- what is wrong with a draft that is no sheaf
 abbrev pub refusal : SealFault → Outcome
@@ -80,11 +101,6 @@ pub record IsSolution (d : SheafData Field) (a : Outcome) : Type 0 where
   pub betti : AreBetti (ops_of d.field) d.complex d.stalks d.blocks numbers
   pub is : a ≡ record { status = Done; text = transcript numbers }
 
--- what a sheaf is answered
-abbrev pub AnswersSheaf : Job → SheafData Field → Outcome → Type 0
-AnswersSheaf Solve d a = IsSolution d a
-AnswersSheaf Check d a = a ≡ good d 1 1
-
 -- the first fault of a draft is what it is refused with
 pub record IsRefused (d : SheafData Field) (a : Outcome) : Type 0 where
   pub fault : SealFault
@@ -101,10 +117,28 @@ pub record IsRead (bytes : List ℕ) (d : SheafData Field) : Type 0 where
   pub text : bytes ≡ text_of d
   pub only : (e : SheafData Field) → IsSmall e → bytes ≡ text_of e → e ≡ d
 
--- a small text is answered by its draft, and any other bytes are refused
+-- under `solve` a small text is answered by its draft, and any other bytes are refused
+abbrev pub AnswersSmall : List ℕ → Outcome → Type 0
+AnswersSmall bytes a = ((d : SheafData Field) × IsRead bytes d × AnswersDraft (IsSolution d) d a) ⊎ ((¬ IsSmallText bytes) × (a ≡ bad_input))
+
+-- the value is that of this input, and of no other
+pub record IsInputOf (v : InputValue) (i : Input) : Type 0 where
+  pub value : v ≡ input_value i
+  pub only : (j : Input) → v ≡ input_value j → j ≡ i
+
+-- the counts of an input: its cells, faces, clients and commands
+abbrev pub good_input : Input → Outcome
+good_input i = good i.draft (length i.scripts) (sum_by length i.scripts)
+
+-- under `check` a good reading is answered by its draft, and a line that is refused or passes a limit by what is said of it
+abbrev pub AnswersReading : Reading → Outcome → Type 0
+AnswersReading (readings.Good v) a = (i : Input) × IsInputOf v i × AnswersDraft (λ b. b ≡ good_input i) i.draft a
+AnswersReading (readings.BadLine line cause) a = a ≡ bad_line line cause
+AnswersReading (readings.Limit line which) a = a ≡ over_limit line which
+
 abbrev pub AnswersBytes : Job → List ℕ → Outcome → Type 0
-AnswersBytes job bytes a =
-    ((d : SheafData Field) × IsRead bytes d × AnswersDraft (AnswersSheaf job d) d a) ⊎ ((¬ IsSmallText bytes) × (a ≡ bad_input))
+AnswersBytes Solve bytes a = AnswersSmall bytes a
+AnswersBytes Check bytes a = AnswersReading (reading bytes) a
 
 -- refused words are answered so whatever the bytes are
 abbrev pub AnswersJob : Option Job → List ℕ → Outcome → Type 0
@@ -121,7 +155,18 @@ DraftIsDue d BadComplex = ¬ HasRegularIncidences d.complex
 DraftIsDue d BadSheaf = HasRegularIncidences d.complex × ((s : ℕ) × (u : ℕ) × (¬ Commutes (ops_of d.field) d.complex d.blocks s u))
 DraftIsDue d _ = ⊥
 
--- the status that the bytes are due where the words are accepted: that of the small draft whose text they are, if there is one
-abbrev pub IsDue : List ℕ → Status → Type 0
-IsDue bytes BadInput = ¬ IsSmallText bytes
-IsDue bytes status = (d : SheafData Field) × IsSmall d × (bytes ≡ text_of d) × DraftIsDue d status
+-- under `solve`: that of the small draft whose text the bytes are, if there is one
+abbrev pub SmallIsDue : List ℕ → Status → Type 0
+SmallIsDue bytes BadLine = ¬ IsSmallText bytes
+SmallIsDue bytes status = (d : SheafData Field) × IsSmall d × (bytes ≡ text_of d) × DraftIsDue d status
+
+-- under `check`: that of the input that the bytes are read as; of a line that is refused or passes a limit the status that says so
+abbrev pub ReadingIsDue : Reading → Status → Type 0
+ReadingIsDue (readings.Good v) status = (i : Input) × (v ≡ input_value i) × DraftIsDue i.draft status
+ReadingIsDue (readings.BadLine line cause) status = status ≡ BadLine
+ReadingIsDue (readings.Limit line which) status = status ≡ Limit
+
+-- the status that the bytes are due where the words ask for this job
+abbrev pub IsDue : Job → List ℕ → Status → Type 0
+IsDue Solve bytes status = SmallIsDue bytes status
+IsDue Check bytes status = ReadingIsDue (reading bytes) status

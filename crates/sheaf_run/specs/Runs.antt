@@ -1,5 +1,5 @@
 -- What a whole run did to its source and to its sink.
-use Rattle.std.specs.Prelude.{◌≡◌, ◌⊎◌, ◌↔◌, ℕ, List, Option, None, IsSome, IfSome}
+use Rattle.std.specs.Prelude.{◌≡◌, ◌⊎◌, ◌↔◌, ℕ, List, Option, None, IfSome}
 use Rattle.std.specs.Io.KnownBytes.{IsAtEnd}
 use Rattle.io_edge.specs.Faults.{Rose}
 use Rattle.io_edge.specs.Bytes.{TookFront, IsFlushed}
@@ -40,7 +40,7 @@ pub record Serves (words : List (List ℕ)) (left left_new taken taken_new : Opt
   pub refused : IsAnswer result → ((result ≡ BadWords) ↔ (job_of words ≡ None))
   pub refusal : result ≡ BadWords → Sent bad_words taken taken_new flush result
   -- With accepted words each status comes exactly where the bytes are due it.
-  pub exact : IsAnswer result → IsSome (job_of words) → IfSome left (λ bytes. (status : Status) → (result ≡ status) ↔ IsDue bytes status)
+  pub exact : IsAnswer result → IfSome (job_of words) (λ job. IfSome left (λ bytes. (status : Status) → (result ≡ status) ↔ IsDue job bytes status))
   -- Faults come from the source or from the sink.
   pub read : result ≡ ReadFault → Rose read_before read_now
   pub unwritten : result ≡ ReadFault → taken_new ≡ taken
@@ -49,5 +49,5 @@ pub record Serves (words : List (List ℕ)) (left left_new taken taken_new : Opt
   pub memory : result ≡ NoMemory → taken_new ≡ taken
   -- With no fault refused words are answered so, and bytes are answered the status that they are due unless memory runs out.
   pub complete_words : job_of words ≡ None → ¬ (Rose write_before write_now) → result ≡ BadWords
-  pub complete : IsSome (job_of words) → IfSome left (λ bytes. (status : Status) → IsDue bytes status → ¬ (Rose read_before read_now)
-      → ¬ (Rose write_before write_now) → (result ≡ status) ⊎ (result ≡ NoMemory))
+  pub complete : IfSome (job_of words) (λ job. IfSome left (λ bytes. (status : Status) → IsDue job bytes status → ¬ (Rose read_before read_now)
+      → ¬ (Rose write_before write_now) → (result ≡ status) ⊎ (result ≡ NoMemory)))

@@ -1,8 +1,7 @@
 ghost use Rattle.std.specs.Prelude.{◌≡◌, IfOk};
-ghost use Rattle.sheaf_run.specs.Answers.{IsSolution, AnswersSheaf, AnswersDraft, good};
+ghost use Rattle.sheaf_run.specs.Answers.{IsSolution, AnswersDraft, good};
 ghost use Rattle.sheaf_run.specs.Replies.{Replies};
 
-use crate::job::Job;
 use crate::refusing::refuse_draft;
 use crate::sending::{send, send_line};
 use crate::status::Status;
@@ -33,12 +32,12 @@ fn solve<K: Sink>(alloc: Global, draft: &Draft<Field>, sink: &mut K) -> Status
 }
 
 /// Writes how many cells and faces a draft has, how many clients ask, and how many commands these have. Takes no memory.
-fn check<K: Sink>(draft: &Draft<Field>, clients: u32, commands: u32, sink: &mut K) -> Status
+fn check<K: Sink>(draft: &Draft<Field>, clients: usize, commands: usize, sink: &mut K) -> Status
     ensures { Replies (λ a. a ≡ good draft.now clients commands)
         (K.taken sink.old) (K.taken sink.new) (K.flushed sink.new) (K.fault_count sink.old) (K.fault_count sink.new) result }
 {
-    let cells = draft.complex.dims().len() as u32;
-    let faces = draft.complex.face_count();
+    let cells = draft.complex.dims().len();
+    let faces = draft.complex.face_count() as usize;
     send_line(
         sink,
         Status::Done,
@@ -61,8 +60,8 @@ pub fn solve_draft<K: Sink>(alloc: Global, draft: Draft<Field>, sink: &mut K) ->
 /// Writes the counts of a sheaf; of a draft that is none, its first fault. Takes no memory.
 pub fn check_draft<K: Sink>(
     draft: Draft<Field>,
-    clients: u32,
-    commands: u32,
+    clients: usize,
+    commands: usize,
     sink: &mut K,
 ) -> Status
     ensures { Replies (AnswersDraft (λ a. a ≡ good draft clients commands) draft)
@@ -71,16 +70,5 @@ pub fn check_draft<K: Sink>(
     match draft.seal() {
         Ok(sheaf) => check(sheaf.draft(), clients, commands, sink),
         Err(refused) => refuse_draft(sink, refused.1),
-    }
-}
-
-/// Does the job on a draft with one client, which has one command.
-pub fn answer_draft<K: Sink>(alloc: Global, job: Job, draft: Draft<Field>, sink: &mut K) -> Status
-    ensures { Replies (AnswersDraft (AnswersSheaf job draft) draft)
-        (K.taken sink.old) (K.taken sink.new) (K.flushed sink.new) (K.fault_count sink.old) (K.fault_count sink.new) result }
-{
-    match job {
-        Job::Solve => solve_draft(alloc, draft, sink),
-        Job::Check => check_draft(draft, 1, 1, sink),
     }
 }

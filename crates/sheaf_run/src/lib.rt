@@ -3,6 +3,7 @@
 
 mod answering;
 mod job;
+mod reading;
 mod refusing;
 mod sending;
 mod status;

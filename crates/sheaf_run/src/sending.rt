@@ -1,7 +1,7 @@
 ghost use Rattle.std.specs.Prelude.{◌≡◌, ◌⊎◌, ◌++◌, ◌≤◌, codes, decimal, OnOk, OnErr};
 ghost use Rattle.io_edge.specs.Faults.{HasCause};
 ghost use Rattle.io_edge.specs.Bytes.{Took, TookFront, IsFlushed};
-ghost use Rattle.sheaf_run.specs.Answers.{IsAnswer, spaced, line_of};
+ghost use Rattle.sheaf_run.specs.Answers.{IsAnswer, spaced, line_of, text_of_parts};
 ghost use Rattle.sheaf_run.specs.Replies.{Replies, Sent};
 
 use crate::status::Status;
@@ -26,7 +26,7 @@ pub fn send<K: Sink>(sink: &mut K, status: Status, text: &[u8]) -> Status
 
 /// Gives the sink a space and the number. Takes no memory.
 #[tactic(auto, using(io_edge::proofs::Known::taken_pieces))]
-fn put_number<K: Sink>(sink: &mut K, number: u32) -> Result<(), WriteFault>
+fn put_number<K: Sink>(sink: &mut K, number: usize) -> Result<(), WriteFault>
     ensures ok { OnOk result (Took (K.taken sink.old) (K.taken sink.new) (codes " " ++ decimal number)) }
     ensures err { OnErr result (TookFront (K.taken sink.old) (K.taken sink.new) (codes " " ++ decimal number)) }
     ensures cause { HasCause (K.fault_count sink.old) (K.fault_count sink.new) result }
@@ -38,7 +38,7 @@ fn put_number<K: Sink>(sink: &mut K, number: u32) -> Result<(), WriteFault>
 }
 
 /// Gives the sink the numbers, each after a space. Takes no memory.
-fn put_numbers<K: Sink>(sink: &mut K, numbers: &[u32]) -> Result<(), WriteFault>
+fn put_numbers<K: Sink>(sink: &mut K, numbers: &[usize]) -> Result<(), WriteFault>
     ensures ok { OnOk result (Took (K.taken sink.old) (K.taken sink.new) (spaced numbers.now)) }
     ensures err { OnErr result (TookFront (K.taken sink.old) (K.taken sink.new) (spaced numbers.now)) }
     ensures cause { HasCause (K.fault_count sink.old) (K.fault_count sink.new) result }
@@ -52,30 +52,50 @@ fn put_numbers<K: Sink>(sink: &mut K, numbers: &[u32]) -> Result<(), WriteFault>
     Ok(())
 }
 
-/// Gives the sink a line of words and then numbers. Takes no memory.
+/// Gives the sink words, then numbers, and then the rest. Takes no memory.
 #[tactic(auto, using(io_edge::proofs::Known::taken_pieces))]
-fn put_line<K: Sink>(sink: &mut K, words: &[u8], numbers: &[u32]) -> Result<(), WriteFault>
-    ensures ok { OnOk result (Took (K.taken sink.old) (K.taken sink.new) (line_of words.now numbers.now)) }
-    ensures err { OnErr result (TookFront (K.taken sink.old) (K.taken sink.new) (line_of words.now numbers.now)) }
+fn put_text<K: Sink>(
+    sink: &mut K,
+    words: &[u8],
+    numbers: &[usize],
+    rest: &[u8],
+) -> Result<(), WriteFault>
+    ensures ok { OnOk result (Took (K.taken sink.old) (K.taken sink.new) (text_of_parts words.now numbers.now rest.now)) }
+    ensures err { OnErr result (TookFront (K.taken sink.old) (K.taken sink.new) (text_of_parts words.now numbers.now rest.now)) }
     ensures cause { HasCause (K.fault_count sink.old) (K.fault_count sink.new) result }
 {
     write_all(sink, words)?;
     put_numbers(sink, numbers)?;
-    write_all(sink, b"\n")?;
+    write_all(sink, rest)?;
     Ok(())
 }
 
-/// Gives the sink a line of words and then numbers, and flushes it; answers the status, or WriteFault. Takes no memory.
-pub fn send_line<K: Sink>(sink: &mut K, status: Status, words: &[u8], numbers: &[u32]) -> Status
+/// Gives the sink words, then numbers, and then the rest, and flushes it; answers the status, or WriteFault. Takes no memory.
+pub fn send_text<K: Sink>(
+    sink: &mut K,
+    status: Status,
+    words: &[u8],
+    numbers: &[usize],
+    rest: &[u8],
+) -> Status
     requires { IsAnswer status }
-    ensures { Replies (λ a. a ≡ record { status = status; text = line_of words.now numbers.now })
+    ensures { Replies (λ a. a ≡ record { status = status; text = text_of_parts words.now numbers.now rest.now })
         (K.taken sink.old) (K.taken sink.new) (K.flushed sink.new) (K.fault_count sink.old) (K.fault_count sink.new) result }
 {
-    if put_line(sink, words, numbers).is_err() {
+    if put_text(sink, words, numbers, rest).is_err() {
         return Status::WriteFault;
     }
     if sink.flush().is_err() {
         return Status::WriteFault;
     }
     status
+}
+
+/// The same for a line of words and then numbers.
+pub fn send_line<K: Sink>(sink: &mut K, status: Status, words: &[u8], numbers: &[usize]) -> Status
+    requires { IsAnswer status }
+    ensures { Replies (λ a. a ≡ record { status = status; text = line_of words.now numbers.now })
+        (K.taken sink.old) (K.taken sink.new) (K.flushed sink.new) (K.fault_count sink.old) (K.fault_count sink.new) result }
+{
+    send_text(sink, status, words, numbers, b"\n")
 }

@@ -11,10 +11,12 @@ pub enum Status {
     NoMemory = 3,
     /// The words are refused; nothing was read.
     BadWords = 4,
-    /// The input is refused.
-    BadInput = 5,
+    /// A line of the input is refused; under `solve`, the whole input.
+    BadLine = 5,
     /// The complex of the input is refused: its incidences are not regular.
     BadComplex = 6,
     /// The sheaf of the input is refused: a square does not commute.
     BadSheaf = 7,
+    /// The input asks for more than is served.
+    Limit = 8,
 }

@@ -59,14 +59,26 @@ fn answers(rt: HostRuntime) -> Result<(), Fail> {
         (
             "solve",
             entry_two,
-            Status::BadInput,
+            Status::BadLine,
             b"bad input\n".as_slice(),
         ),
         (
             "check",
             entry_two,
-            Status::BadInput,
-            b"bad input\n".as_slice(),
+            Status::BadLine,
+            b"bad line 5 entry\n".as_slice(),
+        ),
+        (
+            "check",
+            b"field 2\ncell 0 17\n".as_slice(),
+            Status::Limit,
+            b"limit stalk 2\n".as_slice(),
+        ),
+        (
+            "check",
+            b"field 5\n# two clients\ncell 0 3\nclient\nbetti\nbetti\nclient\ndone".as_slice(),
+            Status::Done,
+            b"good 1 0 2 2\n".as_slice(),
         ),
         (
             "solve",

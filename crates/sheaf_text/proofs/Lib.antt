@@ -5,3 +5,4 @@ pub mod Faces
 pub mod Accepted
 pub mod Taken
 pub mod Steps
+pub mod Inputs

@@ -1,6 +1,10 @@
-use Rattle.std.proofs.Common.{Option, subst}
+use Rattle.std.proofs.Common.{◌≡◌, ◌⊎◌, Option, subst}
+use Rattle.std.specs.Prelude.{◌↔◌, IfSome}
+use Rattle.io_edge.specs.Faults.{Rose}
 use Rattle.sheaf_run.specs.declared.job.Job.{Job}
-use Rattle.sheaf_run.specs.Answers.{AnswersJob}
+use Rattle.sheaf_run.specs.declared.status.Status.{Status}
+use Rattle.sheaf_run.specs.declared.status.Status.TheVariants.{NoMemory}
+use Rattle.sheaf_run.specs.Answers.{AnswersJob, IsDue}
 use Rattle.sheaf_run.specs.Runs.{Answered}
 use Rattle.sheaf_run.proofs.DueLaws.{exact, complete}
 use Rattle.sheaf_run.proofs.top.served.Goals as goal
@@ -13,16 +17,25 @@ returns-in-Some-clause-answered g c h =
     c.in-Some.ensures (c.answer_source.ensures.ran.answered h)
 
 pub returns-in-Some-clause-exact : goal.returns-in-Some-clause-exact
-returns-in-Some-clause-exact g c h some =
+returns-in-Some-clause-exact g c h =
     let left = g.S.Source.left c.args.source.now in
     let taken = g.K.Sink.taken in
-    exact c.in-Some.job left (taken c.args.sink.now) (taken c.answer_source.new.sink) (g.K.Sink.flushed c.answer_source.new.sink) c.answer_source.result (c.answer_source.ensures.ran.answered h)
+    let result = c.answer_source.result in
+    subst (λ (job : Option Job). IfSome job (λ j. IfSome left (λ bytes. (status : Status) → (result ≡ status) ↔ IsDue j bytes status)))
+    c.in-Some.ensures
+    (exact c.in-Some.job left (taken c.args.sink.now) (taken c.answer_source.new.sink) (g.K.Sink.flushed c.answer_source.new.sink) result (c.answer_source.ensures.ran.answered h))
 
 pub returns-in-Some-clause-complete : goal.returns-in-Some-clause-complete
-returns-in-Some-clause-complete g c some =
+returns-in-Some-clause-complete g c =
     let left = g.S.Source.left c.args.source.now in
     let taken = g.K.Sink.taken in
     let ran = c.answer_source.ensures.ran in
-    complete c.in-Some.job left (taken c.args.sink.now) (taken c.answer_source.new.sink) (g.K.Sink.flushed c.answer_source.new.sink)
+    let result = c.answer_source.result in
+    subst (λ (job : Option Job). IfSome job (λ j. IfSome left (λ bytes. (status : Status) → IsDue j bytes status →
+    ¬ (Rose (g.S.Source.fault_count c.args.source.now) (g.S.Source.fault_count c.answer_source.new.source)) →
+    ¬ (Rose (g.K.Sink.fault_count c.args.sink.now) (g.K.Sink.fault_count c.answer_source.new.sink)) →
+    (result ≡ status) ⊎ (result ≡ NoMemory))))
+    c.in-Some.ensures
+    (complete c.in-Some.job left (taken c.args.sink.now) (taken c.answer_source.new.sink) (g.K.Sink.flushed c.answer_source.new.sink)
     (g.S.Source.fault_count c.args.source.now) (g.S.Source.fault_count c.answer_source.new.source) (g.K.Sink.fault_count c.args.sink.now)
-    (g.K.Sink.fault_count c.answer_source.new.sink) c.answer_source.result ran.answered ran.read ran.write
+    (g.K.Sink.fault_count c.answer_source.new.sink) result ran.answered ran.read ran.write)
