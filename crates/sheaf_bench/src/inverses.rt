@@ -1,6 +1,7 @@
 ghost use Rattle.std.specs.Prelude.{◌≤◌};
 
-use crate::runs::{Outcome, checksum, sum_of, time_solve};
+use crate::checksums::checksum;
+use crate::runs::{Outcome, sum_of, time_solve};
 use crate::sequence::Sequence;
 use anyhow::Result;
 use dense_blocks::{Inverse, Two, invert, product};

@@ -1,7 +1,7 @@
-//! The benchmark: `sheaf_bench WORKLOAD SIZE` runs one workload of small matrices over the field of two elements, or of
-//! complexes.
+//! The benchmark: `sheaf_bench WORKLOAD SIZE` runs one workload of small matrices over the field of two elements, of
+//! complexes, of sheaves over the field of 31 elements, or of reading.
 //!
-//! The workloads, where n is the size and all scalars come from one fixed sequence:
+//! The workloads, where n is the size and all scalars of matrices come from one fixed sequence:
 //! - `product`: the product of two blocks of n rows and n columns;
 //! - `apply`: the image of a vector by a block of n rows and n columns;
 //! - `solve`: a combination of n columns of n coordinates that gives their sum;
@@ -11,10 +11,17 @@
 //!   one with zeros above it;
 //! - `wide`: a combination of n columns of 16 coordinates that gives their sum;
 //! - `build`: the complex of a simplex with n vertices and a point beside it, out of its 2ⁿ cells and its faces;
-//! - `check`: the check of the incidences of that complex.
+//! - `check`: the check of the incidences of that complex;
+//! - `seal`: the test that a draft is a sheaf: the constant sheaf, of stalks of one coordinate and identities, on a torus of n
+//!   by n squares, which has 4n² cells;
+//! - `put`: one block of that sheaf put anew, an identity again, with all others as they were;
+//! - `seal16` and `put16`: the same with stalks of 16 coordinates;
+//! - `read`: the reading of a text of n kilobytes, all comments but for its first two lines;
+//! - `read-torus`: the reading of the text of the sheaf of `seal`;
+//! - `input`: the bytes of standard input, to its end, which are at most n kilobytes.
 //!
-//! Standard output is one line: the workload, the size, how many field operations the textbook counts, or how many faces
-//! or chains of two faces there are, and a checksum of the result. It is the same in every run. Standard error has the
+//! Standard output is one line: the workload, the size, how many field operations the textbook counts, or how many faces,
+//! chains of two faces, squares of the one block or bytes there are, and a checksum of the result. It is the same in every run, of `input` on the same bytes. Standard error has the
 //! time of the call alone, without the making of its arguments: nanoseconds in all, and for each that is counted.
 //!
 //! The textbook counts multiplications and additions: 2n³ for `product` and `invert`, 2n² for `apply`, and for the other three
@@ -22,15 +29,21 @@
 //! columns the first n are taken to be independent in `solve`, the first half of n, rounded down, in `apart`, and
 //! the first 16 in `wide`.
 //!
-//! The size is a number from 1 to 1,024, of `wide` from 1 to 4,096, of `build` and `check` from 1 to 12. Any other size, a workload of another name, and more or fewer words are refused
-//! by a line on standard error and exit status 2. Without memory, or where the clock or the output fails, the status is 1.
+//! The size is a number from 1 to 1,024, of `wide` from 1 to 4,096, of `build` and `check` from 1 to 12, of `seal`, `put` and
+//! `read-torus` from 2 to 32, of `seal16` and `put16` from 2 to 8, of `read` and `input` from 1 to 16,384. Any other size, a
+//! workload of another name, and more or fewer words are refused by a line on standard error and exit status 2. Without
+//! memory, where the clock, the input or the output fails, or where standard input is longer than the size, the status is 1.
 #![tactic(auto)]
 
+mod checksums;
 mod inverses;
 mod request;
 mod runs;
 mod sequence;
+mod sheaves;
 mod simplex;
+mod texts;
+mod torus;
 mod workload;
 
 use crate::request::Request;
@@ -57,7 +70,7 @@ fn words<R: Env + AllocGlobal>(rt: &R) -> io::Result<Vec<String>> {
 /// Runs what is asked for, and prints what came of it.
 fn measure<R>(rt: &R, request: &Request) -> Result<()>
 where
-    R: Clock + Print + Eprint + AllocGlobal,
+    R: Clock + Input + Print + Eprint + AllocGlobal,
 {
     let outcome = run(rt, request)?;
     let unit = request.workload.unit();

@@ -1,5 +1,5 @@
 ghost use Rattle.std.specs.Prelude.{◌≤◌};
-ghost use Rattle.sheaf_bench.specs.Sizes.{most};
+ghost use Rattle.sheaf_bench.specs.Sizes.{least, most};
 
 use crate::workload::Workload;
 use std::fmt;
@@ -12,11 +12,11 @@ pub enum Refusal {
     #[error("two words are wanted, a workload and a size, as in 'product 256'")]
     Words,
     /// The first word is no workload.
-    #[error("the workloads are product, apply, solve, apart, invert, wide, build and check")]
+    #[error("the workloads are product, apply, solve, apart, invert, wide, build, check, seal, seal16, put, put16, read, read-torus and input")]
     Workload,
     /// The second word is no size.
-    #[error("the size is a number from 1 to {most}")]
-    Size { most: u32 },
+    #[error("the size is a number from {least} to {most}")]
+    Size { least: u32, most: u32 },
 }
 
 /// A workload and its size.
@@ -24,7 +24,7 @@ pub enum Refusal {
 pub struct Request {
     pub workload: Workload,
     pub size: u32,
-    pub ghost positive: { 1 ≤ size },
+    pub ghost large: { least workload ≤ size },
     pub ghost small: { size ≤ most workload },
 }
 
@@ -37,10 +37,10 @@ impl Request {
         let Some(workload) = Workload::of(name.as_str()) else {
             return Err(Refusal::Workload);
         };
-        let most = workload.most();
+        let (least, most) = (workload.least(), workload.most());
         match number.as_str().parse::<u32>() {
-            Ok(size) if 1 <= size && size <= most => Ok(Request { workload, size }),
-            _ => Err(Refusal::Size { most }),
+            Ok(size) if least <= size && size <= most => Ok(Request { workload, size }),
+            _ => Err(Refusal::Size { least, most }),
         }
     }
 }

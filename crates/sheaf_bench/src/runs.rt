@@ -2,13 +2,16 @@ ghost use Rattle.std.specs.Prelude.{◌≡◌, ◌≤◌, length, All, IfOk};
 ghost use Rattle.dense_blocks.specs.Vectors.{AllScalars};
 ghost use Rattle.dense_blocks.specs.Two.{two};
 
+use crate::checksums::{checksum, faces_checksum};
 use crate::inverses::{run_invert, run_wide};
 use crate::request::Request;
 use crate::sequence::Sequence;
+use crate::sheaves::{run_put, run_seal};
 use crate::simplex::Simplex;
+use crate::texts::{run_input, run_read, run_read_torus};
 use crate::workload::Workload;
 use anyhow::Result;
-use cell_complex::{Complex, Sign};
+use cell_complex::Complex;
 use dense_blocks::{Solution, Two, add_scaled, apply, product, solve};
 use incidence_check::check;
 use std::alloc::{AllocError as NoMemory, Global};
@@ -18,7 +21,7 @@ use std::time::{Duration, Instant};
 /// What a run gave.
 #[derive(Clone, Copy)]
 pub struct Outcome {
-    /// How many operations, faces or chains there were.
+    /// How many operations, faces, chains, squares or bytes there were.
     pub count: u32,
     /// A number that the whole result determines.
     pub checksum: u32,
@@ -27,7 +30,7 @@ pub struct Outcome {
 }
 
 /// Runs what is asked for; the errors are want of memory and those of the clock.
-pub fn run<R: Clock + AllocGlobal>(rt: &R, request: &Request) -> Result<Outcome> {
+pub fn run<R: Clock + Input + AllocGlobal>(rt: &R, request: &Request) -> Result<Outcome> {
     match request.workload {
         Workload::Product => run_product(rt, request.size),
         Workload::Apply => run_apply(rt, request.size),
@@ -37,6 +40,13 @@ pub fn run<R: Clock + AllocGlobal>(rt: &R, request: &Request) -> Result<Outcome>
         Workload::Wide => run_wide(rt, request.size),
         Workload::Build => run_build(rt, request.size),
         Workload::Check => run_check(rt, request.size),
+        Workload::Seal => run_seal(rt, request.size, 1),
+        Workload::Seal16 => run_seal(rt, request.size, 16),
+        Workload::Put => run_put(rt, request.size, 1),
+        Workload::Put16 => run_put(rt, request.size, 16),
+        Workload::Read => run_read(rt, request.size),
+        Workload::ReadTorus => run_read_torus(rt, request.size),
+        Workload::Input => run_input(rt, request.size),
     }
 }
 
@@ -155,7 +165,7 @@ fn run_check<R: Clock + AllocGlobal>(rt: &R, vertices: u32) -> Result<Outcome>
 }
 
 /// How many chains there are of a cell, a face of it and a face of that; the greatest number where they are more.
-fn chains(complex: &Complex) -> u32 {
+pub(crate) fn chains(complex: &Complex) -> u32 {
     let mut chains: usize = 0;
     for cell in 0..complex.dims().len() as u32 {
         let below = complex.faces_of(cell).len();
@@ -163,19 +173,6 @@ fn chains(complex: &Complex) -> u32 {
         chains = chains.saturating_add(below.saturating_mul(above));
     }
     u32::try_from(chains).unwrap_or(u32::MAX)
-}
-
-/// A number that the faces, in their order, determine.
-fn faces_checksum(complex: &Complex) -> u32 {
-    let mut sum = 3;
-    for place in 0..complex.face_count() {
-        let face = complex.face_at(place);
-        let sign = u32::from(face.sign == Sign::Minus);
-        for number in [face.s, face.t, sign] {
-            sum = mixed(sum, number);
-        }
-    }
-    sum
 }
 
 /// The sum of columns of `size` coordinates.
@@ -190,20 +187,4 @@ pub(crate) fn sum_of(alloc: Global, size: usize, columns: &[Vec<u8>]) -> Result<
         add_scaled(&Two, sum.as_mut_slice(), 1, column.as_slice());
     }
     Ok(sum)
-}
-
-/// A number that the bytes, in their order, and the kind determine.
-pub(crate) fn checksum(kind: u32, bytes: &[u8]) -> u32 {
-    let mut checksum = kind;
-    for byte in bytes {
-        checksum = mixed(checksum, u32::from(*byte));
-    }
-    checksum
-}
-
-/// A number that this sum and the number after it determine.
-fn mixed(sum: u32, number: u32) -> u32 {
-    sum.wrapping_add(number)
-        .wrapping_add(1)
-        .wrapping_mul(16_777_619)
 }

@@ -1,5 +1,5 @@
 ghost use Rattle.std.specs.Prelude.{◌≡◌};
-ghost use Rattle.sheaf_bench.specs.Sizes.{most};
+ghost use Rattle.sheaf_bench.specs.Sizes.{least, most};
 
 /// What is run.
 #[derive(Clone, Copy, Debug, PartialEq, Eq)]
@@ -20,6 +20,20 @@ pub enum Workload {
     Build,
     /// The check of the incidences of a complex.
     Check,
+    /// The test that a constant sheaf on a torus is one, with stalks of one coordinate.
+    Seal,
+    /// The same with stalks of 16 coordinates.
+    Seal16,
+    /// One block put anew into the constant sheaf on a torus, with stalks of one coordinate.
+    Put,
+    /// The same with stalks of 16 coordinates.
+    Put16,
+    /// The reading of a text of comments.
+    Read,
+    /// The reading of the text of a sheaf on a torus.
+    ReadTorus,
+    /// The bytes of standard input.
+    Input,
 }
 
 impl Workload {
@@ -34,6 +48,13 @@ impl Workload {
             "wide" => Some(Workload::Wide),
             "build" => Some(Workload::Build),
             "check" => Some(Workload::Check),
+            "seal" => Some(Workload::Seal),
+            "seal16" => Some(Workload::Seal16),
+            "put" => Some(Workload::Put),
+            "put16" => Some(Workload::Put16),
+            "read" => Some(Workload::Read),
+            "read-torus" => Some(Workload::ReadTorus),
+            "input" => Some(Workload::Input),
             _ => None,
         }
     }
@@ -49,6 +70,13 @@ impl Workload {
             Workload::Wide => "wide",
             Workload::Build => "build",
             Workload::Check => "check",
+            Workload::Seal => "seal",
+            Workload::Seal16 => "seal16",
+            Workload::Put => "put",
+            Workload::Put16 => "put16",
+            Workload::Read => "read",
+            Workload::ReadTorus => "read-torus",
+            Workload::Input => "input",
         }
     }
 
@@ -56,8 +84,24 @@ impl Workload {
     pub fn unit(self) -> &'static str {
         match self {
             Workload::Build => "faces",
-            Workload::Check => "chains of two faces",
+            Workload::Check | Workload::Seal | Workload::Seal16 => "chains of two faces",
+            Workload::Put | Workload::Put16 => "squares",
+            Workload::Read | Workload::ReadTorus | Workload::Input => "bytes",
             _ => "field operations",
+        }
+    }
+
+    /// The least size.
+    pub fn least(self) -> u32
+        ensures { result ≡ least self }
+    {
+        match self {
+            Workload::Seal
+            | Workload::Seal16
+            | Workload::Put
+            | Workload::Put16
+            | Workload::ReadTorus => 2,
+            _ => 1,
         }
     }
 
@@ -68,6 +112,9 @@ impl Workload {
         match self {
             Workload::Build | Workload::Check => 12,
             Workload::Wide => 4096,
+            Workload::Seal | Workload::Put | Workload::ReadTorus => 32,
+            Workload::Seal16 | Workload::Put16 => 8,
+            Workload::Read | Workload::Input => 16_384,
             _ => 1024,
         }
     }

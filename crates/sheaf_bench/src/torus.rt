@@ -1,0 +1,102 @@
+ghost use Rattle.std.specs.Prelude.{◌<◌, ◌≤◌, ◌^◌};
+ghost use Rattle.cell_complex.specs.Complexes.{AreCells};
+
+use anyhow::{Result, ensure};
+use cell_complex::{Complex, Face, Sign};
+use std::alloc::{AllocError as NoMemory, Global};
+
+/// A torus of squares, as lists of cells and faces.
+///
+/// On a grid of n by n places, whose indices are taken modulo n, each place has a vertex, an edge to the next row, an edge
+/// to the next column, and a square between these two edges and those across. First come all vertices, row by row,
+/// then all edges of the first kind, all of the second, and all squares.
+#[derive(Drop)]
+pub struct Torus {
+    /// The dimension of each cell.
+    pub dims: Vec<u8>,
+    /// The faces: for each place those of its edges and of its square.
+    pub faces: Vec<Face>,
+    pub ghost cells: { AreCells dims.items },
+}
+
+impl Torus {
+    /// The torus of `size` by `size` places; with 32 there are 4,096 cells. With one row, both ends of an edge are one vertex,
+    /// which no complex has.
+    pub fn of(alloc: Global, size: u32) -> Result<Torus>
+        requires positive { 1 ≤ size }
+        requires small { size ≤ 32 }
+    {
+        let mut dims = Vec::new(alloc);
+        for dim in [0, 1, 1, 2] {
+            add_cells(&mut dims, dim, size * size)?;
+        }
+        let mut faces = Vec::new(alloc);
+        for place in 0..size * size {
+            add_faces(&mut faces, size, place / size, place % size)?;
+        }
+        ensure!(Complex::fits(&dims), "these are no cells of a complex");
+        Ok(Torus { dims, faces })
+    }
+}
+
+/// Adds so many cells of this dimension.
+fn add_cells(dims: &mut Vec<u8>, dim: u8, count: u32) -> Result<(), NoMemory> {
+    for _added in 0..count {
+        dims.push(dim)?;
+    }
+    Ok(())
+}
+
+/// Adds the faces of the edges and of the square at the place.
+fn add_faces(faces: &mut Vec<Face>, size: u32, row: u32, column: u32) -> Result<(), NoMemory>
+    requires positive { 1 ≤ size }
+    requires small { size ≤ 32 }
+    requires row { row ≤ 1024 }
+    requires column { column ≤ 1024 }
+{
+    let here = vertex(size, row, column);
+    let down = edge_down(size, row, column);
+    let right = edge_right(size, row, column);
+    let square = 3 * size * size + here;
+    let incidences = [
+        (here, down, Sign::Minus),
+        (vertex(size, row + 1, column), down, Sign::Plus),
+        (here, right, Sign::Minus),
+        (vertex(size, row, column + 1), right, Sign::Plus),
+        (down, square, Sign::Plus),
+        (edge_right(size, row + 1, column), square, Sign::Plus),
+        (edge_down(size, row, column + 1), square, Sign::Minus),
+        (right, square, Sign::Minus),
+    ];
+    for (s, t, sign) in incidences {
+        faces.push(Face { s, t, sign })?;
+    }
+    Ok(())
+}
+
+/// The vertex at the place.
+fn vertex(size: u32, row: u32, column: u32) -> u32
+    requires positive { 1 ≤ size }
+    requires small { size ≤ 32 }
+    ensures { result < 2 ^ 20 }
+{
+    row % size * size + column % size
+}
+
+/// The edge from the place to the next row.
+fn edge_down(size: u32, row: u32, column: u32) -> u32
+    requires positive { 1 ≤ size }
+    requires small { size ≤ 32 }
+    ensures { result < 2 ^ 21 }
+{
+    size * size + vertex(size, row, column)
+}
+
+/// The edge from the place to the next column.
+fn edge_right(size: u32, row: u32, column: u32) -> u32
+    requires positive { 1 ≤ size }
+    requires small { size ≤ 32 }
+    ensures { result < 2 ^ 21 }
+{
+    2 * size * size + vertex(size, row, column)
+}
