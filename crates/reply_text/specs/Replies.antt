@@ -1,0 +1,58 @@
+-- The lines that answer a command.
+use Rattle.std.specs.Prelude.{ℕ, List, [], ◌∷◌, ◌++◌, map, codes}
+use Rattle.std.specs.Fmt.{decimal}
+use Rattle.sheaf_words.specs.declared.asking.Command.{Command}
+use Rattle.sheaf_words.specs.declared.asking.Command.TheVariants.{Change, Ask}
+use Rattle.sheaf_words.specs.declared.asking.Query.{Query}
+use Rattle.sheaf_words.specs.declared.asking.Query.TheVariants as queries
+use Rattle.sheaf_words.specs.declared.editing.Cause.{Cause}
+use Rattle.sheaf_words.specs.declared.editing.Cause.TheVariants.{NoCell, NoFace, StalkLimit, Shape, Entry, TotalLimit, Square}
+use Rattle.sheaf_words.specs.declared.editing.Verdict.{Verdict}
+use Rattle.sheaf_words.specs.declared.editing.Verdict.TheVariants.{Accepted, Refused}
+use Rattle.sheaf_words.specs.declared.happening.Event.{Event}
+use Rattle.sheaf_words.specs.declared.happening.Event.TheVariants as events
+use Rattle.sheaf_words.specs.declared.replying.Reply.TheVariants as replies
+
+-- the first word of a query
+abbrev pub query_word : Query → List ℕ
+query_word queries.Betti = codes "betti"
+query_word queries.Reduce = codes "reduce"
+query_word queries.Equiv = codes "equiv"
+query_word (queries.Basis k) = codes "basis"
+query_word (queries.Class k z) = codes "class"
+query_word queries.Sections = codes "sections"
+query_word (queries.Extend s v) = codes "extend"
+
+-- the first word of a command
+abbrev pub command_word : Command → List ℕ
+command_word (Change edit) = codes "edit"
+command_word (Ask query) = query_word query
+
+abbrev pub cause_words : Cause → List (List ℕ)
+cause_words (NoCell i) = codes "cell" ∷ decimal i ∷ []
+cause_words (NoFace i) = codes "face" ∷ decimal i ∷ []
+cause_words (StalkLimit i) = codes "stalk" ∷ decimal i ∷ []
+cause_words (Shape i) = codes "shape" ∷ decimal i ∷ []
+cause_words (Entry i) = codes "entry" ∷ decimal i ∷ []
+cause_words TotalLimit = codes "total" ∷ []
+cause_words (Square s u) = codes "square" ∷ decimal s ∷ decimal u ∷ []
+
+abbrev pub verdict_words : Verdict → List (List ℕ)
+verdict_words Accepted = codes "accepted" ∷ []
+verdict_words (Refused cause) = codes "refused" ∷ cause_words cause
+
+-- the event answers the command: an edit with its verdict, a query with a reply of its kind
+abbrev pub IsAnswerTo : Command → Event → Type 0
+IsAnswerTo (Change edit) (events.Edit c verdict) = Unit {0}
+IsAnswerTo (Ask queries.Betti) (events.Reply c (replies.Betti numbers)) = Unit {0}
+IsAnswerTo command event = ⊥
+
+-- what the first line says after the command's word
+abbrev pub answer_words : Event → List (List ℕ)
+answer_words (events.Edit c verdict) = verdict_words verdict
+answer_words (events.Reply c (replies.Betti numbers)) = map decimal numbers
+answer_words event = []
+
+-- the lines that answer the command of this number on version v
+abbrev pub reply_lines : ℕ → ℕ → Command → Event → List (List (List ℕ))
+reply_lines number v command event = (decimal number ∷ (codes "v" ++ decimal v) ∷ command_word command ∷ answer_words event) ∷ []

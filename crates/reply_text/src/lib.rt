@@ -1,0 +1,15 @@
+//! The text of a transcript: replies and events, as lines of words.
+#![tactic(auto)]
+
+mod counts;
+mod events;
+mod order;
+mod replies;
+#[cfg(test)]
+mod tests;
+mod transcripts;
+mod words;
+
+pub use events::event_line;
+pub use replies::reply_lines;
+pub use transcripts::transcript;

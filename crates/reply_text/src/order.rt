@@ -1,0 +1,73 @@
+ghost use Rattle.std.specs.Prelude.{◌≡◌, ℕ, ◌+◌, ◌<◌, ◌^◌, ◌∷◌, [], ◌++◌, List, length, All, IfSome, OnOk};
+ghost use Rattle.sheaf_words.specs.declared.happening.Event.{Event};
+ghost use Rattle.reply_text.specs.Lines.{lines_text};
+ghost use Rattle.reply_text.specs.Transcripts.{client_of, ender_of, number_of, order_lines};
+ghost use Rattle.reply_text.specs.Counts.{AreCounted};
+
+use crate::events::event_line;
+use sheaf_words::Event;
+use std::alloc::{AllocError as NoMemory, Global};
+
+/// The client whose command the event is about.
+fn client_of(event: &Event) -> Option<u32>
+    ensures { result ≡ client_of event.now }
+{
+    match event {
+        Event::Edit { c, .. } | Event::Ask { c } | Event::Reply { c, .. } => Some(*c),
+        Event::Pair { .. } => None,
+    }
+}
+
+/// The client whose command the event ends.
+fn ender_of(event: &Event) -> Option<u32>
+    ensures { result ≡ ender_of event.now }
+{
+    match event {
+        Event::Edit { c, .. } | Event::Reply { c, .. } => Some(*c),
+        Event::Ask { .. } | Event::Pair { .. } => None,
+    }
+}
+
+/// The number of the command that the event is about.
+fn number_of(counts: &[u32], event: &Event) -> u32
+    requires known { IfSome (client_of event.now) (λ c. c < length counts.now) }
+    requires fits { All (λ n. n + 1 < 2 ^ 32) counts.now }
+    ensures { (events : List Event) → AreCounted events counts.now → result ≡ number_of events event.now }
+{
+    match client_of(event) {
+        Some(c) => counts[c as usize] + 1,
+        None => 0,
+    }
+}
+
+/// Counts the event, for the client whose command it ends.
+fn count_event(counts: &mut Vec<u32>, event: &Event)
+    requires known { IfSome (client_of event.now) (λ c. c < length counts.old.items) }
+    requires fits { All (λ n. n + 1 < 2 ^ 32) counts.old.items }
+    ensures len { length counts.new.items ≡ length counts.old.items }
+    ensures counted { (events : List Event) → AreCounted events counts.old.items → AreCounted (events ++ event.now ∷ []) counts.new.items }
+{
+    if let Some(c) = ender_of(event) {
+        counts[c as usize] += 1;
+    }
+}
+
+/// Appends a line for each event, where the first clients, so many, have made them.
+pub(crate) fn put_order(
+    alloc: Global,
+    out: &mut Vec<u8>,
+    clients: usize,
+    events: &[Event],
+) -> Result<(), NoMemory>
+    requires few { length events.now + 1 < 2 ^ 32 }
+    requires known { All (λ event. IfSome (client_of event) (λ c. c < clients)) events.now }
+    ensures { OnOk result (out.new.items ≡ out.old.items ++ lines_text (order_lines [] events.now)) }
+{
+    let mut counts = vec![in alloc; 0u32; clients]?;
+    for event in events {
+        let number = number_of(counts.as_slice(), event);
+        event_line(alloc, number, 0, event, out)?;
+        count_event(&mut counts, event);
+    }
+    Ok(())
+}
