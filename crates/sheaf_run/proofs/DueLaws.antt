@@ -8,7 +8,8 @@ use Rattle.sheaf_data.specs.declared.fault.SealFault.{SealFault}
 use Rattle.sheaf_data.specs.declared.fault.SealFault.TheVariants.{Complex, Noncommuting}
 use Rattle.sheaf_data.specs.Sheaves.{SheafData}
 use Rattle.sheaf_data.specs.Refusals.{IsFault}
-use Rattle.small_text.specs.Small.{IsSmallText}
+use Rattle.sheaf_words.specs.declared.asking.Command.{Command}
+use Rattle.io_edge.specs.Bytes.{Took}
 use Rattle.sheaf_run.specs.declared.job.Job.{Job}
 use Rattle.sheaf_run.specs.declared.job.Job.TheVariants.{Solve, Check}
 use Rattle.sheaf_run.specs.declared.status.Status.{Status}
@@ -16,8 +17,8 @@ use Rattle.sheaf_run.specs.declared.status.Status.TheVariants.{Done, ReadFault, 
 use Rattle.sheaf_text.specs.Reading.{Reading, reading}
 use Rattle.sheaf_text.specs.Reading as readings
 use Rattle.sheaf_text.specs.declared.input.Input.{Input}
-use Rattle.sheaf_run.specs.Answers.{Outcome, IsAnswer, DraftIsDue, SmallIsDue, ReadingIsDue, IsDue, IsRead, refusal, good_input, IsSolution, AnswersDraft, AnswersSmall, AnswersReading, AnswersBytes}
-use Rattle.sheaf_run.specs.Runs.{Answered}
+use Rattle.sheaf_run.specs.Answers.{Outcome, IsAnswer, DraftIsDue, ReadingIsDue, IsDue, refusal, IsRight, AnswersDraft, AnswersReading}
+use Rattle.sheaf_run.specs.Runs.{Answered, IsServed}
 use Rattle.io_edge.specs.Faults.{Rose}
 
 -- a refused draft is due what it is refused with
@@ -35,11 +36,9 @@ due_of_draft : (IsRight : Outcome → Type 0) (d : SheafData Field) (a : Outcome
 due_of_draft IsRight d a done (inl refused) = subst (DraftIsDue d) (sym (ap (λ (o : Outcome). o.status) refused.is)) (due_of_fault d refused.fault refused.first)
 due_of_draft IsRight d a done (inr answered) = subst (DraftIsDue d) (sym (done a answered.1)) answered.0
 
-solution_done : (d : SheafData Field) → IsDone (IsSolution d)
-solution_done d a right = ap (λ (o : Outcome). o.status) right.is
-
-good_done : (i : Input) → IsDone (λ a. a ≡ good_input i)
-good_done i a right = ap (λ (o : Outcome). o.status) right
+right_done : (job : Job) (d : SheafData Field) (scripts : List (List Command)) → IsDone (IsRight job d scripts)
+right_done Solve d scripts a right = ap (λ (o : Outcome). o.status) right.is
+right_done Check d scripts a right = ap (λ (o : Outcome). o.status) right
 
 -- the three cases exclude each other
 done_only : (d : SheafData Field) → DraftIsDue d Done → (status : Status) → DraftIsDue d status → Done ≡ status
@@ -66,83 +65,86 @@ draft_due_only d BadComplex other h due = complex_only d h other due
 draft_due_only d BadSheaf other h due = sheaf_only d h other due
 draft_due_only d _ other h due = absurd h
 
--- ---- under `solve`: the bytes of a draft are due what it is due
+-- ---- a reading is due what its input is due
 
-due_of_read : (bytes : List ℕ) (d : SheafData Field) → IsRead bytes d → (status : Status) → DraftIsDue d status → SmallIsDue bytes status
-due_of_read bytes d read BadLine due = absurd due
-due_of_read bytes d read _ due = (d, read.small, read.text, due)
+due_of_input : (job : Job) (i : Input) (a : Outcome) → AnswersDraft (IsRight job i.draft i.scripts) i.draft a → DraftIsDue i.draft a.status
+due_of_input job i a answers = due_of_draft (IsRight job i.draft i.scripts) i.draft a (right_done job i.draft i.scripts) answers
 
-draft_due_of_bytes : (bytes : List ℕ) (d : SheafData Field) → IsRead bytes d → (status : Status) → SmallIsDue bytes status → DraftIsDue d status
-draft_due_of_bytes bytes d read BadLine due = absurd (due (d, read.small, read.text))
-draft_due_of_bytes bytes d read status due = subst (λ (e : SheafData Field). DraftIsDue e status) (read.only due.0 due.1 due.2) due.3
+due_of_reading : (job : Job) (r : Reading) (a : Outcome) → AnswersReading job r a → ReadingIsDue r a.status
+due_of_reading job (readings.Good v) a found = (found.0, found.1.value, due_of_input job found.0 a found.2)
+due_of_reading job (readings.BadLine line cause) a is = ap (λ (o : Outcome). o.status) is
+due_of_reading job (readings.Limit line which) a is = ap (λ (o : Outcome). o.status) is
 
-refused_only : (bytes : List ℕ) → ¬ IsSmallText bytes → (status : Status) → SmallIsDue bytes status → BadLine ≡ status
-refused_only bytes other BadLine due = refl
-refused_only bytes other _ due = absurd (other (due.0, due.1, due.2))
-
-due_of_small : (bytes : List ℕ) (a : Outcome) → AnswersSmall bytes a → SmallIsDue bytes a.status
-due_of_small bytes a (inl found) = due_of_read bytes found.0 found.1 a.status (due_of_draft (IsSolution found.0) found.0 a (solution_done found.0) found.2)
-due_of_small bytes a (inr refused) = subst (SmallIsDue bytes) (sym (ap (λ (o : Outcome). o.status) refused.1)) refused.0
-
-small_due_only : (bytes : List ℕ) (a : Outcome) → AnswersSmall bytes a → (status : Status) → SmallIsDue bytes status → a.status ≡ status
-small_due_only bytes a (inl found) status due =
-    draft_due_only found.0 a.status status (due_of_draft (IsSolution found.0) found.0 a (solution_done found.0) found.2) (draft_due_of_bytes bytes found.0 found.1 status due)
-small_due_only bytes a (inr refused) status due = ap (λ (o : Outcome). o.status) refused.1 ∙ refused_only bytes refused.0 status due
-
--- ---- under `check`: a reading is due what its input is due
-
-due_of_input : (i : Input) (a : Outcome) → AnswersDraft (λ b. b ≡ good_input i) i.draft a → DraftIsDue i.draft a.status
-due_of_input i a answers = due_of_draft (λ b. b ≡ good_input i) i.draft a (good_done i) answers
-
-due_of_reading : (r : Reading) (a : Outcome) → AnswersReading r a → ReadingIsDue r a.status
-due_of_reading (readings.Good v) a found = (found.0, found.1.value, due_of_input found.0 a found.2)
-due_of_reading (readings.BadLine line cause) a is = ap (λ (o : Outcome). o.status) is
-due_of_reading (readings.Limit line which) a is = ap (λ (o : Outcome). o.status) is
-
-reading_due_only : (r : Reading) (a : Outcome) → AnswersReading r a → (status : Status) → ReadingIsDue r status → a.status ≡ status
-reading_due_only (readings.Good v) a found status due =
-    draft_due_only found.0.draft a.status status (due_of_input found.0 a found.2)
+reading_due_only : (job : Job) (r : Reading) (a : Outcome) → AnswersReading job r a → (status : Status) → ReadingIsDue r status → a.status ≡ status
+reading_due_only job (readings.Good v) a found status due =
+    draft_due_only found.0.draft a.status status (due_of_input job found.0 a found.2)
     (subst (λ (i : Input). DraftIsDue i.draft status) (found.1.only due.0 due.1) due.2)
-reading_due_only (readings.BadLine line cause) a is status due = ap (λ (o : Outcome). o.status) is ∙ sym due
-reading_due_only (readings.Limit line which) a is status due = ap (λ (o : Outcome). o.status) is ∙ sym due
+reading_due_only job (readings.BadLine line cause) a is status due = ap (λ (o : Outcome). o.status) is ∙ sym due
+reading_due_only job (readings.Limit line which) a is status due = ap (λ (o : Outcome). o.status) is ∙ sym due
 
--- ---- under either
+-- ---- what is answered
 
-due_of_bytes : (job : Job) (bytes : List ℕ) (a : Outcome) → AnswersBytes job bytes a → IsDue job bytes a.status
-due_of_bytes Solve bytes a answers = due_of_small bytes a answers
-due_of_bytes Check bytes a answers = due_of_reading (reading bytes) a answers
+-- what is right for a job, as a relation of bytes
+abbrev Right : Job → List ℕ → Outcome → Type 0
+Right job bytes a = AnswersReading job (reading bytes) a
 
-due_only : (job : Job) (bytes : List ℕ) (a : Outcome) → AnswersBytes job bytes a → (status : Status) → IsDue job bytes status → a.status ≡ status
-due_only Solve bytes a answers status due = small_due_only bytes a answers status due
-due_only Check bytes a answers status due = reading_due_only (reading bytes) a answers status due
-
-exactly : (job : Job) (bytes : List ℕ) (a : Outcome) (result : Status) → AnswersBytes job bytes a → result ≡ a.status → (status : Status)
-    → (result ≡ status) ↔ IsDue job bytes status
+exactly : (job : Job) (bytes : List ℕ) (a : Outcome) (result : Status) → Right job bytes a → result ≡ a.status → (status : Status)
+    → (result ≡ status) ↔ IsDue bytes status
 exactly job bytes a result right is status = (
-  λ e. subst (IsDue job bytes) (sym is ∙ e) (due_of_bytes job bytes a right),
-  λ due. is ∙ due_only job bytes a right status due,
+  λ e. subst (IsDue bytes) (sym is ∙ e) (due_of_reading job (reading bytes) a right),
+  λ due. is ∙ reading_due_only job (reading bytes) a right status due,
 )
 
 -- what is answered is what the bytes are due
-pub exact : (job : Job) (left old new : Option (List ℕ)) (flush : ℕ) (result : Status) → Answered (AnswersBytes job) left old new flush result
-    → IfSome left (λ bytes. (status : Status) → (result ≡ status) ↔ IsDue job bytes status)
+pub exact : (job : Job) (left old new : Option (List ℕ)) (flush : ℕ) (result : Status) → Answered (Right job) left old new flush result
+    → IfSome left (λ bytes. (status : Status) → (result ≡ status) ↔ IsDue bytes status)
 exact job None old new flush result answered = tt
 exact job (Some bytes) old new flush result answered = exactly job bytes answered.0 result answered.1 answered.2.status
 
+-- a solution that is done is the transcript of a legal order of the input's commands
+done_serves : (bytes : List ℕ) (old new : Option (List ℕ)) (a : Outcome) → a.status ≡ Done → Took old new a.text
+    → (r : Reading) → reading bytes ≡ r → AnswersReading Solve r a → IsServed bytes old new
+done_serves bytes old new a done took (readings.Good v) e found = by found.2
+  where
+    not_refused : (fault : SealFault) → (refusal fault).status ≡ Done → ⊥
+    not_refused (Complex (EdgeEnds t)) is = cc
+    not_refused (Complex (Middles s u count)) is = cc
+    not_refused (Complex (Signs s u)) is = cc
+    not_refused (Noncommuting s u) is = cc
+
+    by : AnswersDraft (IsRight Solve found.0.draft found.0.scripts) found.0.draft a → IsServed bytes old new
+    by (inl refused) = absurd (not_refused refused.fault (sym (ap (λ (o : Outcome). o.status) refused.is) ∙ done))
+    by (inr (sheaf, solution)) = record {
+      input = found.0;
+      good = e ∙ ap readings.Good found.1.value;
+      sheaf = sheaf;
+      events = solution.events;
+      order = solution.order;
+      text = subst (λ (o : Outcome). Took old new o.text) solution.is took;
+    }
+done_serves bytes old new a done took (readings.BadLine line cause) e is = let same = sym (ap (λ (o : Outcome). o.status) is) ∙ done in absurd cc
+done_serves bytes old new a done took (readings.Limit line which) e is = let same = sym (ap (λ (o : Outcome). o.status) is) ∙ done in absurd cc
+
+pub serves : (left old new : Option (List ℕ)) (flush : ℕ) (result : Status) → Answered (Right Solve) left old new flush result → result ≡ Done
+    → IfSome left (λ bytes. IsServed bytes old new)
+serves None old new flush result answered done = tt
+serves (Some bytes) old new flush result answered done =
+    done_serves bytes old new answered.0 (sym answered.2.status ∙ done) answered.2.text (reading bytes) refl answered.1
+
 -- what the bytes are due is answered, where neither source nor sink failed and memory did not run out
 pub complete : (job : Job) (left old new : Option (List ℕ)) (flush read_before read_now write_before write_now : ℕ) (result : Status)
-    → (IsAnswer result → Answered (AnswersBytes job) left old new flush result) → (result ≡ ReadFault → Rose read_before read_now)
+    → (IsAnswer result → Answered (Right job) left old new flush result) → (result ≡ ReadFault → Rose read_before read_now)
     → (result ≡ WriteFault → Rose write_before write_now)
-    → IfSome left (λ bytes. (status : Status) → IsDue job bytes status → ¬ (Rose read_before read_now) → ¬ (Rose write_before write_now)
+    → IfSome left (λ bytes. (status : Status) → IsDue bytes status → ¬ (Rose read_before read_now) → ¬ (Rose write_before write_now)
     → (result ≡ status) ⊎ (result ≡ NoMemory))
 complete job None old new flush rb rn wb wn result answered read write = tt
 complete job (Some bytes) old new flush rb rn wb wn result answered read write = λ status due no_read no_write. go result status due no_read no_write answered read write
   where
-    go : (r status : Status) → IsDue job bytes status → ¬ (Rose rb rn) → ¬ (Rose wb wn)
-        → (IsAnswer r → Answered (AnswersBytes job) (Some bytes) old new flush r) → (r ≡ ReadFault → Rose rb rn) → (r ≡ WriteFault → Rose wb wn)
+    go : (r status : Status) → IsDue bytes status → ¬ (Rose rb rn) → ¬ (Rose wb wn)
+        → (IsAnswer r → Answered (Right job) (Some bytes) old new flush r) → (r ≡ ReadFault → Rose rb rn) → (r ≡ WriteFault → Rose wb wn)
         → (r ≡ status) ⊎ (r ≡ NoMemory)
     go ReadFault status due no_read no_write answered read write = absurd (no_read (read refl))
     go WriteFault status due no_read no_write answered read write = absurd (no_write (write refl))
     go NoMemory status due no_read no_write answered read write = inr refl
     go _ status due no_read no_write answered read write =
-        let known = answered tt in inl (known.2.status ∙ due_only job bytes known.0 known.1 status due)
+        let known = answered tt in inl (known.2.status ∙ reading_due_only job (reading bytes) known.0 known.1 status due)

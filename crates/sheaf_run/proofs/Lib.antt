@@ -1,3 +1,4 @@
 pub mod DueLaws
 pub mod Lines
 pub mod RunLaws
+pub mod ServingLaws

@@ -1,6 +1,6 @@
 -- What a run did, from what it read and what it replied.
 use Rattle.std.proofs.Common.{◌≡◌, ℕ, ◌<◌, List, length, Option, Some, None, inl, refl, sym, subst, ◌∙◌}
-use Rattle.std.specs.Prelude.{◌≢◌, IfSome, sum_by}
+use Rattle.std.specs.Prelude.{◌≢◌, IfSome}
 use Rattle.std.specs.Io.KnownBytes.{IsAtEnd}
 use Rattle.io_edge.specs.Bytes.{Gave, TookFront}
 use Rattle.io_edge.proofs.Known.{gave_whole}
@@ -16,7 +16,8 @@ use Rattle.sheaf_text.specs.declared.input.Input.{Input}
 use Rattle.sheaf_text.specs.declared.fault.Which.TheVariants as limits
 use Rattle.sheaf_text.proofs.Kept.{reading-long}
 use Rattle.sheaf_text.proofs.Inputs.{input_value-injective}
-use Rattle.sheaf_run.specs.Answers.{Outcome, IsAnswer, AnswersDraft, AnswersReading, refusal, good, over_limit}
+use Rattle.sheaf_run.specs.declared.job.Job.{Job}
+use Rattle.sheaf_run.specs.Answers.{Outcome, IsAnswer, AnswersDraft, AnswersReading, IsRight, refusal, over_limit}
 use Rattle.sheaf_run.specs.Replies.{Replies, Sent}
 use Rattle.sheaf_run.specs.Runs.{Ran}
 use Rattle.sheaf_run.specs.declared.status.Status.{Status}
@@ -84,29 +85,21 @@ ran_unread IsRight P {left} {left_new} {old} {new} {flush} {read_before} {read_n
     done e = let s = replies.sent (subst IsAnswer (sym e) tt) in not_done s.0 s.1 (sym s.2.status ∙ e)
 
 -- more bytes than are read
-pub over_bytes : (left : Option (List ℕ)) → IfSome left (λ bytes. 16777216 < length bytes)
-    → IfSome left (λ bytes. (a : Outcome) → (a ≡ over_limit 0 limits.Bytes) → AnswersReading (reading bytes) a)
-over_bytes None h = tt
-over_bytes (Some bytes) h = λ a is. subst (λ (r : Reading). AnswersReading r a) (sym (reading-long bytes h)) is
+pub over_bytes : (job : Job) (left : Option (List ℕ)) → IfSome left (λ bytes. 16777216 < length bytes)
+    → IfSome left (λ bytes. (a : Outcome) → (a ≡ over_limit 0 limits.Bytes) → AnswersReading job (reading bytes) a)
+over_bytes job None h = tt
+over_bytes job (Some bytes) h = λ a is. subst (λ (r : Reading). AnswersReading job r a) (sym (reading-long bytes h)) is
 
 -- what is right for a reading is right for an equal one
-pub replies_reading : (r s : Reading) {old new : Option (List ℕ)} {flush before now : ℕ} {result : Status} → r ≡ s
-    → Replies (AnswersReading s) old new flush before now result → Replies (AnswersReading r) old new flush before now result
-replies_reading r s e replies = replies_weaker (AnswersReading s) (AnswersReading r) (λ a h. subst (λ (t : Reading). AnswersReading t a) (sym e) h) replies
+pub replies_reading : (job : Job) (r s : Reading) {old new : Option (List ℕ)} {flush before now : ℕ} {result : Status} → r ≡ s
+    → Replies (AnswersReading job s) old new flush before now result → Replies (AnswersReading job r) old new flush before now result
+replies_reading job r s e replies = replies_weaker (AnswersReading job s) (AnswersReading job r) (λ a h. subst (λ (t : Reading). AnswersReading job t a) (sym e) h) replies
 
 -- the input that was read is answered
-pub replies_input : (r : Reading) (i : Input) (clients commands : ℕ) {old new : Option (List ℕ)} {flush before now : ℕ} {result : Status}
-    → r ≡ readings.Good (input_value i) → clients ≡ length i.scripts → commands ≡ sum_by length i.scripts
-    → Replies (AnswersDraft (λ a. a ≡ good i.draft clients commands) i.draft) old new flush before now result
-    → Replies (AnswersReading r) old new flush before now result
-replies_input r i clients commands {old} {new} {flush} {before} {now} {result} e client_count command_count replies =
-    replies_reading r (readings.Good (input_value i)) e
-    (replies_weaker (AnswersDraft (λ a. a ≡ good i.draft clients commands) i.draft) (AnswersReading (readings.Good (input_value i))) right replies)
-  where
-    right : (a : Outcome) → AnswersDraft (λ b. b ≡ good i.draft clients commands) i.draft a → AnswersReading (readings.Good (input_value i)) a
-    right a h = (
-      i,
-      record { value = refl; only = λ j same. sym (input_value-injective i j same) },
-      subst (λ n. AnswersDraft (λ b. b ≡ good i.draft n (sum_by length i.scripts)) i.draft a) client_count
-          (subst (λ m. AnswersDraft (λ b. b ≡ good i.draft clients m) i.draft a) command_count h),
-    )
+pub replies_input : (job : Job) (r : Reading) (i : Input) {old new : Option (List ℕ)} {flush before now : ℕ} {result : Status}
+    → r ≡ readings.Good (input_value i) → Replies (AnswersDraft (IsRight job i.draft i.scripts) i.draft) old new flush before now result
+    → Replies (AnswersReading job r) old new flush before now result
+replies_input job r i e replies =
+    replies_reading job r (readings.Good (input_value i)) e
+    (replies_weaker (AnswersDraft (IsRight job i.draft i.scripts) i.draft) (AnswersReading job (readings.Good (input_value i)))
+    (λ a h. (i, record { value = refl; only = λ j same. sym (input_value-injective i j same) }, h)) replies)

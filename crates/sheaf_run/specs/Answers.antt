@@ -11,9 +11,10 @@ use Rattle.sheaf_data.specs.declared.fault.SealFault.{SealFault}
 use Rattle.sheaf_data.specs.declared.fault.SealFault.TheVariants.{Complex, Noncommuting}
 use Rattle.sheaf_data.specs.Sheaves.{SheafData, IsSheaf}
 use Rattle.sheaf_data.specs.Refusals.{IsFault}
-use Rattle.sheaf_data.specs.Betti.{AreBetti}
-use Rattle.small_text.specs.Text.{text_of}
-use Rattle.small_text.specs.Small.{IsSmall, IsSmallText}
+use Rattle.sheaf_words.specs.declared.asking.Command.{Command}
+use Rattle.sheaf_words.specs.declared.happening.Event.{Event}
+use Rattle.reply_text.specs.Transcripts.{transcript}
+use Rattle.core_machine.specs.Machine.{IsLegalAndWhole}
 use Rattle.sheaf_text.specs.Reading.{Reading, InputValue, reading}
 use Rattle.sheaf_text.specs.Reading as readings
 use Rattle.sheaf_text.specs.Answers.{input_value}
@@ -56,10 +57,6 @@ job_of (word ∷ other ∷ more) = None
 abbrev pub bad_words : Outcome
 bad_words = record { status = BadWords; text = codes "bad words\n" }
 
--- an input that is no small text
-abbrev pub bad_input : Outcome
-bad_input = record { status = BadLine; text = codes "bad input\n" }
-
 -- numbers, with a space before each
 abbrev pub spaced : List ℕ → List ℕ
 spaced numbers = flat_map (λ number. codes " " ++ decimal number) numbers
@@ -91,15 +88,16 @@ refusal (Noncommuting s u) = record { status = BadSheaf; text = line_of (codes "
 abbrev pub good : SheafData Field → ℕ → ℕ → Outcome
 good d clients commands = record { status = Done; text = line_of (codes "good") (length d.complex.dims ∷ length d.complex.faces ∷ clients ∷ commands ∷ []) }
 
--- the transcript of one client that asks once for the Betti numbers and is answered these
-abbrev pub transcript : List ℕ → List ℕ
-transcript numbers = (codes "client 0\n1 v0 betti" ++ spaced numbers) ++ codes "\norder\nask 0 1\nreply 0 1\nend\n"
+-- the transcript of one legal order of all commands of these scripts on the sheaf, whole
+pub record IsSolution (d : SheafData Field) (scripts : List (List Command)) (a : Outcome) : Type 0 where
+  pub events : List Event
+  pub order : IsLegalAndWhole (ops_of d.field) scripts d events
+  pub is : a ≡ record { status = Done; text = transcript scripts events }
 
--- the transcript with the Betti numbers of a sheaf
-pub record IsSolution (d : SheafData Field) (a : Outcome) : Type 0 where
-  pub numbers : List ℕ
-  pub betti : AreBetti (ops_of d.field) d.complex d.stalks d.blocks numbers
-  pub is : a ≡ record { status = Done; text = transcript numbers }
+-- what a sheaf is answered: under `solve` a transcript, under `check` its counts and those of its clients and commands
+abbrev pub IsRight : Job → SheafData Field → List (List Command) → Outcome → Type 0
+IsRight Solve d scripts a = IsSolution d scripts a
+IsRight Check d scripts a = a ≡ good d (length scripts) (sum_by length scripts)
 
 -- the first fault of a draft is what it is refused with
 pub record IsRefused (d : SheafData Field) (a : Outcome) : Type 0 where
@@ -111,39 +109,21 @@ pub record IsRefused (d : SheafData Field) (a : Outcome) : Type 0 where
 abbrev pub AnswersDraft : (Outcome → Type 0) → SheafData Field → Outcome → Type 0
 AnswersDraft IsRight d a = IsRefused d a ⊎ (IsSheaf (ops_of d.field) d.complex d.stalks d.blocks × IsRight a)
 
--- the bytes are the text of this small draft, and of no other
-pub record IsRead (bytes : List ℕ) (d : SheafData Field) : Type 0 where
-  pub small : IsSmall d
-  pub text : bytes ≡ text_of d
-  pub only : (e : SheafData Field) → IsSmall e → bytes ≡ text_of e → e ≡ d
-
--- under `solve` a small text is answered by its draft, and any other bytes are refused
-abbrev pub AnswersSmall : List ℕ → Outcome → Type 0
-AnswersSmall bytes a = ((d : SheafData Field) × IsRead bytes d × AnswersDraft (IsSolution d) d a) ⊎ ((¬ IsSmallText bytes) × (a ≡ bad_input))
-
 -- the value is that of this input, and of no other
 pub record IsInputOf (v : InputValue) (i : Input) : Type 0 where
   pub value : v ≡ input_value i
   pub only : (j : Input) → v ≡ input_value j → j ≡ i
 
--- the counts of an input: its cells, faces, clients and commands
-abbrev pub good_input : Input → Outcome
-good_input i = good i.draft (length i.scripts) (sum_by length i.scripts)
-
--- under `check` a good reading is answered by its draft, and a line that is refused or passes a limit by what is said of it
-abbrev pub AnswersReading : Reading → Outcome → Type 0
-AnswersReading (readings.Good v) a = (i : Input) × IsInputOf v i × AnswersDraft (λ b. b ≡ good_input i) i.draft a
-AnswersReading (readings.BadLine line cause) a = a ≡ bad_line line cause
-AnswersReading (readings.Limit line which) a = a ≡ over_limit line which
-
-abbrev pub AnswersBytes : Job → List ℕ → Outcome → Type 0
-AnswersBytes Solve bytes a = AnswersSmall bytes a
-AnswersBytes Check bytes a = AnswersReading (reading bytes) a
+-- a good reading is answered by its draft, and a line that is refused or passes a limit by what is said of it
+abbrev pub AnswersReading : Job → Reading → Outcome → Type 0
+AnswersReading job (readings.Good v) a = (i : Input) × IsInputOf v i × AnswersDraft (IsRight job i.draft i.scripts) i.draft a
+AnswersReading job (readings.BadLine line cause) a = a ≡ bad_line line cause
+AnswersReading job (readings.Limit line which) a = a ≡ over_limit line which
 
 -- refused words are answered so whatever the bytes are
 abbrev pub AnswersJob : Option Job → List ℕ → Outcome → Type 0
 AnswersJob None bytes a = a ≡ bad_words
-AnswersJob (Some job) bytes a = AnswersBytes job bytes a
+AnswersJob (Some job) bytes a = AnswersReading job (reading bytes) a
 
 abbrev pub Answers : List (List ℕ) → List ℕ → Outcome → Type 0
 Answers words bytes a = AnswersJob (job_of words) bytes a
@@ -155,18 +135,12 @@ DraftIsDue d BadComplex = ¬ HasRegularIncidences d.complex
 DraftIsDue d BadSheaf = HasRegularIncidences d.complex × ((s : ℕ) × (u : ℕ) × (¬ Commutes (ops_of d.field) d.complex d.blocks s u))
 DraftIsDue d _ = ⊥
 
--- under `solve`: that of the small draft whose text the bytes are, if there is one
-abbrev pub SmallIsDue : List ℕ → Status → Type 0
-SmallIsDue bytes BadLine = ¬ IsSmallText bytes
-SmallIsDue bytes status = (d : SheafData Field) × IsSmall d × (bytes ≡ text_of d) × DraftIsDue d status
-
--- under `check`: that of the input that the bytes are read as; of a line that is refused or passes a limit the status that says so
+-- that of the input that the bytes are read as; of a line that is refused or passes a limit the status that says so
 abbrev pub ReadingIsDue : Reading → Status → Type 0
 ReadingIsDue (readings.Good v) status = (i : Input) × (v ≡ input_value i) × DraftIsDue i.draft status
 ReadingIsDue (readings.BadLine line cause) status = status ≡ BadLine
 ReadingIsDue (readings.Limit line which) status = status ≡ Limit
 
--- the status that the bytes are due where the words ask for this job
-abbrev pub IsDue : Job → List ℕ → Status → Type 0
-IsDue Solve bytes status = SmallIsDue bytes status
-IsDue Check bytes status = ReadingIsDue (reading bytes) status
+-- the status that the bytes are due, whatever job the words ask for
+abbrev pub IsDue : List ℕ → Status → Type 0
+IsDue bytes status = ReadingIsDue (reading bytes) status

@@ -1,74 +1,109 @@
-ghost use Rattle.std.specs.Prelude.{◌≡◌, IfOk};
-ghost use Rattle.sheaf_run.specs.Answers.{IsSolution, AnswersDraft, good};
+ghost use Rattle.std.specs.Prelude.{◌≡◌, ◌≤◌, IfOk, length, sum_by};
+ghost use Rattle.sheaf_text.specs.Answers.{AreServable};
+ghost use Rattle.sheaf_run.specs.Answers.{AnswersDraft, IsRight, IsSolution, good};
 ghost use Rattle.sheaf_run.specs.Replies.{Replies};
+ghost use Rattle.sheaf_run.specs.declared.job.Job.TheVariants.{Solve, Check};
 
+use crate::job::Job;
 use crate::refusing::refuse_draft;
 use crate::sending::{send, send_line};
+use crate::serving::served;
 use crate::status::Status;
-use crate::transcript::transcript;
+use dense_blocks::Listed;
 use field_table::Field;
 use io_edge::Sink;
-use plain_betti::betti;
-use sheaf_data::Draft;
+use reply_text::transcript;
+use sheaf_data::{Draft, Sheaf};
+use sheaf_text::Input;
+use sheaf_words::Command;
 use std::alloc::{AllocError as NoMemory, Global};
 
-/// The text of the solution of a draft.
-fn solution(alloc: Global, draft: &Draft<Field>) -> Result<Vec<u8>, NoMemory>
-    ensures { IfOk result (λ text. IsSolution draft.now (record { status = Status.Done; text = text.items })) }
+/// The transcript of what happens where the clients with these scripts are served on the sheaf.
+fn solution(
+    alloc: Global,
+    sheaf: Sheaf<Field>,
+    scripts: &[Listed<Command>],
+) -> Result<Vec<u8>, NoMemory>
+    requires { AreServable scripts.now }
+    ensures { IfOk result (λ text. IsSolution sheaf scripts.now (record { status = Status.Done; text = text.items })) }
 {
-    let numbers = betti(alloc, draft)?;
-    transcript(alloc, &numbers)
+    let events = served(alloc, sheaf, scripts)?;
+    transcript(alloc, scripts, &events)
 }
 
-/// Writes the solution of a draft.
-fn solve<K: Sink>(alloc: Global, draft: &Draft<Field>, sink: &mut K) -> Status
-    ensures { Replies (IsSolution draft.now)
+/// Serves the clients with these scripts on the sheaf, and writes the transcript.
+fn solve<K: Sink>(
+    alloc: Global,
+    sheaf: Sheaf<Field>,
+    scripts: &[Listed<Command>],
+    sink: &mut K,
+) -> Status
+    requires { AreServable scripts.now }
+    ensures { Replies (IsRight Solve sheaf scripts.now)
         (K.taken sink.old) (K.taken sink.new) (K.flushed sink.new) (K.fault_count sink.old) (K.fault_count sink.new) result }
 {
-    match solution(alloc, draft) {
+    match solution(alloc, sheaf, scripts) {
         Ok(text) => send(sink, Status::Done, text.as_slice()),
         Err(_) => Status::NoMemory,
     }
 }
 
+/// How many commands the scripts have.
+fn command_count(scripts: &[Listed<Command>]) -> usize
+    requires { sum_by length scripts.now ≤ 4096 }
+    ensures { result ≡ sum_by length scripts.now }
+{
+    let mut count = 0;
+    for script in scripts {
+        count += script.as_slice().len();
+    }
+    count
+}
+
 /// Writes how many cells and faces a draft has, how many clients ask, and how many commands these have. Takes no memory.
-fn check<K: Sink>(draft: &Draft<Field>, clients: usize, commands: usize, sink: &mut K) -> Status
-    ensures { Replies (λ a. a ≡ good draft.now clients commands)
+fn check<K: Sink>(draft: &Draft<Field>, scripts: &[Listed<Command>], sink: &mut K) -> Status
+    requires { AreServable scripts.now }
+    ensures { Replies (IsRight Check draft.now scripts.now)
         (K.taken sink.old) (K.taken sink.new) (K.flushed sink.new) (K.fault_count sink.old) (K.fault_count sink.new) result }
 {
     let cells = draft.complex.dims().len();
     let faces = draft.complex.face_count() as usize;
+    let commands = command_count(scripts);
     send_line(
         sink,
         Status::Done,
         b"good",
-        &[cells, faces, clients, commands],
+        &[cells, faces, scripts.len(), commands],
     )
 }
 
-/// Writes the solution of a sheaf; of a draft that is none, its first fault.
-pub fn solve_draft<K: Sink>(alloc: Global, draft: Draft<Field>, sink: &mut K) -> Status
-    ensures { Replies (AnswersDraft (IsSolution draft) draft)
+/// Does the job with a sheaf and the scripts of its clients.
+fn answer_sheaf<K: Sink>(
+    alloc: Global,
+    job: Job,
+    sheaf: Sheaf<Field>,
+    scripts: &[Listed<Command>],
+    sink: &mut K,
+) -> Status
+    requires { AreServable scripts.now }
+    ensures { Replies (IsRight job sheaf scripts.now)
         (K.taken sink.old) (K.taken sink.new) (K.flushed sink.new) (K.fault_count sink.old) (K.fault_count sink.new) result }
 {
-    match draft.seal() {
-        Ok(sheaf) => solve(alloc, sheaf.draft(), sink),
-        Err(refused) => refuse_draft(sink, refused.1),
+    match job {
+        Job::Solve => solve(alloc, sheaf, scripts, sink),
+        Job::Check => check(sheaf.draft(), scripts, sink),
     }
 }
 
-/// Writes the counts of a sheaf; of a draft that is none, its first fault. Takes no memory.
-pub fn check_draft<K: Sink>(
-    draft: Draft<Field>,
-    clients: usize,
-    commands: usize,
-    sink: &mut K,
-) -> Status
-    ensures { Replies (AnswersDraft (λ a. a ≡ good draft clients commands) draft)
+/// Does the job with an input; where its draft is no sheaf, writes the first fault.
+pub fn answer<K: Sink>(alloc: Global, job: Job, input: Input, sink: &mut K) -> Status
+    requires { AreServable input.scripts }
+    ensures { Replies (AnswersDraft (IsRight job input.draft input.scripts) input.draft)
         (K.taken sink.old) (K.taken sink.new) (K.flushed sink.new) (K.fault_count sink.old) (K.fault_count sink.new) result }
 {
+    let Input { draft, scripts } = input;
     match draft.seal() {
-        Ok(sheaf) => check(sheaf.draft(), clients, commands, sink),
+        Ok(sheaf) => answer_sheaf(alloc, job, sheaf, scripts.as_slice(), sink),
         Err(refused) => refuse_draft(sink, refused.1),
     }
 }

@@ -6,9 +6,9 @@ mod job;
 mod reading;
 mod refusing;
 mod sending;
+mod serving;
 mod status;
 mod top;
-mod transcript;
 
 pub use job::Job;
 pub use status::Status;

@@ -1,6 +1,6 @@
 ghost use Rattle.std.specs.Prelude.{◌≡◌, ◌≢◌, ◌++◌, codes};
 ghost use Rattle.sheaf_run.specs.Words.{cause_word, limit_word};
-ghost use Rattle.sheaf_run.specs.Answers.{bad_words, bad_input, bad_line, over_limit, refusal};
+ghost use Rattle.sheaf_run.specs.Answers.{bad_words, bad_line, over_limit, refusal};
 ghost use Rattle.sheaf_run.specs.Replies.{Replies};
 ghost use Rattle.sheaf_data.specs.declared.fault.SealFault.TheVariants.{Complex};
 
@@ -18,14 +18,6 @@ pub fn refuse_words<K: Sink>(sink: &mut K) -> Status
     ensures memory { result ≢ Status.NoMemory }
 {
     send(sink, Status::BadWords, b"bad words\n")
-}
-
-/// Writes that the input is no small text.
-pub fn refuse_input<K: Sink>(sink: &mut K) -> Status
-    ensures { Replies (λ a. a ≡ bad_input)
-        (K.taken sink.old) (K.taken sink.new) (K.flushed sink.new) (K.fault_count sink.old) (K.fault_count sink.new) result }
-{
-    send(sink, Status::BadLine, b"bad input\n")
 }
 
 /// The end of a line that names the cause.

@@ -1,63 +1,38 @@
-ghost use Rattle.std.specs.Prelude.{◌≡◌, ◌≢◌, ◌↔◌, ◌⊎◌, map, string_bytes, None, IfSome};
+ghost use Rattle.std.specs.Prelude.{◌≡◌, ◌≢◌, ◌↔◌, ◌⊎◌, map, string_bytes, None, Some, IfSome};
 ghost use Rattle.std.specs.Io.KnownBytes.{IsAtEnd};
 ghost use Rattle.io_edge.specs.Faults.{Rose};
 ghost use Rattle.io_edge.specs.Bytes.{IsFlushed};
+ghost use Rattle.sheaf_run.specs.declared.job.Job.TheVariants.{Solve};
 ghost use Rattle.sheaf_run.specs.declared.status.Status.{Status};
-ghost use Rattle.sheaf_run.specs.Answers.{IsAnswer, AnswersSmall, AnswersReading, AnswersBytes, Answers, IsDue, bad_words, job_of};
+ghost use Rattle.sheaf_run.specs.Answers.{IsAnswer, AnswersReading, Answers, IsDue, bad_words, job_of};
 ghost use Rattle.sheaf_text.specs.Reading.{reading};
 ghost use Rattle.sheaf_run.specs.Replies.{Sent};
-ghost use Rattle.sheaf_run.specs.Runs.{Answered, Broken, Ran, Serves};
+ghost use Rattle.sheaf_run.specs.Runs.{Answered, Broken, Ran, IsServed, Serves};
 
 use crate::job::{Job, job_of};
-use crate::reading::{check_bytes, solve_bytes};
-use crate::refusing::{refuse_input, refuse_limit, refuse_words};
+use crate::reading::answer_bytes;
+use crate::refusing::{refuse_limit, refuse_words};
 use crate::status::Status;
 use io_edge::{ReadAll, Sink, Source, read_all};
-use sheaf_text::Which;
+use sheaf_text::{MOST_BYTES, Which};
 use std::alloc::Global;
 
-/// Reads the whole input and solves it.
-fn solve_source<S: Source, K: Sink>(alloc: Global, source: &mut S, sink: &mut K) -> Status
-    ensures ran { Ran AnswersSmall (S.left source.old) (S.left source.new) (K.taken sink.old) (K.taken sink.new) (K.flushed sink.new)
-        (S.fault_count source.old) (S.fault_count source.new) (K.fault_count sink.old) (K.fault_count sink.new) result }
-    ensures accepted { result ≢ Status.BadWords }
-{
-    match read_all(alloc, source, small_text::MOST_BYTES) {
-        Ok(bytes) => solve_bytes(alloc, &bytes, sink),
-        Err(ReadAll::TooLong) => refuse_input(sink),
-        Err(ReadAll::ReadFault) => Status::ReadFault,
-        Err(ReadAll::NoMemory) => Status::NoMemory,
-    }
-}
-
-/// Reads the whole input and checks it.
-fn check_source<S: Source, K: Sink>(alloc: Global, source: &mut S, sink: &mut K) -> Status
-    ensures ran { Ran (λ bytes. AnswersReading (reading bytes)) (S.left source.old) (S.left source.new) (K.taken sink.old) (K.taken sink.new) (K.flushed sink.new)
-        (S.fault_count source.old) (S.fault_count source.new) (K.fault_count sink.old) (K.fault_count sink.new) result }
-    ensures accepted { result ≢ Status.BadWords }
-{
-    match read_all(alloc, source, sheaf_text::MOST_BYTES) {
-        Ok(bytes) => check_bytes(alloc, &bytes, sink),
-        Err(ReadAll::TooLong) => refuse_limit(sink, 0, Which::Bytes),
-        Err(ReadAll::ReadFault) => Status::ReadFault,
-        Err(ReadAll::NoMemory) => Status::NoMemory,
-    }
-}
-
-/// Reads the whole input and answers it.
+/// Reads the whole input and does the job with it.
 fn answer_source<S: Source, K: Sink>(
     alloc: Global,
     job: Job,
     source: &mut S,
     sink: &mut K,
 ) -> Status
-    ensures ran { Ran (AnswersBytes job) (S.left source.old) (S.left source.new) (K.taken sink.old) (K.taken sink.new) (K.flushed sink.new)
+    ensures ran { Ran (λ bytes. AnswersReading job (reading bytes)) (S.left source.old) (S.left source.new) (K.taken sink.old) (K.taken sink.new) (K.flushed sink.new)
         (S.fault_count source.old) (S.fault_count source.new) (K.fault_count sink.old) (K.fault_count sink.new) result }
     ensures accepted { result ≢ Status.BadWords }
 {
-    match job {
-        Job::Solve => solve_source(alloc, source, sink),
-        Job::Check => check_source(alloc, source, sink),
+    match read_all(alloc, source, MOST_BYTES) {
+        Ok(bytes) => answer_bytes(alloc, job, &bytes, sink),
+        Err(ReadAll::TooLong) => refuse_limit(sink, 0, Which::Bytes),
+        Err(ReadAll::ReadFault) => Status::ReadFault,
+        Err(ReadAll::NoMemory) => Status::NoMemory,
     }
 }
 
@@ -72,11 +47,13 @@ fn served<S: Source, K: Sink>(
         Answered (Answers (map string_bytes words.now)) (S.left source.old) (K.taken sink.old) (K.taken sink.new) (K.flushed sink.new) result }
     ensures flushed { IsAnswer result → IsFlushed (K.taken sink.new) (K.flushed sink.new) }
     ensures whole { result ≡ Status.Done → IsAtEnd (S.left source.new) }
+    ensures served { job_of (map string_bytes words.now) ≡ Some Solve → result ≡ Status.Done →
+        IfSome (S.left source.old) (λ bytes. IsServed bytes (K.taken sink.old) (K.taken sink.new)) }
     ensures refused { IsAnswer result → ((result ≡ Status.BadWords) ↔ (job_of (map string_bytes words.now) ≡ None)) }
     ensures refusal { result ≡ Status.BadWords → Sent bad_words (K.taken sink.old) (K.taken sink.new) (K.flushed sink.new) result }
     ensures unread { job_of (map string_bytes words.now) ≡ None → source.new ≡ source.old }
     ensures exact { IsAnswer result → IfSome (job_of (map string_bytes words.now)) (λ job. IfSome (S.left source.old) (λ bytes.
-        (status : Status) → (result ≡ status) ↔ IsDue job bytes status)) }
+        (status : Status) → (result ≡ status) ↔ IsDue bytes status)) }
     ensures read { result ≡ Status.ReadFault → Rose (S.fault_count source.old) (S.fault_count source.new) }
     ensures unwritten { result ≡ Status.ReadFault → K.taken sink.new ≡ K.taken sink.old }
     ensures write { result ≡ Status.WriteFault → Rose (K.fault_count sink.old) (K.fault_count sink.new) }
@@ -85,7 +62,7 @@ fn served<S: Source, K: Sink>(
     ensures memory { result ≡ Status.NoMemory → K.taken sink.new ≡ K.taken sink.old }
     ensures complete_words { job_of (map string_bytes words.now) ≡ None →
         ¬ (Rose (K.fault_count sink.old) (K.fault_count sink.new)) → result ≡ Status.BadWords }
-    ensures complete { IfSome (job_of (map string_bytes words.now)) (λ job. IfSome (S.left source.old) (λ bytes. (status : Status) → IsDue job bytes status →
+    ensures complete { IfSome (job_of (map string_bytes words.now)) (λ job. IfSome (S.left source.old) (λ bytes. (status : Status) → IsDue bytes status →
         ¬ (Rose (S.fault_count source.old) (S.fault_count source.new)) → ¬ (Rose (K.fault_count sink.old) (K.fault_count sink.new)) →
         (result ≡ status) ⊎ (result ≡ Status.NoMemory))) }
 {

@@ -1,0 +1,177 @@
+-- What a transcript counts is what the machine keeps, event by event.
+use Rattle.std.proofs.Common.{◌≡◌, ℕ, zero, suc, ◌+◌, ◌<◌, Bool, true, false, ◌==◌, if◌then◌else◌, List, [], ◌∷◌, ◌++◌, length, take, slice_get, Option, Some, None, refl, sym, ap, ap₂, subst, ◌∙◌, arith, append_assoc, append-nil, length-append}
+use Rattle.std.proofs.lemmas.Option.{slice_get_within, same_Some, none-some}
+use Rattle.std.proofs.lemmas.Bool.{eqb-true}
+use Rattle.std.specs.Prelude.{option_and_then}
+use Rattle.dense_blocks.specs.Field.{Ops}
+use Rattle.sheaf_data.specs.Sheaves.{SheafData}
+use Rattle.sheaf_words.specs.declared.asking.Query.{Query}
+use Rattle.sheaf_words.specs.declared.asking.Query.TheVariants as queries
+use Rattle.sheaf_words.specs.declared.asking.Command.{Command}
+use Rattle.sheaf_words.specs.declared.asking.Command.TheVariants as commands
+use Rattle.sheaf_words.specs.declared.editing.Set.{Set}
+use Rattle.sheaf_words.specs.declared.editing.Verdict.{Verdict}
+use Rattle.sheaf_words.specs.declared.editing.Verdict.TheVariants.{Accepted, Refused}
+use Rattle.sheaf_words.specs.declared.replying.Reply.{Reply as Answer}
+use Rattle.sheaf_words.specs.declared.replying.Reply.TheVariants as replies
+use Rattle.sheaf_words.specs.declared.happening.Event.{Event}
+use Rattle.sheaf_words.specs.declared.happening.Event.TheVariants.{Edit, Ask, Pair, Reply}
+use Rattle.reply_text.specs.Replies.{IsAnswerTo}
+use Rattle.reply_text.specs.Transcripts.{ends_for, asks_for, is_accepted, ended, standing, asked, IfPresent, IsAnswered, IsOf, AreOf}
+use Rattle.reply_text.proofs.Counting.{count-more, asked-more}
+use Rattle.core_machine.specs.Replies.{IsRight}
+use Rattle.core_machine.specs.Machine.{Lane, State, free, waiting, first_state, command_at, with_lane, AreVersionsAfter, EditStep, AskStep, ReplyStep, Step, Leads, Reaches}
+use Rattle.core_machine.specs.Counting.{IsCounted}
+
+-- ---- the lanes after one step
+
+-- the positions where the lane of client c was put at one more
+position-next : (lanes : ℕ → Lane) (c d p : ℕ) → (lanes c).position ≡ p
+    → (with_lane lanes c (free (p + 1)) d).position ≡ (lanes d).position + (if c == d then 1 else 0)
+position-next lanes c d p is = go (c == d) refl
+  where
+    go : (b : Bool) → (c == d) ≡ b → (if b then free (p + 1) else lanes d).position ≡ (lanes d).position + (if b then 1 else 0)
+    go true e = ap (λ n. n + 1) (sym (subst (λ k. (lanes k).position ≡ p) (eqb-true c d e) is))
+    go false e = omega arith
+
+-- the positions where the lane of client c was put to wait
+position-same : (lanes : ℕ → Lane) (c d p v : ℕ) → (lanes c).position ≡ p → (with_lane lanes c (waiting p v) d).position ≡ (lanes d).position + 0
+position-same lanes c d p v is = go (c == d) refl
+  where
+    go : (b : Bool) → (c == d) ≡ b → (if b then waiting p v else lanes d).position ≡ (lanes d).position + 0
+    go true e = sym (subst (λ k. (lanes k).position ≡ p) (eqb-true c d e) is) ∙ omega arith
+    go false e = omega arith
+
+-- what is pending where the lane of client c was freed
+pending-free : (lanes : ℕ → Lane) (c d p v : ℕ) → (with_lane lanes c (free p) d).pending ≡ Some v → (lanes d).pending ≡ Some v
+pending-free lanes c d p v is = go (c == d) is
+  where
+    go : (b : Bool) → (if b then free p else lanes d).pending ≡ Some v → (lanes d).pending ≡ Some v
+    go true e = absurd (none-some v e)
+    go false e = e
+
+-- what is pending where the lane of client c was put to wait
+pending-asked : (lanes : ℕ → Lane) (c d p n v w : ℕ) → ((lanes d).pending ≡ Some v → v ≡ w)
+    → (with_lane lanes c (waiting p n) d).pending ≡ Some v → v ≡ (if c == d then n else w)
+pending-asked lanes c d p n v w before is = go (c == d) is
+  where
+    go : (b : Bool) → (if b then waiting p n else lanes d).pending ≡ Some v → v ≡ (if b then n else w)
+    go true e = sym (same_Some n v e)
+    go false e = before e
+
+-- ---- the counts after one step
+
+counted-edit : {F : Type 0} (K : Ops) (scripts : List (List Command)) (events : List Event) (c : ℕ) (verdict : Verdict) (s t : State F)
+    → EditStep K scripts c verdict s t → IsCounted events s → IsCounted (events ++ Edit c verdict ∷ []) t
+counted-edit {F} K scripts events c verdict s t step h = record {
+  current = versions verdict step.versions ∙ ap (λ n. n + 1) (sym (count-more is_accepted events (Edit c verdict)));
+  positions = λ d. ap (λ lanes. (lanes d).position) step.lanes ∙ position-next s.lanes c d step.position (ap (λ l. l.position) step.is_free)
+      ∙ ap (λ n. n + (if c == d then 1 else 0)) (h.positions d) ∙ sym (count-more (ends_for d) events (Edit c verdict));
+  pendings = λ d v is. h.pendings d v (pending-free s.lanes c d (step.position + 1) v (sym (ap (λ lanes. (lanes d).pending) step.lanes) ∙ is))
+      ∙ sym (asked-more d events (Edit c verdict));
+}
+  where
+    versions : (w : Verdict) → AreVersionsAfter K step.sheaf step.edit.sets w s.sheaves t.sheaves
+        → length t.sheaves ≡ (standing events + (if is_accepted (Edit c w) then 1 else 0)) + 1
+    versions Accepted made = ap length made.2 ∙ length-append s.sheaves (made.0 ∷ []) ∙ ap (λ n. n + 1) h.current
+    versions (Refused cause) same = ap length same ∙ h.current ∙ omega arith
+
+counted-ask : {F : Type 0} (scripts : List (List Command)) (events : List Event) (c : ℕ) (s t : State F)
+    → AskStep scripts c s t → IsCounted events s → IsCounted (events ++ Ask c ∷ []) t
+counted-ask scripts events c s t step h = record {
+  current = ap length step.versions ∙ h.current ∙ ap (λ n. n + 1) (omega arith ∙ sym (count-more is_accepted events (Ask c)));
+  positions = λ d. ap (λ lanes. (lanes d).position) step.lanes ∙ position-same s.lanes c d step.position step.version (ap (λ l. l.position) step.is_free)
+      ∙ ap (λ n. n + 0) (h.positions d) ∙ sym (count-more (ends_for d) events (Ask c));
+  pendings = λ d v is. pending-asked s.lanes c d step.position step.version v (asked d events) (h.pendings d v)
+      (sym (ap (λ lanes. (lanes d).pending) step.lanes) ∙ is)
+      ∙ ap (λ n. if c == d then n else asked d events) version ∙ sym (asked-more d events (Ask c));
+}
+  where
+    version : step.version ≡ standing events
+    version = omega (arith, step.current, h.current)
+
+counted-reply : {F : Type 0} (K : Ops) (scripts : List (List Command)) (events : List Event) (c : ℕ) (r : Answer) (s t : State F)
+    → ReplyStep K scripts c r s t → IsCounted events s → IsCounted (events ++ Reply c r ∷ []) t
+counted-reply K scripts events c r s t step h = record {
+  current = ap length step.versions ∙ h.current ∙ ap (λ n. n + 1) (omega arith ∙ sym (count-more is_accepted events (Reply c r)));
+  positions = λ d. ap (λ lanes. (lanes d).position) step.lanes ∙ position-next s.lanes c d step.position (ap (λ l. l.position) step.is_waiting)
+      ∙ ap (λ n. n + (if c == d then 1 else 0)) (h.positions d) ∙ sym (count-more (ends_for d) events (Reply c r));
+  pendings = λ d v is. h.pendings d v (pending-free s.lanes c d (step.position + 1) v (sym (ap (λ lanes. (lanes d).pending) step.lanes) ∙ is))
+      ∙ sym (asked-more d events (Reply c r));
+}
+
+counted-step : {F : Type 0} (K : Ops) (scripts : List (List Command)) (events : List Event) (event : Event) (s t : State F)
+    → Step K scripts event s t → IsCounted events s → IsCounted (events ++ event ∷ []) t
+counted-step K scripts events (Edit c verdict) s t step h = counted-edit K scripts events c verdict s t step h
+counted-step K scripts events (Ask c) s t step h = counted-ask scripts events c s t step h
+counted-step K scripts events (Pair v x y) s t step h = absurd step
+counted-step K scripts events (Reply c r) s t step h = counted-reply K scripts events c r s t step h
+
+-- ---- all steps
+
+counted-from : {F : Type 0} (K : Ops) (scripts : List (List Command)) (earlier events : List Event) (s t : State F)
+    → Leads K scripts events s t → IsCounted earlier s → IsCounted (earlier ++ events) t
+counted-from K scripts earlier [] s t leads h =
+    subst (λ es. IsCounted es t) (sym (append-nil earlier)) (subst (IsCounted earlier) leads h)
+counted-from K scripts earlier (event ∷ events) s t leads h =
+    subst (λ es. IsCounted es t) (append_assoc earlier (event ∷ []) events)
+    (counted-from K scripts (earlier ++ event ∷ []) events leads.0 t leads.2 (counted-step K scripts earlier event s leads.0 leads.1 h))
+
+counted-first : {F : Type 0} (sheaf : SheafData F) → IsCounted [] (first_state sheaf)
+counted-first sheaf = record { current = refl; positions = λ c. refl; pendings = λ c v e. absurd (none-some v e) }
+
+pub transcripts_count : {F : Type 0} (K : Ops) (scripts : List (List Command)) (sheaf : SheafData F) (events : List Event) (s : State F)
+    → Reaches K scripts sheaf events s → IsCounted events s
+transcripts_count K scripts sheaf events s reaches = counted-from K scripts [] events (first_state sheaf) s reaches (counted-first sheaf)
+
+-- ---- legal events answer the commands
+
+present : {X : Type 0} {P : X → Type 0} (o : Option X) (x : X) → o ≡ Some x → P x → IfPresent o P
+present {X} {P} o x e p = subst (λ q. IfPresent q P) (sym e) p
+
+answered : (scripts : List (List Command)) (events : List Event) (c p : ℕ) (command : Command) (event : Event)
+    → p ≡ ended c events → command_at scripts c p ≡ Some command → IsAnswerTo command event → IsAnswered scripts events c event
+answered scripts events c p command event at there is =
+    present (command_at scripts c (ended c events)) command (ap (command_at scripts c) (sym at) ∙ there) is
+
+inside : (scripts : List (List Command)) (c p : ℕ) (command : Command) → command_at scripts c p ≡ Some command → c < length scripts
+inside scripts c p command there = go (slice_get scripts c) refl there
+  where
+    go : (o : Option (List Command)) → slice_get scripts c ≡ o → option_and_then (λ script. slice_get script p) o ≡ Some command → c < length scripts
+    go None e h = absurd (none-some command h)
+    go (Some script) e h = slice_get_within scripts c script e
+
+right-answers : {F : Type 0} (K : Ops) (sheaf : SheafData F) (c : ℕ) (q : Query) (r : Answer) → IsRight K sheaf q r → IsAnswerTo (commands.Ask q) (Reply c r)
+right-answers K sheaf c queries.Betti (replies.Betti numbers) right = tt
+right-answers K sheaf c q r right = absurd right
+
+of-step : {F : Type 0} (K : Ops) (scripts : List (List Command)) (events : List Event) (event : Event) (s t : State F)
+    → Step K scripts event s t → IsCounted events s → IsOf scripts events event
+of-step K scripts events (Edit c verdict) s t step h =
+    answered scripts events c step.position (commands.Change step.edit) (Edit c verdict) (sym (ap (λ l. l.position) step.is_free) ∙ h.positions c) step.command tt
+of-step K scripts events (Ask c) s t step h = inside scripts c step.position (commands.Ask step.query) step.command
+of-step K scripts events (Pair v x y) s t step h = tt
+of-step K scripts events (Reply c r) s t step h =
+    answered scripts events c step.position (commands.Ask step.query) (Reply c r) (sym (ap (λ l. l.position) step.is_waiting) ∙ h.positions c) step.command
+    (right-answers K step.sheaf c step.query r step.right)
+
+of-from : {F : Type 0} (K : Ops) (scripts : List (List Command)) (earlier events : List Event) (s t : State F)
+    → Leads K scripts events s t → IsCounted earlier s
+    → (i : ℕ) (event : Event) → slice_get events i ≡ Some event → IsOf scripts (earlier ++ take i events) event
+of-from K scripts earlier [] s t leads h i event at = absurd (none-some event at)
+of-from K scripts earlier (first ∷ events) s t leads h zero event at =
+    subst (λ es. IsOf scripts es event) (sym (append-nil earlier)) (subst (IsOf scripts earlier) (same_Some first event at) (of-step K scripts earlier first s leads.0 leads.1 h))
+of-from K scripts earlier (first ∷ events) s t leads h (suc i) event at =
+    subst (λ es. IsOf scripts es event) (append_assoc earlier (first ∷ []) (take i events))
+    (of-from K scripts (earlier ++ first ∷ []) events leads.0 t leads.2 (counted-step K scripts earlier first s leads.0 leads.1 h) i event at)
+
+pub events_are_answers : {F : Type 0} (K : Ops) (scripts : List (List Command)) (sheaf : SheafData F) (events : List Event) (s : State F)
+    → Reaches K scripts sheaf events s → AreOf scripts events
+events_are_answers K scripts sheaf events s reaches i event at = of-from K scripts [] events (first_state sheaf) s reaches (counted-first sheaf) i event at
+
+-- ---- one event more
+
+pub leads-more : {F : Type 0} (K : Ops) (scripts : List (List Command)) (events : List Event) (event : Event) (s m t : State F)
+    → Leads K scripts events s m → Step K scripts event m t → Leads K scripts (events ++ event ∷ []) s t
+leads-more K scripts [] event s m t leads step = (t, subst (λ x. Step K scripts event x t) (sym leads) step, refl)
+leads-more K scripts (first ∷ events) event s m t leads step = (leads.0, leads.1, leads-more K scripts events event leads.0 m t leads.2 step)

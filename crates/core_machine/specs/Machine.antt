@@ -1,0 +1,127 @@
+-- The machine of versions, lanes and events.
+use Rattle.std.specs.Prelude.{◌≡◌, ℕ, ◌+◌, ◌==◌, List, [], ◌∷◌, ◌++◌, Option, Some, None, length, slice_get, option_and_then, if◌then◌else◌}
+use Rattle.dense_blocks.specs.Field.{Ops}
+use Rattle.sheaf_data.specs.Sheaves.{SheafData}
+use Rattle.sheaf_words.specs.declared.asking.Query.{Query}
+use Rattle.sheaf_words.specs.declared.asking.Command.{Command}
+use Rattle.sheaf_words.specs.declared.asking.Command.TheVariants as commands
+use Rattle.sheaf_words.specs.declared.editing.Edit.{Edit as Change}
+use Rattle.sheaf_words.specs.declared.editing.Set.{Set}
+use Rattle.sheaf_words.specs.declared.editing.Verdict.{Verdict}
+use Rattle.sheaf_words.specs.declared.editing.Verdict.TheVariants.{Accepted, Refused}
+use Rattle.sheaf_words.specs.declared.replying.Reply.{Reply as Answer}
+use Rattle.sheaf_words.specs.declared.happening.Event.{Event}
+use Rattle.sheaf_words.specs.declared.happening.Event.TheVariants.{Edit, Ask, Pair, Reply}
+use Rattle.edit_versions.specs.Verdicts.{IsVerdict, IsEdited}
+use Rattle.core_machine.specs.Replies.{IsRight}
+
+-- ---- states
+
+-- how many commands of a client are done, and the version that its open question was put on, if one is open
+pub record Lane : Type 0 where
+  pub position : ℕ
+  pub pending : Option ℕ
+
+-- nothing is pending
+abbrev pub free : ℕ → Lane
+free position = record { position = position; pending = None }
+
+-- a question on version v is open
+abbrev pub waiting : ℕ → ℕ → Lane
+waiting position v = record { position = position; pending = Some v }
+
+-- the sheaf of each version, from version 0 on, and the lane of each client
+pub record State (F : Type 0) : Type 0 where
+  pub sheaves : List (SheafData F)
+  pub lanes : ℕ → Lane
+
+-- one version, nothing done, nothing pending
+abbrev pub first_state : {F : Type 0} → SheafData F → State F
+first_state sheaf = record { sheaves = sheaf ∷ []; lanes = λ c. free 0 }
+
+-- the current version is v, the last; so many edits were accepted
+abbrev pub IsCurrentVersion : {F : Type 0} → State F → ℕ → Type 0
+IsCurrentVersion s v = length s.sheaves ≡ v + 1
+
+-- the current version has this sheaf
+abbrev pub IsCurrentSheaf : {F : Type 0} → State F → SheafData F → Type 0
+IsCurrentSheaf s sheaf = (v : ℕ) × IsCurrentVersion s v × (slice_get s.sheaves v ≡ Some sheaf)
+
+-- the command at this place of the script of client c
+abbrev pub command_at : List (List Command) → ℕ → ℕ → Option Command
+command_at scripts c position = option_and_then (λ script. slice_get script position) (slice_get scripts c)
+
+-- the lanes, with this one for client c
+abbrev pub with_lane : (ℕ → Lane) → ℕ → Lane → ℕ → Lane
+with_lane lanes c lane d = if c == d then lane else lanes d
+
+-- ---- events: each has a guard, and an effect; what is not named stays
+
+-- the versions after a verdict on an edit: the edited sheaf is one more, or all stays
+abbrev pub AreVersionsAfter : {F : Type 0} → Ops → SheafData F → List Set → Verdict → List (SheafData F) → List (SheafData F) → Type 0
+AreVersionsAfter {F} K sheaf sets Accepted old new = (edited : SheafData F) × IsEdited K sheaf sets edited × (new ≡ old ++ edited ∷ [])
+AreVersionsAfter K sheaf sets (Refused cause) old new = new ≡ old
+
+-- client c has nothing pending and comes to an edit; the verdict is that on it and the current sheaf
+pub record EditStep {F : Type 0} (K : Ops) (scripts : List (List Command)) (c : ℕ) (verdict : Verdict) (s t : State F) : Type 0 where
+  pub position : ℕ
+  pub edit : Change
+  pub sheaf : SheafData F
+  pub is_free : s.lanes c ≡ free position
+  pub command : command_at scripts c position ≡ Some (commands.Change edit)
+  pub current : IsCurrentSheaf s sheaf
+  pub judged : IsVerdict K sheaf edit.sets verdict
+  pub versions : AreVersionsAfter K sheaf edit.sets verdict s.sheaves t.sheaves
+  pub lanes : t.lanes ≡ with_lane s.lanes c (free (position + 1))
+
+-- client c has nothing pending and comes to a question: it is put on the current version
+pub record AskStep {F : Type 0} (scripts : List (List Command)) (c : ℕ) (s t : State F) : Type 0 where
+  pub position : ℕ
+  pub query : Query
+  pub version : ℕ
+  pub is_free : s.lanes c ≡ free position
+  pub command : command_at scripts c position ≡ Some (commands.Ask query)
+  pub current : IsCurrentVersion s version
+  pub versions : t.sheaves ≡ s.sheaves
+  pub lanes : t.lanes ≡ with_lane s.lanes c (waiting position version)
+
+-- client c waits for the answer to a question on a version, and the reply is right for the question and the sheaf of that version
+pub record ReplyStep {F : Type 0} (K : Ops) (scripts : List (List Command)) (c : ℕ) (reply : Answer) (s t : State F) : Type 0 where
+  pub position : ℕ
+  pub query : Query
+  pub version : ℕ
+  pub sheaf : SheafData F
+  pub is_waiting : s.lanes c ≡ waiting position version
+  pub command : command_at scripts c position ≡ Some (commands.Ask query)
+  pub asked : slice_get s.sheaves version ≡ Some sheaf
+  pub right : IsRight K sheaf query reply
+  pub versions : t.sheaves ≡ s.sheaves
+  pub lanes : t.lanes ≡ with_lane s.lanes c (free (position + 1))
+
+-- the event leads from state s to state t; for now no pair of cells is removed
+abbrev pub Step : {F : Type 0} → Ops → List (List Command) → Event → State F → State F → Type 0
+Step K scripts (Edit c verdict) s t = EditStep K scripts c verdict s t
+Step K scripts (Ask c) s t = AskStep scripts c s t
+Step K scripts (Pair v x y) s t = ⊥
+Step K scripts (Reply c reply) s t = ReplyStep K scripts c reply s t
+
+-- ---- runs
+
+-- the events lead, one after the other, from state s to state t
+abbrev pub Leads : {F : Type 0} → Ops → List (List Command) → List Event → State F → State F → Type 0
+Leads K scripts [] s t = s ≡ t
+Leads {F} K scripts (event ∷ events) s t = (m : State F) × Step K scripts event s m × Leads K scripts events m t
+
+-- legal: the events lead from the first state to this one
+abbrev pub Reaches : {F : Type 0} → Ops → List (List Command) → SheafData F → List Event → State F → Type 0
+Reaches K scripts sheaf events t = Leads K scripts events (first_state sheaf) t
+
+-- whole: each client's script is done, and nothing is pending
+abbrev pub IsDone : {F : Type 0} → List (List Command) → State F → Type 0
+IsDone scripts s = (c : ℕ) (script : List Command) → slice_get scripts c ≡ Some script → s.lanes c ≡ free (length script)
+
+-- the events are one legal order of all commands of these scripts on this sheaf, whole
+pub record IsLegalAndWhole {F : Type 0} (K : Ops) (scripts : List (List Command)) (sheaf : SheafData F) (events : List Event) : Type 0 where
+  pub last : State F
+  pub legal : Reaches K scripts sheaf events last
+  pub whole : IsDone scripts last

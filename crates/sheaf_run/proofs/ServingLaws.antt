@@ -1,0 +1,194 @@
+-- Clients that are served one after the other make a legal order.
+use Rattle.std.proofs.Common.{◌≡◌, ℕ, zero, suc, ◌+◌, ◌<◌, ◌≤◌, Bool, true, false, ◌==◌, if◌then◌else◌, nat_lt, List, [], ◌∷◌, ◌++◌, length, slice_get, slice_index_or, Option, Some, None, ⊎_elim, refl, sym, ap, ap₂, subst, ◌∙◌, arith, length-append}
+use Rattle.std.proofs.lemmas.Option.{slice_get_within, get_or_from_slice_get}
+use Rattle.std.proofs.lemmas.Bool.{eqb-true, eqb-false, eq-eqb, ne_eqb, ltb-true, ltb-false, lt-ltb, le-ltb}
+use Rattle.dense_blocks.specs.Field.{Ops}
+use Rattle.field_table.specs.declared.field.Field.{Field}
+use Rattle.field_table.specs.Table.{ops_of}
+use Rattle.sheaf_data.specs.Sheaves.{SheafData}
+use Rattle.sheaf_words.specs.declared.asking.Query.{Query}
+use Rattle.sheaf_words.specs.declared.asking.Command.{Command}
+use Rattle.sheaf_words.specs.declared.asking.Command.TheVariants as commands
+use Rattle.sheaf_words.specs.declared.editing.Edit.{Edit as Change}
+use Rattle.sheaf_words.specs.declared.editing.Verdict.{Verdict}
+use Rattle.sheaf_words.specs.declared.editing.Verdict.TheVariants.{Accepted, Refused}
+use Rattle.sheaf_words.specs.declared.replying.Reply.{Reply as Answer}
+use Rattle.sheaf_words.specs.declared.happening.Event.{Event}
+use Rattle.sheaf_words.specs.declared.happening.Event.TheVariants.{Edit, Ask, Reply}
+use Rattle.edit_versions.specs.Verdicts.{IsVerdict, IsEdited}
+use Rattle.core_machine.specs.Replies.{IsRight}
+use Rattle.core_machine.specs.Machine.{Lane, State, free, waiting, first_state, command_at, with_lane, IsCurrentSheaf, AreVersionsAfter, EditStep, AskStep, ReplyStep, Reaches, IsDone, IsLegalAndWhole}
+use Rattle.core_machine.proofs.CountLaws.{leads-more}
+use Rattle.sheaf_run.specs.Serving.{Progress, IsSheafAfter, IsJudged, done, Stands}
+
+slice_get-last : {X : Type 0} (xs : List X) (x : X) → slice_get (xs ++ x ∷ []) (length xs) ≡ Some x
+slice_get-last [] x = refl
+slice_get-last (y ∷ xs) x = slice_get-last xs x
+
+-- ---- what is done
+
+if-same : {X : Type 0} (b : Bool) (x : X) → (if b then x else x) ≡ x
+if-same true x = refl
+if-same false x = refl
+
+done-here : (scripts : List (List Command)) (c i : ℕ) → done scripts c i c ≡ i
+done-here scripts c i =
+    ap (λ b. if b then length (slice_index_or scripts c []) else if c == c then i else 0) (le-ltb c c (omega arith))
+    ∙ ap (λ b. if b then i else 0) (eq-eqb c c refl)
+
+-- client c has done one command more
+done-more : (scripts : List (List Command)) (lanes : ℕ → Lane) (c i n d : ℕ) → lanes d ≡ free (done scripts c i d)
+    → with_lane lanes c (free n) d ≡ free (done scripts c n d)
+done-more scripts lanes c i n d is = go (c == d) refl
+  where
+    go : (b : Bool) → (c == d) ≡ b → (if b then free n else lanes d) ≡ free (done scripts c n d)
+    go true e = ap free (sym (subst (λ k. done scripts c n k ≡ n) (eqb-true c d e) (done-here scripts c n)))
+    go false e = is ∙ ap (λ b. free (if nat_lt d c then length (slice_index_or scripts d []) else if b then i else 0)) e
+        ∙ sym (ap (λ b. free (if nat_lt d c then length (slice_index_or scripts d []) else if b then n else 0)) e)
+
+-- client c is done, and the next one has done nothing yet
+done-next : (scripts : List (List Command)) (c d : ℕ) (script : List Command) → slice_get scripts c ≡ Some script
+    → done scripts c (length script) d ≡ done scripts (c + 1) 0 d
+done-next scripts c d script there = go (nat_lt d c) (c == d) refl refl
+  where
+    go : (low same : Bool) → nat_lt d c ≡ low → (c == d) ≡ same → done scripts c (length script) d ≡ done scripts (c + 1) 0 d
+    go true same l e =
+        ap (λ b. if b then length (slice_index_or scripts d []) else if c == d then length script else 0) l
+        ∙ sym (ap (λ b. if b then length (slice_index_or scripts d []) else if (c + 1) == d then 0 else 0) (lt-ltb d (c + 1) (omega (arith, ltb-true d c l))))
+    go false true l e =
+        ap₂ (λ a b. if a then length (slice_index_or scripts d []) else if b then length script else 0) l e
+        ∙ sym (ap length (get_or_from_slice_get scripts d script [] (ap (slice_get scripts) (sym (eqb-true c d e)) ∙ there)))
+        ∙ sym (ap (λ b. if b then length (slice_index_or scripts d []) else if (c + 1) == d then 0 else 0) (lt-ltb d (c + 1) (omega (arith, eqb-true c d e))))
+    go false false l e =
+        ap₂ (λ a b. if a then length (slice_index_or scripts d []) else if b then length script else 0) l e
+        ∙ sym (if-same ((c + 1) == d) 0)
+        ∙ sym (ap (λ b. if b then length (slice_index_or scripts d []) else if (c + 1) == d then 0 else 0) (le-ltb d (c + 1) (omega (arith, ltb-false d c l, eqb-false c d e))))
+
+-- ---- steps
+
+current-last : (sheaves : List (SheafData Field)) (lanes : ℕ → Lane) (new : SheafData Field)
+    → IsCurrentSheaf (record { sheaves = sheaves ++ new ∷ []; lanes = lanes }) new
+current-last sheaves lanes new = (length sheaves, length-append sheaves (new ∷ []), slice_get-last sheaves new)
+
+-- the client's edit is judged
+pub judge-step : (scripts : List (List Command)) (start : SheafData Field) (c i : ℕ) (p : Progress) (e : Change) (v : Verdict) (new : SheafData Field)
+    → command_at scripts c i ≡ Some (commands.Change e) → IsJudged p.sheaf e.sets v new → Stands scripts start c i p
+    → Stands scripts start c (i + 1) (record { sheaf = new; events = p.events ++ Edit c v ∷ [] })
+judge-step scripts start c i p e v new comes judged h = go v judged.after judged.judged
+  where
+    lanes : ℕ → Lane
+    lanes = with_lane h.state.lanes c (free (i + 1))
+
+    go : (w : Verdict) → IsSheafAfter p.sheaf e.sets w new → IsVerdict (ops_of p.sheaf.field) p.sheaf e.sets w
+        → Stands scripts start c (i + 1) (record { sheaf = new; events = p.events ++ Edit c w ∷ [] })
+    go Accepted edited is =
+        let K : Ops = ops_of start.field in
+        let right : IsEdited K p.sheaf e.sets new = subst (λ f. IsEdited (ops_of f) p.sheaf e.sets new) h.field edited in
+        let after : State Field = record { sheaves = h.state.sheaves ++ new ∷ []; lanes = lanes } in
+        let step : EditStep K scripts c Accepted h.state after = record {
+          position = i; edit = e; sheaf = p.sheaf;
+          is_free = h.lanes c ∙ ap free (done-here scripts c i);
+          command = comes;
+          current = h.current;
+          judged = subst (λ f. IsVerdict (ops_of f) p.sheaf e.sets Accepted) h.field is;
+          versions = (new, right, refl);
+          lanes = refl;
+        } in record {
+          state = after;
+          legal = leads-more K scripts p.events (Edit c Accepted) (first_state start) h.state after h.legal step;
+          current = current-last h.state.sheaves lanes new;
+          field = edited.field ∙ h.field;
+          lanes = λ d. done-more scripts h.state.lanes c i (i + 1) d (h.lanes d);
+        }
+    go (Refused cause) same is =
+        let K : Ops = ops_of start.field in
+        let after : State Field = record { sheaves = h.state.sheaves; lanes = lanes } in
+        let step : EditStep K scripts c (Refused cause) h.state after = record {
+          position = i; edit = e; sheaf = p.sheaf;
+          is_free = h.lanes c ∙ ap free (done-here scripts c i);
+          command = comes;
+          current = h.current;
+          judged = subst (λ f. IsVerdict (ops_of f) p.sheaf e.sets (Refused cause)) h.field is;
+          versions = refl;
+          lanes = refl;
+        } in record {
+          state = after;
+          legal = leads-more K scripts p.events (Edit c (Refused cause)) (first_state start) h.state after h.legal step;
+          current = (h.current.0, h.current.1, h.current.2 ∙ ap Some (sym same));
+          field = ap (λ (s : SheafData Field). s.field) same ∙ h.field;
+          lanes = λ d. done-more scripts h.state.lanes c i (i + 1) d (h.lanes d);
+        }
+
+-- the client's question is asked, and answered
+pub answer-step : (scripts : List (List Command)) (start : SheafData Field) (c i : ℕ) (p : Progress) (q : Query) (r : Answer)
+    → command_at scripts c i ≡ Some (commands.Ask q) → IsRight (ops_of p.sheaf.field) p.sheaf q r → Stands scripts start c i p
+    → Stands scripts start c (i + 1) (record { sheaf = p.sheaf; events = (p.events ++ Ask c ∷ []) ++ Reply c r ∷ [] })
+answer-step scripts start c i p q r comes right h =
+    let K : Ops = ops_of start.field in
+    let v : ℕ = h.current.0 in
+    let asking : State Field = record { sheaves = h.state.sheaves; lanes = with_lane h.state.lanes c (waiting i v) } in
+    let after : State Field = record { sheaves = h.state.sheaves; lanes = with_lane asking.lanes c (free (i + 1)) } in
+    let ask : AskStep scripts c h.state asking = record {
+      position = i; query = q; version = v;
+      is_free = h.lanes c ∙ ap free (done-here scripts c i);
+      command = comes;
+      current = h.current.1;
+      versions = refl;
+      lanes = refl;
+    } in
+    let reply : ReplyStep K scripts c r asking after = record {
+      position = i; query = q; version = v; sheaf = p.sheaf;
+      is_waiting = ap (λ b. if b then waiting i v else h.state.lanes c) (eq-eqb c c refl);
+      command = comes;
+      asked = h.current.2;
+      right = subst (λ f. IsRight (ops_of f) p.sheaf q r) h.field right;
+      versions = refl;
+      lanes = refl;
+    } in record {
+      state = after;
+      legal = leads-more K scripts (p.events ++ Ask c ∷ []) (Reply c r) (first_state start) asking after
+          (leads-more K scripts p.events (Ask c) (first_state start) h.state asking h.legal ask) reply;
+      current = h.current;
+      field = h.field;
+      lanes = λ d. over d (c == d) refl ∙ done-more scripts h.state.lanes c i (i + 1) d (h.lanes d);
+    }
+  where
+    over : (d : ℕ) (b : Bool) → (c == d) ≡ b
+        → with_lane (with_lane h.state.lanes c (waiting i h.current.0)) c (free (i + 1)) d ≡ with_lane h.state.lanes c (free (i + 1)) d
+    over d true e =
+        ap (λ b. if b then free (i + 1) else with_lane h.state.lanes c (waiting i h.current.0) d) e
+        ∙ sym (ap (λ b. if b then free (i + 1) else h.state.lanes d) e)
+    over d false e =
+        ap (λ b. if b then free (i + 1) else if b then waiting i h.current.0 else h.state.lanes d) e
+        ∙ sym (ap (λ b. if b then free (i + 1) else h.state.lanes d) e)
+
+-- ---- first, next and last
+
+pub first-stands : (scripts : List (List Command)) (start : SheafData Field) → Stands scripts start 0 0 (record { sheaf = start; events = [] })
+first-stands scripts start = record {
+  state = first_state start;
+  legal = refl;
+  current = (0, refl, refl);
+  field = refl;
+  lanes = λ d. ap free (sym (ap (λ b. if b then length (slice_index_or scripts d []) else if 0 == d then 0 else 0) (le-ltb d 0 (omega arith)) ∙ if-same (0 == d) 0));
+}
+
+pub next-stands : (scripts : List (List Command)) (start : SheafData Field) (c : ℕ) (script : List Command) (p : Progress)
+    → slice_get scripts c ≡ Some script → Stands scripts start c (length script) p → Stands scripts start (c + 1) 0 p
+next-stands scripts start c script p there h = record {
+  state = h.state;
+  legal = h.legal;
+  current = h.current;
+  field = h.field;
+  lanes = λ d. h.lanes d ∙ ap free (done-next scripts c d script there);
+}
+
+pub last-stands : (scripts : List (List Command)) (start : SheafData Field) (p : Progress)
+    → Stands scripts start (length scripts) 0 p → IsLegalAndWhole (ops_of start.field) scripts start p.events
+last-stands scripts start p h = record {
+  last = h.state;
+  legal = h.legal;
+  whole = λ c script there. h.lanes c ∙ ap free (
+      ap (λ b. if b then length (slice_index_or scripts c []) else if length scripts == c then 0 else 0) (lt-ltb c (length scripts) (slice_get_within scripts c script there))
+      ∙ ap length (get_or_from_slice_get scripts c script [] there));
+}

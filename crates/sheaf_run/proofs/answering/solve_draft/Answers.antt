@@ -1,6 +1,0 @@
-use Rattle.sheaf_run.specs.Answers.{IsSolution}
-use Rattle.sheaf_run.proofs.RunLaws.{replies_refused}
-use Rattle.sheaf_run.proofs.answering.solve_draft.Goals as goal
-
-pub returns-in-Err : goal.returns-in-Err
-returns-in-Err g c = replies_refused (IsSolution c.args.draft) c.args.draft c.in-Err.refused.1 c.in-Err.ensures.fault c.refuse_draft.ensures

@@ -1,7 +1,0 @@
-use Rattle.std.proofs.Common.{◌≡◌, take}
-use Rattle.std.specs.List.{filter_map}
-use Rattle.small_text.specs.Candidate.{texts, face_in}
-use Rattle.small_text.proofs.candidate.faces_of.Given as goal
-
-abbrev pub invariant-loop-line : goal.invariant-loop-line
-invariant-loop-line l = l.faces.items ≡ filter_map face_in (texts (take l.line-index l.lines))

@@ -1,4 +1,0 @@
-pub mod Text
-pub mod Small
-pub mod Candidate
-pub mod Says
