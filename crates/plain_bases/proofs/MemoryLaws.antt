@@ -41,6 +41,12 @@ module _ (K : Ops) (F : IsField K) (n : ℕ) (vs : List (Vec ℕ Global)) (hm : 
       relations_same K F n (lists vs) j inside rows zs before
       (λ c e. apart c (ap₂ (λ k us. combination K k c us) size front ∙ e ∙ sym is))
 
+-- a candidate makes the list at most one longer
+pub considered-size : (K : Ops) (n : ℕ) (taken : List (Vec ℕ Global)) (candidate : List ℕ) (new : List (Vec ℕ Global)) → Considered K n (lists taken) candidate (lists new)
+    → length new ≤ length taken + 1
+considered-size K n taken candidate new (inl s) = omega (arith, lists-size taken, lists-size new, ap length s.1)
+considered-size K n taken candidate new (inr s) = omega (arith, lists-size taken, lists-size new, ap length s.1, length-append (lists taken) (candidate ∷ []))
+
 module _ (K : Ops) (F : IsField K) (n : ℕ) (others candidates : List (List ℕ)) (ho : IsMatrix K (length others) n others)
     (hc : IsMatrix K (length candidates) n candidates) (i : ℕ) (taken : List (List ℕ)) (count : ℕ) (counted : count ≡ length others)
     (kept : take count taken ≡ others) (completes : Completes K n others candidates i (drop count taken)) where

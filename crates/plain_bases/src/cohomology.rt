@@ -1,4 +1,4 @@
-ghost use Rattle.std.specs.Prelude.{◌≡◌, ◌==◌, ℕ, ◌+◌, ◌^◌, ◌<◌, length, filter, IfOk};
+ghost use Rattle.std.specs.Prelude.{◌≡◌, ◌==◌, ℕ, ◌+◌, ◌^◌, ◌<◌, ◌≤◌, length, filter, IfOk};
 ghost use Rattle.dense_blocks.specs.Matrices.{IsMatrix};
 ghost use Rattle.dense_blocks.specs.Solving.{lists};
 ghost use Rattle.cochain_vec.specs.Complexes.{coordinates};
@@ -80,7 +80,8 @@ pub fn basis<F: Scalars>(
 ) -> Result<Vec<Vec<u8>>, NoMemory>
     requires complex { IsComplexOver (F.ops f.now) complex.now }
     requires degree { degree + 1 < 2 ^ 32 }
-    ensures { IfOk result (λ b. IsBasis (F.ops f.now) (complex_of complex.now) degree (lists b.items)) }
+    ensures basis { IfOk result (λ b. IsBasis (F.ops f.now) (complex_of complex.now) degree (lists b.items)) }
+    ensures few { IfOk result (λ b. length b.items ≤ 4096) }
 {
     let outgoing = columns_from(alloc, f, complex, degree)?;
     let cocycles = relations(alloc, f, &outgoing)?;

@@ -1,4 +1,4 @@
-ghost use Rattle.std.specs.Prelude.{◌≡◌, ◌≢◌, ◌⊎◌, ◌∷◌, ◌++◌, [], ℕ, ◌+◌, ◌<◌, length, IfOk, OnOk};
+ghost use Rattle.std.specs.Prelude.{◌≡◌, ◌≢◌, ◌⊎◌, ◌∷◌, ◌++◌, [], ℕ, ◌+◌, ◌<◌, ◌≤◌, length, IfOk, OnOk};
 ghost use Rattle.dense_blocks.specs.Vectors.{IsVector, combination};
 ghost use Rattle.dense_blocks.specs.Matrices.{IsMatrix};
 ghost use Rattle.dense_blocks.specs.Spans.{IsCombination};
@@ -41,8 +41,9 @@ pub fn complement<F: Scalars>(
     requires sizes { others.size ≡ candidates.now.size }
     requires others { IsMatrix (F.ops f.now) (length others.all.items) others.size (lists others.all.items) }
     requires candidates { IsMatrix (F.ops f.now) (length candidates.now.all.items) candidates.now.size (lists candidates.now.all.items) }
-    ensures { IfOk result (λ b. Completes (F.ops f.now) others.size (lists others.all.items) (lists candidates.now.all.items)
+    ensures completes { IfOk result (λ b. Completes (F.ops f.now) others.size (lists others.all.items) (lists candidates.now.all.items)
         (length candidates.now.all.items) (lists b.items)) }
+    ensures few { IfOk result (λ b. length b.items ≤ length candidates.now.all.items) }
 {
     let count = others.all.len();
     let mut taken = others;

@@ -1,4 +1,4 @@
-ghost use Rattle.std.specs.Prelude.{◌≡◌, ◌∷◌, ◌++◌, ℕ, ◌+◌, ◌<◌, length, IfOk, OnOk};
+ghost use Rattle.std.specs.Prelude.{◌≡◌, ◌∷◌, ◌++◌, ℕ, ◌+◌, ◌<◌, ◌≤◌, length, IfOk, OnOk};
 ghost use Rattle.dense_blocks.specs.Vectors.{zeros};
 ghost use Rattle.dense_blocks.specs.Matrices.{IsMatrix};
 ghost use Rattle.dense_blocks.specs.Solving.{lists};
@@ -35,7 +35,8 @@ fn add_relation<F: Scalars>(
     requires vectors { IsMatrix (F.ops f.now) (length vectors.now.all.items) vectors.now.size (lists vectors.now.all.items) }
     requires place { j < length vectors.now.all.items }
     requires before { SpansRelationsBelow (F.ops f.now) vectors.now.size (lists vectors.now.all.items) j (lists found.old.items) }
-    ensures { OnOk result (SpansRelationsBelow (F.ops f.now) vectors.now.size (lists vectors.now.all.items) (j + 1) (lists found.new.items)) }
+    ensures spans { OnOk result (SpansRelationsBelow (F.ops f.now) vectors.now.size (lists vectors.now.all.items) (j + 1) (lists found.new.items)) }
+    ensures one_more { OnOk result (length found.new.items ≤ length found.old.items + 1) }
 {
     match solve(alloc, f, &vectors.all[..j], &vectors.all[j])? {
         Solution::Combination(c) => {
@@ -53,6 +54,7 @@ pub fn relations<F: Scalars>(alloc: Global, f: &F, vectors: &Vectors) -> Result<
     requires { IsMatrix (F.ops f.now) (length vectors.now.all.items) vectors.now.size (lists vectors.now.all.items) }
     ensures size { IfOk result (λ zs. zs.size ≡ length vectors.now.all.items) }
     ensures spans { IfOk result (λ zs. SpansRelations (F.ops f.now) vectors.now.size (lists vectors.now.all.items) (lists zs.all.items)) }
+    ensures few { IfOk result (λ zs. length zs.all.items ≤ length vectors.now.all.items) }
 {
     let mut found = Vec::new(alloc);
     for j in 0..vectors.all.len() {

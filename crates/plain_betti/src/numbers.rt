@@ -26,14 +26,14 @@ fn complex_of<F: Scalars>(alloc: Global, draft: &Draft<F>) -> Result<Complex, No
 /// that degree of its whole complex; none where there are no cells.
 ///
 /// Nothing is asked of incidences and squares: cocycles and coboundaries are read of any draft. Fails only where memory does.
-pub fn betti<F: Scalars>(alloc: Global, draft: &Draft<F>) -> Result<Vec<usize>, NoMemory>
+pub fn betti<F: Scalars>(alloc: Global, draft: &Draft<F>) -> Result<Vec<u32>, NoMemory>
     ensures { IfOk result (λ numbers. AreBetti (F.ops draft.now.field) draft.now.complex draft.now.stalks draft.now.blocks numbers.items) }
 {
     let complex = complex_of(alloc, draft)?;
     let mut numbers = Vec::new(alloc);
     for degree in 0..degree_count(draft.complex.dims()) {
         let basis = basis(alloc, &draft.field, &complex, degree)?;
-        numbers.push(basis.len())?;
+        numbers.push(basis.len() as u32)?;
     }
     Ok(numbers)
 }

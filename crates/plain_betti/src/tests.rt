@@ -27,7 +27,7 @@ struct Case {
     /// The entry of the restriction to the last edge from its second end; each other entry is 1.
     entry: u8,
     /// The Betti numbers.
-    numbers: &'static [usize],
+    numbers: &'static [u32],
 }
 
 const NO_CELLS: Case = Case {

@@ -1,12 +1,12 @@
-use Rattle.std.proofs.Common.{◌≡◌, ◌<◌, ◌∙◌, [], sym, subst, ap, Vec, ℕ, Global, length, List, drop, get_or, arith}
-use Rattle.std.proofs.lemmas.List.{drop-map}
+use Rattle.std.proofs.Common.{◌≡◌, ◌<◌, ◌≤◌, ◌+◌, ◌∙◌, [], sym, subst, ap, Vec, ℕ, Global, length, List, drop, get_or, arith}
+use Rattle.std.proofs.lemmas.List.{drop-map, length-drop}
 use Rattle.dense_blocks.specs.Vectors.{IsVector}
 use Rattle.dense_blocks.specs.Matrices.{IsMatrix}
 use Rattle.dense_blocks.specs.Solving.{lists}
 use Rattle.dense_blocks.proofs.EliminationSteps.{list_at}
 use Rattle.plain_bases.specs.Complements.{Completes, Considered}
 use Rattle.plain_bases.proofs.VecLaws.{lists-size, vector_at}
-use Rattle.plain_bases.proofs.MemoryLaws.{taken_is_matrix, next_candidate}
+use Rattle.plain_bases.proofs.MemoryLaws.{taken_is_matrix, considered-size, next_candidate}
 use Rattle.plain_bases.proofs.complements.complement.Goals as goal
 
 pub consider-requires-clause-taken : goal.consider-requires-clause-taken
@@ -52,13 +52,15 @@ loop-candidate-preserved g c =
     ∙ list_at candidates.all.items i item inside (c.candidate-item.is ∙ ap (λ (vs : List (Vec ℕ Global)). get_or vs i item) c.deref-candidate-items.ensures.value) in
     let considered = subst (λ n. Considered K n (lists taken.all.items) (get_or (lists candidates.all.items) i []) (lists c.consider.new.taken.all.items)) kept.size
     (subst (λ (v : List ℕ). Considered K taken.size (lists taken.all.items) v (lists c.consider.new.taken.all.items)) is c.in_ok-consider.ensures.considered) in
+    let one_more : length c.consider.new.taken.all.items ≤ length taken.all.items + 1 =
+    considered-size K others.size taken.all.items (get_or (lists candidates.all.items) i []) c.consider.new.taken.all.items considered in
     let step = next_candidate K (g.met.F.Scalars.is_field c.args.f.now) others.size (lists others.all.items) (lists candidates.all.items) ho hc i
     (lists taken.all.items) c.len-count.result (omega (arith, lists-size others.all.items)) kept.kept kept.completes
     (subst (λ k. i < k) (sym (lists-size candidates.all.items)) inside) (lists c.consider.new.taken.all.items) considered in
-    record { size = c.consider.ensures.size ∙ kept.size; kept = step.0; completes = step.1 }
+    record { size = c.consider.ensures.size ∙ kept.size; kept = step.0; completes = step.1; few = omega (arith, one_more) }
 
-pub returns : goal.returns
-returns g c =
+pub returns-clause-completes : goal.returns-clause-completes
+returns-clause-completes g c =
     let K = g.F.Scalars.ops c.args.f.now in
     let others = c.args.others in
     let candidates = c.args.candidates.now in
@@ -70,3 +72,8 @@ returns g c =
     subst (λ (chosen : List (List ℕ)). Completes K others.size (lists others.all.items) (lists candidates.all.items) (length candidates.all.items) chosen) (sym tail)
     (subst (λ (i : ℕ). Completes K others.size (lists others.all.items) (lists candidates.all.items) i (drop c.len-count.result (lists taken))) end
     c.loop-candidate.invariant.completes)
+
+pub returns-clause-few : goal.returns-clause-few
+returns-clause-few g c =
+    omega (arith, ap length c.in_ok-chosen.ensures.tail, length-drop c.len-count.result c.loop-candidate.taken.all.items,
+    ap length c.deref-candidate-items.ensures.value, c.loop-candidate.invariant.few)

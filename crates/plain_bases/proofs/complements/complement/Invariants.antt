@@ -1,4 +1,4 @@
-use Rattle.std.proofs.Common.{◌≡◌, take, drop}
+use Rattle.std.proofs.Common.{◌≡◌, ◌≤◌, ◌+◌, take, drop, length}
 use Rattle.dense_blocks.specs.Solving.{lists}
 use Rattle.plain_bases.specs.Complements.{Completes}
 use Rattle.plain_bases.proofs.complements.complement.Given as goal
@@ -9,4 +9,5 @@ invariant-loop-candidate g l = record {
   kept : take l.count (lists l.taken.all.items) ≡ lists l.fn.others.all.items;
   completes : Completes (g.F.Scalars.ops l.f) l.fn.others.size (lists l.fn.others.all.items) (lists l.candidates.all.items) l.candidate-index
       (drop l.count (lists l.taken.all.items));
+  few : length l.taken.all.items ≤ l.count + l.candidate-index;
 }

@@ -33,8 +33,8 @@ solve-requires-clause-v_scalars g c =
     let own = vector_at K _ vectors.size vectors.all.items c.requires.vectors c.args.j c.index.result.now c.requires.place in
     subst (AllScalars K) (sym (c.deref-2.ensures.value ∙ ap (λ (v : Vec ℕ Global). v.items) c.index.ensures)) own.scalars
 
-pub returns-in-Combination : goal.returns-in-Combination
-returns-in-Combination g c =
+pub returns-in-Combination-clause-spans : goal.returns-in-Combination-clause-spans
+returns-in-Combination-clause-spans g c =
     let K = g.F.Scalars.ops c.args.f.now in
     let vectors = c.args.vectors.now in
     let vs = vectors.all.items in
@@ -47,8 +47,8 @@ returns-in-Combination g c =
     (own_added K (g.met.F.Scalars.is_field c.args.f.now) vectors.size vs c.requires.vectors c.args.j c.requires.place (lists c.args.found.now.items) c.requires.before v is
     c.in-Combination.c.items c.in_ok-own-in-Combination.own.items _ over c.in_ok-own-in-Combination.ensures (omega arith))
 
-pub returns : goal.returns
-returns g c =
+pub returns-clause-spans : goal.returns-clause-spans
+returns-clause-spans g c =
     let K = g.F.Scalars.ops c.args.f.now in
     let vectors = c.args.vectors.now in
     let vs = vectors.all.items in

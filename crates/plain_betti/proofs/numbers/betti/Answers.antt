@@ -22,7 +22,7 @@ loop-degree-preserved g c =
     let field : g.F.Scalars.ops c.draft.inside.field ≡ K = ap (λ (x : SheafData _). g.F.Scalars.ops x.field) c.draft.view_is in
     let is_basis : IsBasis K C k (lists basis) =
     subst (λ (D : CellularComplex). IsBasis K D k (lists basis)) c.in_ok-complex.ensures.complex
-    (subst (λ (L : Ops). IsBasis L (complex_of c.in_ok-complex.complex) k (lists basis)) field c.in_ok-basis.ensures) in
+    (subst (λ (L : Ops). IsBasis L (complex_of c.in_ok-complex.complex) k (lists basis)) field c.in_ok-basis.ensures.basis) in
     let size : length (lists basis) ≡ c.len.result = length-map basis (λ v. v.items) ∙ search rules in
     let last : HasDimension K C (length before) c.len.result =
     subst (λ (j : ℕ). HasDimension K C j c.len.result) (sym c.loop-degree.invariant.one_each) (lists basis, size, is_basis) in
