@@ -126,13 +126,13 @@ transcripts_count K scripts sheaf events s reaches = counted-from K scripts [] e
 
 -- ---- legal events answer the commands
 
-present : {X : Type 0} {P : X → Type 0} (o : Option X) (x : X) → o ≡ Some x → P x → IfPresent o P
-present {X} {P} o x e p = subst (λ q. IfPresent q P) (sym e) p
+present : {X : Type 0} (P : X → Type 0) (o : Option X) (x : X) → o ≡ Some x → P x → IfPresent o P
+present P o x e p = subst (λ q. IfPresent q P) (sym e) p
 
 answered : (scripts : List (List Command)) (events : List Event) (c p : ℕ) (command : Command) (event : Event)
     → p ≡ ended c events → command_at scripts c p ≡ Some command → IsAnswerTo command event → IsAnswered scripts events c event
 answered scripts events c p command event at there is =
-    present (command_at scripts c (ended c events)) command (ap (command_at scripts c) (sym at) ∙ there) is
+    present (λ k. IsAnswerTo k event) (command_at scripts c (ended c events)) command (ap (command_at scripts c) (sym at) ∙ there) is
 
 inside : (scripts : List (List Command)) (c p : ℕ) (command : Command) → command_at scripts c p ≡ Some command → c < length scripts
 inside scripts c p command there = go (slice_get scripts c) refl there

@@ -1,3 +1,3 @@
 mod Writing
-mod Counting
+pub mod Counting
 mod Naming

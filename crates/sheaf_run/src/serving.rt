@@ -21,14 +21,14 @@ use std::marker::Model;
 
 /// A sheaf as its edits have left it, and what has happened up to now.
 #[derive(Drop)]
-struct Served {
+struct Session {
     sheaf: Sheaf<Field>,
     /// The Betti numbers of the sheaf, once they were asked.
     numbers: Option<Numbers>,
     events: Vec<Event>,
 }
 
-impl Model for Served {
+impl Model for Session {
     ghost use Rattle.sheaf_run.specs.Serving.{Progress, AreKnown};
 
     ghost Value = { Progress };
@@ -50,12 +50,12 @@ fn judged(alloc: Global, sheaf: &mut Sheaf<Field>, edit: &Edit) -> Result<Verdic
     }
 }
 
-impl Served {
+impl Session {
     /// Nothing has happened yet.
-    fn new(alloc: Global, sheaf: Sheaf<Field>) -> Served
+    fn new(alloc: Global, sheaf: Sheaf<Field>) -> Session
         ensures { result ≡ record { sheaf = sheaf; events = [] } }
     {
-        Served {
+        Session {
             sheaf,
             numbers: None,
             events: Vec::new(alloc),
@@ -107,7 +107,7 @@ impl Served {
 
     /// Serves the command that the client comes to.
     fn serve(&mut self, alloc: Global, client: u32, command: &Command) -> Result<(), NoMemory>
-        requires { CanBeServed command.now }
+        requires { CanBeServed 1000000000 command.now }
         ensures few { OnOk result (length self.new.events ≤ length self.old.events + 2) }
         ensures stands { OnOk result ((scripts : List (List CommandValue)) (start : SheafData FieldValue) (i : ℕ)
             → command_at scripts client i ≡ Some command.now → Stands scripts start client i self.old → Stands scripts start client (i + 1) self.new) }
@@ -120,7 +120,7 @@ impl Served {
 
     /// Serves all commands of the client, in order.
     fn serve_all(&mut self, alloc: Global, client: u32, script: &[Command]) -> Result<(), NoMemory>
-        requires { All CanBeServed script.now }
+        requires { All (CanBeServed 1000000000) script.now }
         ensures few { OnOk result (length self.new.events ≤ length self.old.events + 2 * length script.now) }
         ensures stands { OnOk result ((scripts : List (List CommandValue)) (start : SheafData FieldValue)
             → slice_get scripts client ≡ Some script.now → Stands scripts start client 0 self.old → Stands scripts start (client + 1) 0 self.new) }
@@ -143,11 +143,11 @@ pub fn served(
     ensures legal { IfOk result (λ events. IsLegalAndWhole (ops_of sheaf.field) scripts.now sheaf events.items) }
     ensures few { IfOk result (λ events. length events.items ≤ 2 * sum_by length scripts.now) }
 {
-    let mut served = Served::new(alloc, sheaf);
+    let mut session = Session::new(alloc, sheaf);
     let mut client = 0u32;
     for script in scripts {
-        served.serve_all(alloc, client, script.as_slice())?;
+        session.serve_all(alloc, client, script.as_slice())?;
         client += 1;
     }
-    Ok(served.events)
+    Ok(session.events)
 }

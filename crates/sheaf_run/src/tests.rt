@@ -11,6 +11,14 @@ const CIRCLE: &[u8] =
 const TWISTED_TRIANGLE: &[u8] =
     b"field 3\ncell 0 1\ncell 0 1\ncell 0 1\ncell 1 1\ncell 1 1\ncell 1 1\ncell 2 1\nface 0 3 - 1\nface 1 3 + 1\nface 0 4 - 1\nface 2 4 + 1\nface 1 5 - 1\nface 2 5 + 1\nface 3 6 + 2\nface 4 6 - 1\nface 5 6 + 1\nclient\nbetti\ndone\n";
 
+// A vertex over the field of two elements. One client asks, makes the stalk larger, tries to make it too large, and asks; the other makes
+// an empty edit and asks.
+const TWO_CLIENTS: &[u8] =
+    b"field 2\ncell 0 1\nclient\nbetti\nedit\nstalk 0 2\ncommit\nedit\nstalk 0 3\nstalk 0 17\ncommit\nbetti\nclient\nedit\ncommit\nbetti\ndone\n";
+
+const TWO_TRANSCRIPTS: &[u8] =
+    b"client 0\n1 v0 betti 1\n2 v1 edit accepted\n3 v1 edit refused stalk 1\n4 v1 betti 2\nclient 1\n1 v2 edit accepted\n2 v2 betti 2\norder\nask 0 1\nreply 0 1\nedit 0 2\nedit 0 3\nask 0 4\nreply 0 4\nedit 1 1\nask 1 2\nreply 1 2\nend\n";
+
 /// The one word.
 fn words(alloc: Global, word: &str) -> Result<Vec<String>, Fail> {
     let mut words = Vec::new(alloc);
@@ -29,7 +37,7 @@ fn has_answer(
 ) -> Result<(), Fail> {
     let words = words(alloc, word)?;
     let mut source = MemSource::new(alloc, input, 10, [].as_slice())?;
-    let mut sink = MemSink::new(alloc, 100, 8, [].as_slice())?;
+    let mut sink = MemSink::new(alloc, 400, 8, [].as_slice())?;
     assert_eq!(rt; run_solo(alloc, &words, &mut source, &mut sink), status);
     assert_eq!(rt; sink.taken(), output);
     Ok(())
@@ -60,13 +68,13 @@ fn answers(rt: HostRuntime) -> Result<(), Fail> {
             "solve",
             entry_two,
             Status::BadLine,
-            b"bad input\n".as_slice(),
+            b"bad line 5 entry\n".as_slice(),
         ),
         (
-            "check",
-            entry_two,
-            Status::BadLine,
-            b"bad line 5 entry\n".as_slice(),
+            "solve",
+            TWO_CLIENTS,
+            Status::Done,
+            TWO_TRANSCRIPTS,
         ),
         (
             "check",
