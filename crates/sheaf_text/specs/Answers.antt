@@ -1,7 +1,9 @@
 -- What a call of the reader answers, beside the reading of its bytes.
-use Rattle.std.specs.Prelude.{◌≡◌, map, Result, Ok, Err}
+use Rattle.std.specs.Prelude.{◌≡◌, ◌≤◌, ℕ, List, map, length, sum_by, All, Result, Ok, Err}
 use Rattle.dense_blocks.specs.declared.block.Block.{Block}
 use Rattle.field_table.specs.Table.{order_of}
+use Rattle.sheaf_words.specs.declared.asking.Command.{Command}
+use Rattle.sheaf_words.specs.declared.asking.Command.TheVariants.{Change, Ask}
 use Rattle.sheaf_text.specs.Reading.{Reading, Good, BadLine, Limit, InputValue, Matrix}
 use Rattle.sheaf_text.specs.declared.input.Input.{Input}
 use Rattle.sheaf_text.specs.declared.fault.TextFault.{TextFault}
@@ -31,3 +33,14 @@ GivesFault faults.NoMemory reading = Unit {0}
 abbrev pub Gives : Result Input TextFault → Reading → Type 0
 Gives (Ok input) reading = reading ≡ Good (input_value input)
 Gives (Err fault) reading = GivesFault fault reading
+
+-- the command has at most n changes, if it is an edit
+abbrev pub HasChanges : ℕ → Command → Type 0
+HasChanges n (Change e) = length e.sets ≤ n
+HasChanges n (Ask q) = Unit {0}
+
+-- at most 8 scripts, at most 4,096 commands in all, and at most 1,000,000,000 changes in each edit
+pub record AreFew (scripts : List (List Command)) : Type 0 where
+  pub clients : length scripts ≤ 8
+  pub commands : sum_by length scripts ≤ 4096
+  pub changes : All (All (HasChanges 1000000000)) scripts

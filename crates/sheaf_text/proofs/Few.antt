@@ -1,0 +1,210 @@
+-- An input has few clients, few commands and few changes.
+use Rattle.std.proofs.Common.{◌≡◌, ℕ, zero, suc, ◌+◌, ◌≤◌, ◌<◌, Bool, true, false, nat_eq, cond, List, [], ◌∷◌, ◌++◌, length, map, All, Result, Ok, Err, Option, Some, None, refl, sym, ap, subst, ◌∙◌, arith}
+use Rattle.std.specs.Prelude.{sum_by, IfOk, ◌==◌, nat_le, if◌then◌else◌}
+use Rattle.std.specs.List.{slice_split}
+use Rattle.std.specs.Str.Lines.{lines, lines_of_parts}
+use Rattle.std.proofs.lemmas.Bool.{leb-false}
+use Rattle.std.proofs.lemmas.List.{length-map, length-append}
+use Rattle.std.proofs.lemmas.List.Elements.{All-nil, All-cons, All-head, All-tail, All-push, All-weaker}
+use Rattle.std.proofs.lemmas.List.Sums.{sum_by-append, sum_by-cons, count_by-le-length}
+use Rattle.std.proofs.lemmas.List.Splits.{length-slice_split}
+use Rattle.sheaf_words.specs.declared.asking.Command.{Command}
+use Rattle.sheaf_words.specs.declared.asking.Command.TheVariants.{Change, Ask}
+use Rattle.sheaf_words.specs.declared.asking.Query.TheVariants.{Betti}
+use Rattle.sheaf_words.specs.declared.editing.Set.{Set}
+use Rattle.sheaf_text.specs.Cut.{words}
+use Rattle.sheaf_text.specs.Lines.{is_skipped, kind_of}
+use Rattle.sheaf_text.specs.Grammar.{Known, refusal, content_refusal, kind_refusal, is_ended}
+use Rattle.sheaf_text.specs.Reading.{Item, InputValue, Reading, Good, BadLine, Limit, reading, contents, item_of, item_of_kind, set_of, ending, go_on, onto_last, into_last, into_script, with_set, input_of}
+use Rattle.sheaf_text.specs.Keeping.{advance, nothing_known, run}
+use Rattle.sheaf_text.specs.Answers.{Gives, HasChanges, AreFew, input_value}
+use Rattle.sheaf_text.specs.declared.fault.LineCause.TheVariants as causes
+use Rattle.sheaf_text.specs.declared.fault.Which.TheVariants as limits
+use Rattle.sheaf_text.specs.declared.fault.Refusal.{Refusal}
+use Rattle.sheaf_text.specs.declared.fault.Refusal.TheVariants.{Bad, Over}
+use Rattle.sheaf_text.specs.declared.fault.TextFault.{TextFault}
+use Rattle.sheaf_text.specs.declared.input.Input.{Input}
+use Rattle.sheaf_text.specs.declared.line.Kind.{Kind}
+use Rattle.sheaf_text.specs.declared.line.Kind.TheVariants as kinds
+use Rattle.sheaf_text.proofs.Accepted.{passes, right}
+use Rattle.sheaf_text.proofs.Kept.{reading-long, reading_is_run}
+
+-- ---- a command more, and a change more
+
+abbrev count : List (List Command) → ℕ
+count scripts = sum_by length scripts
+
+length-onto_last : (scripts : List (List Command)) (c : Command) → length (onto_last scripts c) ≡ length scripts
+length-onto_last [] c = refl
+length-onto_last (s ∷ []) c = refl
+length-onto_last (s ∷ t ∷ more) c = ap (λ n. suc n) (length-onto_last (t ∷ more) c)
+
+length-into_last : (scripts : List (List Command)) (change : Set) → length (into_last scripts change) ≡ length scripts
+length-into_last [] change = refl
+length-into_last (s ∷ []) change = refl
+length-into_last (s ∷ t ∷ more) change = ap (λ n. suc n) (length-into_last (t ∷ more) change)
+
+count-onto_last : (scripts : List (List Command)) (c : Command) → count (onto_last scripts c) ≤ count scripts + 1
+count-onto_last [] c = omega arith
+count-onto_last (s ∷ []) c = omega (arith, sum_by-cons length (s ++ c ∷ []) [], sum_by-cons length s [], length-append s (c ∷ []))
+count-onto_last (s ∷ t ∷ more) c =
+    omega (arith, sum_by-cons length s (onto_last (t ∷ more) c), sum_by-cons length s (t ∷ more), count-onto_last (t ∷ more) c)
+
+length-into_script : (script : List Command) (change : Set) → length (into_script script change) ≡ length script
+length-into_script [] change = refl
+length-into_script (c ∷ []) change = refl
+length-into_script (c ∷ d ∷ more) change = ap (λ n. suc n) (length-into_script (d ∷ more) change)
+
+count-into_last : (scripts : List (List Command)) (change : Set) → count (into_last scripts change) ≡ count scripts
+count-into_last [] change = refl
+count-into_last (s ∷ []) change =
+    omega (arith, sum_by-cons length (into_script s change) [], sum_by-cons length s [], length-into_script s change)
+count-into_last (s ∷ t ∷ more) change =
+    omega (arith, sum_by-cons length s (into_last (t ∷ more) change), sum_by-cons length s (t ∷ more), count-into_last (t ∷ more) change)
+
+more_changes : (m n : ℕ) → m ≤ n → (c : Command) → HasChanges m c → HasChanges n c
+more_changes m n le (Change e) h = omega arith
+more_changes m n le (Ask q) h = tt
+
+all_more_changes : (m n : ℕ) → m ≤ n → (script : List Command) → All (HasChanges m) script → All (HasChanges n) script
+all_more_changes m n le = All-weaker (HasChanges m) (HasChanges n) (more_changes m n le)
+
+with_set-changes : (n : ℕ) (c : Command) (change : Set) → HasChanges n c → HasChanges (n + 1) (with_set c change)
+with_set-changes n (Change e) change h = omega (arith, length-append e.sets (change ∷ []))
+with_set-changes n (Ask q) change h = tt
+
+into_script-changes : (n : ℕ) (script : List Command) (change : Set) → All (HasChanges n) script → All (HasChanges (n + 1)) (into_script script change)
+into_script-changes n [] change h = All-nil (HasChanges (n + 1))
+into_script-changes n (c ∷ []) change h =
+    All-cons (HasChanges (n + 1)) (with_set c change) [] (with_set-changes n c change (All-head (HasChanges n) c [] h)) (All-nil (HasChanges (n + 1)))
+into_script-changes n (c ∷ d ∷ more) change h =
+    All-cons (HasChanges (n + 1)) c (into_script (d ∷ more) change) (more_changes n (n + 1) (omega arith) c (All-head (HasChanges n) c (d ∷ more) h))
+    (into_script-changes n (d ∷ more) change (All-tail (HasChanges n) c (d ∷ more) h))
+
+into_last-changes : (n : ℕ) (scripts : List (List Command)) (change : Set) → All (All (HasChanges n)) scripts → All (All (HasChanges (n + 1))) (into_last scripts change)
+into_last-changes n [] change h = All-nil (All (HasChanges (n + 1)))
+into_last-changes n (s ∷ []) change h =
+    All-cons (All (HasChanges (n + 1))) (into_script s change) [] (into_script-changes n s change (All-head (All (HasChanges n)) s [] h)) (All-nil (All (HasChanges (n + 1))))
+into_last-changes n (s ∷ t ∷ more) change h =
+    All-cons (All (HasChanges (n + 1))) s (into_last (t ∷ more) change) (all_more_changes n (n + 1) (omega arith) s (All-head (All (HasChanges n)) s (t ∷ more) h))
+    (into_last-changes n (t ∷ more) change (All-tail (All (HasChanges n)) s (t ∷ more) h))
+
+onto_last-changes : (n : ℕ) (scripts : List (List Command)) (c : Command) → HasChanges n c → All (All (HasChanges n)) scripts → All (All (HasChanges n)) (onto_last scripts c)
+onto_last-changes n [] c new h = All-nil (All (HasChanges n))
+onto_last-changes n (s ∷ []) c new h =
+    All-cons (All (HasChanges n)) (s ++ c ∷ []) [] (All-push (HasChanges n) s c (All-head (All (HasChanges n)) s [] h) new) (All-nil (All (HasChanges n)))
+onto_last-changes n (s ∷ t ∷ more) c new h =
+    All-cons (All (HasChanges n)) s (onto_last (t ∷ more) c) (All-head (All (HasChanges n)) s (t ∷ more) h)
+    (onto_last-changes n (t ∷ more) c new (All-tail (All (HasChanges n)) s (t ∷ more) h))
+
+-- ---- a line more
+
+-- what the scripts of so many lines have, where so many commands are counted
+record AreFewAt (scripts : List (List Command)) (counted line : ℕ) : Type 0 where
+  clients : length scripts ≤ 8
+  commands : count scripts ≤ counted
+  most : counted ≤ 4096
+  changes : All (All (HasChanges line)) scripts
+
+line_more : (scripts : List (List Command)) (counted line : ℕ) → AreFewAt scripts counted line → AreFewAt scripts counted (line + 1)
+line_more scripts counted line few = record {
+  clients = few.clients;
+  commands = few.commands;
+  most = few.most;
+  changes = All-weaker (All (HasChanges line)) (All (HasChanges (line + 1))) (all_more_changes line (line + 1) (omega arith)) scripts few.changes;
+}
+
+client_more : (scripts : List (List Command)) (counted line : ℕ) → length scripts < 8 → AreFewAt scripts counted line → AreFewAt (scripts ++ [] ∷ []) counted line
+client_more scripts counted line room few = record {
+  clients = omega (arith, length-append scripts ([] ∷ []));
+  commands = omega (arith, few.commands, sum_by-append length scripts ([] ∷ []), sum_by-cons {X = List Command} length [] []);
+  most = few.most;
+  changes = All-push (All (HasChanges line)) scripts [] few.changes (All-nil (HasChanges line));
+}
+
+command_more : (scripts : List (List Command)) (counted line : ℕ) (c : Command) → HasChanges line c → counted < 4096 → AreFewAt scripts counted line → AreFewAt (onto_last scripts c) (counted + 1) line
+command_more scripts counted line c new room few = record {
+  clients = omega (arith, few.clients, length-onto_last scripts c);
+  commands = omega (arith, few.commands, count-onto_last scripts c);
+  most = omega arith;
+  changes = onto_last-changes line scripts c new few.changes;
+}
+
+change_more : (scripts : List (List Command)) (counted line : ℕ) (s : Set) → AreFewAt scripts counted line → AreFewAt (into_last scripts s) counted (line + 1)
+change_more scripts counted line s few = record {
+  clients = omega (arith, few.clients, length-into_last scripts s);
+  commands = omega (arith, few.commands, count-into_last scripts s);
+  most = few.most;
+  changes = into_last-changes line scripts s few.changes;
+}
+
+abbrev AreFewKnown : Known → ℕ → Type 0
+AreFewKnown k line = AreFewAt k.scripts k.commands line
+
+kind_keeps : (k : Known) (line : ℕ) (kind : Kind) (ws : List (List ℕ)) → kind_refusal k kind ws ≡ None → AreFewKnown k line → AreFewKnown (advance k (item_of_kind (Some kind) ws)) (line + 1)
+kind_keeps k line kinds.Client ws e few =
+    client_more k.scripts k.commands (line + 1) (leb-false _ _ (passes (nat_le 8 (length k.scripts)) (Over limits.Clients) None e).0) (line_more k.scripts k.commands line few)
+kind_keeps k line kinds.Betti ws e few =
+    command_more k.scripts k.commands (line + 1) (Ask Betti) tt (leb-false _ _ (passes (nat_le 4096 k.commands) (Over limits.Commands) None e).0) (line_more k.scripts k.commands line few)
+kind_keeps k line kinds.Edit ws e few =
+    command_more k.scripts k.commands (line + 1) (Change (record { sets = [] })) (omega arith) (leb-false _ _ (passes (nat_le 4096 k.commands) (Over limits.Commands) None e).0)
+    (line_more k.scripts k.commands line few)
+kind_keeps k line kinds.Stalk ws e few = change_more k.scripts k.commands line (set_of kinds.Stalk ws) few
+kind_keeps k line kinds.Restrict ws e few = change_more k.scripts k.commands line (set_of kinds.Restrict ws) few
+kind_keeps k line kind ws e few = line_more k.scripts k.commands line few
+
+content_keeps : (k : Known) (line : ℕ) (kind : Option Kind) (ws : List (List ℕ)) → content_refusal k kind ws ≡ None → AreFewKnown k line → AreFewKnown (advance k (item_of_kind kind ws)) (line + 1)
+content_keeps k line None ws e few = let none = (passes (is_ended k.stage) (Bad causes.After) (Some (Bad causes.Word)) e).1 in absurd cc
+content_keeps k line (Some kind) ws e few = kind_keeps k line kind ws (right k kind ws (passes (is_ended k.stage) (Bad causes.After) _ e).1).fits few
+
+line_keeps : (k : Known) (line : ℕ) (ws : List (List ℕ)) (b : Bool) → is_skipped ws ≡ b → refusal k ws ≡ None → AreFewKnown k line → AreFewKnown (advance k (item_of ws)) (line + 1)
+unfolding refusal item_of
+line_keeps k line ws true is e few = rw is (line_more k.scripts k.commands line few)
+line_keeps k line ws false is e few = rw is (content_keeps k line (kind_of ws) ws (rw is at e) few)
+
+-- ---- all lines
+
+scripts-ending : (k : Known) (line : ℕ) (v : InputValue) (b : Bool) → is_ended k.stage ≡ b → ending k line ≡ Good v → v.scripts ≡ k.scripts
+scripts-ending k line v true e is = let same : Good (input_of k) ≡ Good v = sym (rw e refl) ∙ is in let value : input_of k ≡ v = cc in sym (ap (λ (w : InputValue). w.scripts) value)
+scripts-ending k line v false e is = let same : BadLine (line + 1) causes.End ≡ Good v = sym (rw e refl) ∙ is in absurd cc
+
+not_refused : (r : Option Refusal) (line : ℕ) (later : Reading) (v : InputValue) → go_on r line later ≡ Good v → (r ≡ None) × (later ≡ Good v)
+not_refused None line later v e = (refl, e)
+not_refused (Some (Bad cause)) line later v e = absurd cc
+not_refused (Some (Over which)) line later v e = absurd cc
+
+few-run : (k : Known) (line : ℕ) (more : List (List (List ℕ))) (v : InputValue) → line + length more ≤ 1000000000 → AreFewKnown k line → run k line more ≡ Good v → AreFew v.scripts
+unfolding run
+few-run k line [] v short few e =
+    subst AreFew (sym (scripts-ending k line v (is_ended k.stage) refl e))
+    (record {
+      clients = few.clients;
+      commands = omega (arith, few.commands, few.most);
+      changes = All-weaker (All (HasChanges line)) (All (HasChanges 1000000000)) (all_more_changes line 1000000000 (omega arith)) k.scripts few.changes;
+    })
+few-run k line (ws ∷ more) v short few e =
+    let next = advance k (item_of ws) in
+    let accepted = not_refused (refusal k ws) (line + 1) (run next (line + 1) more) v e in
+    few-run next (line + 1) more v (omega arith) (line_keeps k line ws (is_skipped ws) refl accepted.0 few) accepted.1
+
+few_at_start : AreFewKnown nothing_known 0
+few_at_start = record { clients = omega arith; commands = omega arith; most = omega arith; changes = All-nil (All (HasChanges 0)) }
+
+one_line : (b : Bool) (x : List ℕ) → length (if b then [] else x ∷ []) ≤ 1
+one_line true x = omega arith
+one_line false x = omega arith
+
+length-lines_of_parts : (parts : List (List ℕ)) → length (lines_of_parts parts) ≤ length parts
+length-lines_of_parts [] = omega arith
+length-lines_of_parts (x ∷ []) = one_line (length x == 0) x
+length-lines_of_parts (x ∷ y ∷ more) = omega (arith, length-lines_of_parts (y ∷ more))
+
+length-contents : (bytes : List ℕ) → length (contents bytes) ≤ length bytes + 1
+length-contents bytes =
+    let is_end : ℕ → Bool = λ b. nat_eq b 10 in
+    omega (arith, length-map (lines bytes) words, length-lines_of_parts (slice_split is_end bytes), length-slice_split is_end bytes, count_by-le-length is_end bytes)
+
+-- what is read of so many bytes is few
+pub few_given : (bytes : List ℕ) (result : Result Input TextFault) → length bytes ≤ 16777216 → Gives result (run nothing_known 0 (contents bytes)) → IfOk result (λ input. AreFew input.scripts)
+few_given bytes (Ok input) short gives = few-run nothing_known 0 (contents bytes) (input_value input) (omega (arith, length-contents bytes)) few_at_start gives
+few_given bytes (Err fault) short gives = tt
