@@ -20,7 +20,7 @@ use Rattle.sheaf_text.specs.declared.line.Stage.{Stage}
 use Rattle.sheaf_text.specs.declared.line.Stage.TheVariants as stages
 
 -- one test of a chain that gives no refusal
-passes : (b : Bool) (r : Refusal) (rest : Option Refusal) → cond b (Some r) rest ≡ None → (b ≡ false) × (rest ≡ None)
+pub passes : (b : Bool) (r : Refusal) (rest : Option Refusal) → cond b (Some r) rest ≡ None → (b ≡ false) × (rest ≡ None)
 passes true r rest e = absurd cc
 passes false r rest e = (refl, e)
 
@@ -42,13 +42,13 @@ in_table false r e = absurd cc
 field_fits : (ws : List (List ℕ)) → field_refusal ws ≡ None → Contains orders (value ws 1)
 field_fits ws e = Contains-from_any eqb-true (value ws 1) orders (in_table _ _ e)
 
-record IsRight (k : Known) (kind : Kind) (ws : List (List ℕ)) : Type 0 where
+pub record IsRight (k : Known) (kind : Kind) (ws : List (List ℕ)) : Type 0 where
   pub stands : may_stand k.stage kind ≡ true
   pub counted : count_fits kind (length ws) ≡ true
   pub numerals : are_numerals kind ws ≡ true
   pub fits : kind_refusal k kind ws ≡ None
 
-right : (k : Known) (kind : Kind) (ws : List (List ℕ)) → placed_refusal k kind ws ≡ None → IsRight k kind ws
+pub right : (k : Known) (kind : Kind) (ws : List (List ℕ)) → placed_refusal k kind ws ≡ None → IsRight k kind ws
 right k kind ws e =
     let a = passes (not (may_stand k.stage kind)) _ _ e in
     let b = passes (not (count_fits kind (length ws))) _ _ a.1 in

@@ -6,3 +6,4 @@ pub mod Accepted
 pub mod Taken
 pub mod Steps
 pub mod Inputs
+pub mod Few

@@ -1,7 +1,10 @@
 -- What a call of the reader answers, beside the reading of its bytes.
-use Rattle.std.specs.Prelude.{◌≡◌, map, Result, Ok, Err}
+use Rattle.std.specs.Prelude.{◌≡◌, ◌≤◌, ℕ, List, map, length, sum_by, All, Result, Ok, Err}
 use Rattle.dense_blocks.specs.declared.block.Block.{Block}
 use Rattle.field_table.specs.Table.{order_of}
+use Rattle.sheaf_words.specs.declared.asking.Command.{Command}
+use Rattle.sheaf_words.specs.declared.asking.Command.TheVariants.{Change, Ask}
+use Rattle.sheaf_words.specs.declared.asking.Query.TheVariants.{Betti}
 use Rattle.sheaf_text.specs.Reading.{Reading, Good, BadLine, Limit, InputValue, Matrix}
 use Rattle.sheaf_text.specs.declared.input.Input.{Input}
 use Rattle.sheaf_text.specs.declared.fault.TextFault.{TextFault}
@@ -31,3 +34,14 @@ GivesFault faults.NoMemory reading = Unit {0}
 abbrev pub Gives : Result Input TextFault → Reading → Type 0
 Gives (Ok input) reading = reading ≡ Good (input_value input)
 Gives (Err fault) reading = GivesFault fault reading
+
+-- the command is an edit of at most n changes, or it asks for the Betti numbers
+abbrev pub CanBeServed : ℕ → Command → Type 0
+CanBeServed n (Change e) = length e.sets ≤ n
+CanBeServed n (Ask q) = q ≡ Betti
+
+-- at most 8 scripts, at most 4,096 commands in all, each an edit of at most 1,000,000,000 changes or a question for the Betti numbers
+pub record AreServable (scripts : List (List Command)) : Type 0 where
+  pub clients : length scripts ≤ 8
+  pub commands : sum_by length scripts ≤ 4096
+  pub each : All (All (CanBeServed 1000000000)) scripts

@@ -1,5 +1,5 @@
-ghost use Rattle.std.specs.Prelude.{◌≤◌, length};
-ghost use Rattle.sheaf_text.specs.Answers.{Gives};
+ghost use Rattle.std.specs.Prelude.{◌≤◌, length, IfOk};
+ghost use Rattle.sheaf_text.specs.Answers.{Gives, AreServable};
 ghost use Rattle.sheaf_text.specs.Reading.{reading, contents};
 ghost use Rattle.sheaf_text.specs.Keeping.{nothing_known, run};
 
@@ -30,14 +30,15 @@ fn read_lines(alloc: Global, bytes: &[u8]) -> Result<Input, TextFault>
     state.finish(line)
 }
 
-/// The input that the bytes are.
+/// The input that the bytes are: of at most 8 clients, and of at most 4,096 commands in all.
 ///
 /// # Errors
 ///
 /// The first line that is refused, with its first cause; for one line limits come after the causes. More than
 /// [`MOST_BYTES`] bytes are refused before any line. `NoMemory` says nothing of the bytes.
 pub fn read(alloc: Global, bytes: &[u8]) -> Result<Input, TextFault>
-    ensures { Gives result (reading bytes.now) }
+    ensures gives { Gives result (reading bytes.now) }
+    ensures few { IfOk result (λ input. AreServable input.scripts) }
 {
     if bytes.len() > MOST_BYTES {
         return Err(TextFault::Limit {
