@@ -1,5 +1,5 @@
 -- An input has few clients, few commands and few changes.
-use Rattle.std.proofs.Common.{◌≡◌, ℕ, zero, suc, ◌+◌, ◌≤◌, ◌<◌, Bool, true, false, nat_eq, cond, List, [], ◌∷◌, ◌++◌, length, map, All, Result, Ok, Err, Option, Some, None, refl, sym, ap, subst, ◌∙◌, arith}
+use Rattle.std.proofs.Common.{◌≡◌, ℕ, suc, ◌+◌, ◌≤◌, ◌<◌, Bool, true, false, nat_eq, List, [], ◌∷◌, ◌++◌, length, All, Result, Ok, Err, Option, Some, None, refl, sym, ap, subst, ◌∙◌, arith}
 use Rattle.std.specs.Prelude.{sum_by, IfOk, ◌==◌, nat_le, if◌then◌else◌}
 use Rattle.std.specs.List.{slice_split}
 use Rattle.std.specs.Str.Lines.{lines, lines_of_parts}
@@ -15,7 +15,7 @@ use Rattle.sheaf_words.specs.declared.editing.Set.{Set}
 use Rattle.sheaf_text.specs.Cut.{words}
 use Rattle.sheaf_text.specs.Lines.{is_skipped, kind_of}
 use Rattle.sheaf_text.specs.Grammar.{Known, refusal, content_refusal, kind_refusal, is_ended}
-use Rattle.sheaf_text.specs.Reading.{Item, InputValue, Reading, Good, BadLine, Limit, reading, contents, item_of, item_of_kind, set_of, ending, go_on, onto_last, into_last, into_script, with_set, input_of}
+use Rattle.sheaf_text.specs.Reading.{InputValue, Reading, Good, BadLine, contents, item_of, item_of_kind, set_of, ending, go_on, onto_last, into_last, into_script, with_set, input_of}
 use Rattle.sheaf_text.specs.Keeping.{advance, nothing_known, run}
 use Rattle.sheaf_text.specs.Answers.{Gives, CanBeServed, AreServable, input_value}
 use Rattle.sheaf_text.specs.declared.fault.LineCause.TheVariants as causes
@@ -27,7 +27,6 @@ use Rattle.sheaf_text.specs.declared.input.Input.{Input}
 use Rattle.sheaf_text.specs.declared.line.Kind.{Kind}
 use Rattle.sheaf_text.specs.declared.line.Kind.TheVariants as kinds
 use Rattle.sheaf_text.proofs.Accepted.{passes, right}
-use Rattle.sheaf_text.proofs.Kept.{reading-long, reading_is_run}
 
 -- ---- a command more, and a change more
 

@@ -75,5 +75,10 @@ returns-clause-completes g c =
 
 pub returns-clause-few : goal.returns-clause-few
 returns-clause-few g c =
-    omega (arith, ap length c.in_ok-chosen.ensures.tail, length-drop c.len-count.result c.loop-candidate.taken.all.items,
-    ap length c.deref-candidate-items.ensures.value, c.loop-candidate.invariant.few)
+    omega (
+      arith,
+      ap length c.in_ok-chosen.ensures.tail,
+      length-drop c.len-count.result c.loop-candidate.taken.all.items,
+      ap length c.deref-candidate-items.ensures.value,
+      c.loop-candidate.invariant.few,
+    )
