@@ -1,5 +1,5 @@
 -- What a run did, from what it read and what it replied.
-use Rattle.std.proofs.Common.{◌≡◌, ℕ, ◌<◌, List, length, Option, Some, None, inl, refl, sym, subst, ◌∙◌}
+use Rattle.std.proofs.Common.{◌≡◌, ℕ, ◌<◌, List, length, Option, Some, None, inl, refl, sym, subst, ap₂, ◌∙◌}
 use Rattle.std.specs.Prelude.{◌≢◌, IfSome}
 use Rattle.std.specs.Io.KnownBytes.{IsAtEnd}
 use Rattle.io_edge.specs.Bytes.{Gave, TookFront}
@@ -13,11 +13,14 @@ use Rattle.sheaf_text.specs.Reading.{Reading, reading}
 use Rattle.sheaf_text.specs.Reading as readings
 use Rattle.sheaf_text.specs.Answers.{input_value}
 use Rattle.sheaf_text.specs.declared.input.Input.{Input}
+use Rattle.sheaf_text.specs.declared.fault.LineCause.{LineCause}
+use Rattle.sheaf_text.specs.declared.fault.Which.{Which}
 use Rattle.sheaf_text.specs.declared.fault.Which.TheVariants as limits
 use Rattle.sheaf_text.proofs.Kept.{reading-long}
 use Rattle.sheaf_text.proofs.Inputs.{input_value-injective}
+use Rattle.sheaf_words.specs.declared.asking.Command.{Command}
 use Rattle.sheaf_run.specs.declared.job.Job.{Job}
-use Rattle.sheaf_run.specs.Answers.{Outcome, IsAnswer, AnswersDraft, AnswersReading, IsRight, refusal, over_limit}
+use Rattle.sheaf_run.specs.Answers.{Outcome, IsAnswer, AnswersDraft, AnswersReading, IsRight, refusal, bad_line, over_limit}
 use Rattle.sheaf_run.specs.Replies.{Replies, Sent}
 use Rattle.sheaf_run.specs.Runs.{Ran}
 use Rattle.sheaf_run.specs.declared.status.Status.{Status}
@@ -90,16 +93,29 @@ pub over_bytes : (job : Job) (left : Option (List ℕ)) → IfSome left (λ byte
 over_bytes job None h = tt
 over_bytes job (Some bytes) h = λ a is. subst (λ (r : Reading). AnswersReading job r a) (sym (reading-long bytes h)) is
 
--- what is right for a reading is right for an equal one
-pub replies_reading : (job : Job) (r s : Reading) {old new : Option (List ℕ)} {flush before now : ℕ} {result : Status} → r ≡ s
-    → Replies (AnswersReading job s) old new flush before now result → Replies (AnswersReading job r) old new flush before now result
-replies_reading job r s e replies = replies_weaker (AnswersReading job s) (AnswersReading job r) (λ a h. subst (λ (t : Reading). AnswersReading job t a) (sym e) h) replies
+-- a line that is refused, or passes a limit, is answered
+pub replies_line : (job : Job) (r : Reading) (line n : ℕ) (cause k : LineCause) {old new : Option (List ℕ)} {flush before now : ℕ} {result : Status}
+    → r ≡ readings.BadLine line cause → n ≡ line → k ≡ cause → Replies (λ a. a ≡ bad_line n k) old new flush before now result
+    → Replies (AnswersReading job r) old new flush before now result
+replies_line job r line n cause k e f g replies =
+    replies_weaker (λ a. a ≡ bad_line n k) (AnswersReading job r)
+    (λ a is. subst (λ (t : Reading). AnswersReading job t a) (sym e) (is ∙ ap₂ bad_line f g)) replies
+
+pub replies_limit : (job : Job) (r : Reading) (line n : ℕ) (which w : Which) {old new : Option (List ℕ)} {flush before now : ℕ} {result : Status}
+    → r ≡ readings.Limit line which → n ≡ line → w ≡ which → Replies (λ a. a ≡ over_limit n w) old new flush before now result
+    → Replies (AnswersReading job r) old new flush before now result
+replies_limit job r line n which w e f g replies =
+    replies_weaker (λ a. a ≡ over_limit n w) (AnswersReading job r)
+    (λ a is. subst (λ (t : Reading). AnswersReading job t a) (sym e) (is ∙ ap₂ over_limit f g)) replies
 
 -- the input that was read is answered
-pub replies_input : (job : Job) (r : Reading) (i : Input) {old new : Option (List ℕ)} {flush before now : ℕ} {result : Status}
-    → r ≡ readings.Good (input_value i) → Replies (AnswersDraft (IsRight job i.draft i.scripts) i.draft) old new flush before now result
+pub replies_input : (job : Job) (r : Reading) (i : Input) (scripts : List (List Command)) {old new : Option (List ℕ)} {flush before now : ℕ} {result : Status}
+    → r ≡ readings.Good (input_value i) → scripts ≡ i.scripts → Replies (AnswersDraft (IsRight job i.draft scripts) i.draft) old new flush before now result
     → Replies (AnswersReading job r) old new flush before now result
-replies_input job r i e replies =
-    replies_reading job r (readings.Good (input_value i)) e
-    (replies_weaker (AnswersDraft (IsRight job i.draft i.scripts) i.draft) (AnswersReading job (readings.Good (input_value i)))
-    (λ a h. (i, record { value = refl; only = λ j same. sym (input_value-injective i j same) }, h)) replies)
+replies_input job r i scripts e same replies =
+    replies_weaker (AnswersDraft (IsRight job i.draft scripts) i.draft) (AnswersReading job r)
+    (λ a h. subst (λ (t : Reading). AnswersReading job t a) (sym e) (
+      i,
+      record { value = refl; only = λ j equal. sym (input_value-injective i j equal) },
+      subst (λ ss. AnswersDraft (IsRight job i.draft ss) i.draft a) same h,
+    )) replies

@@ -1,18 +1,24 @@
 -- Clients that are served one after the other make a legal order.
-use Rattle.std.proofs.Common.{◌≡◌, ℕ, zero, suc, ◌+◌, ◌<◌, ◌≤◌, Bool, true, false, ◌==◌, if◌then◌else◌, nat_lt, List, [], ◌∷◌, ◌++◌, length, slice_get, slice_index_or, Option, Some, None, ⊎_elim, refl, sym, ap, ap₂, subst, ◌∙◌, arith, length-append}
+use Rattle.std.proofs.Common.{◌≡◌, ℕ, zero, suc, ◌+◌, ◌<◌, ◌≤◌, Bool, true, false, ◌==◌, if◌then◌else◌, nat_lt, List, [], ◌∷◌, ◌++◌, length, slice_get, slice_index_or, take, Option, Some, None, ◌*◌, add-one, refl, sym, ap, ap₂, subst, ◌∙◌, arith, length-append}
+use Rattle.std.specs.Prelude.{sum_by}
+use Rattle.std.proofs.Math.Seq.{take-suc}
+use Rattle.std.proofs.lemmas.List.Sums.{sum_by-append, sum_by-cons}
 use Rattle.std.proofs.lemmas.Option.{slice_get_within, get_or_from_slice_get}
 use Rattle.std.proofs.lemmas.Bool.{eqb-true, eqb-false, eq-eqb, ne_eqb, ltb-true, ltb-false, lt-ltb, le-ltb}
 use Rattle.dense_blocks.specs.Field.{Ops}
 use Rattle.field_table.specs.declared.field.Field.{Field}
 use Rattle.field_table.specs.Table.{ops_of}
 use Rattle.sheaf_data.specs.Sheaves.{SheafData}
+use Rattle.sheaf_data.specs.Betti.{AreBetti}
 use Rattle.sheaf_words.specs.declared.asking.Query.{Query}
+use Rattle.sheaf_words.specs.declared.asking.Query.TheVariants as queries
 use Rattle.sheaf_words.specs.declared.asking.Command.{Command}
 use Rattle.sheaf_words.specs.declared.asking.Command.TheVariants as commands
 use Rattle.sheaf_words.specs.declared.editing.Edit.{Edit as Change}
 use Rattle.sheaf_words.specs.declared.editing.Verdict.{Verdict}
 use Rattle.sheaf_words.specs.declared.editing.Verdict.TheVariants.{Accepted, Refused}
 use Rattle.sheaf_words.specs.declared.replying.Reply.{Reply as Answer}
+use Rattle.sheaf_words.specs.declared.replying.Reply.TheVariants as replies
 use Rattle.sheaf_words.specs.declared.happening.Event.{Event}
 use Rattle.sheaf_words.specs.declared.happening.Event.TheVariants.{Edit, Ask, Reply}
 use Rattle.edit_versions.specs.Verdicts.{IsVerdict, IsEdited}
@@ -192,3 +198,40 @@ last-stands scripts start p h = record {
       ap (λ b. if b then length (slice_index_or scripts c []) else if length scripts == c then 0 else 0) (lt-ltb c (length scripts) (slice_get_within scripts c script there))
       ∙ ap length (get_or_from_slice_get scripts c script [] there));
 }
+
+-- ---- what the calls made of the progress
+
+-- the Betti numbers of the sheaf were asked and answered
+pub answered : (scripts : List (List Command)) (start : SheafData Field) (c i : ℕ) (q : Query) (old : Progress) (sheaf : SheafData Field)
+    (before asked after : List Event) (numbers : List ℕ)
+    → q ≡ queries.Betti → old ≡ record { sheaf = sheaf; events = before }
+    → AreBetti (ops_of old.sheaf.field) old.sheaf.complex old.sheaf.stalks old.sheaf.blocks numbers
+    → asked ≡ before ++ Ask c ∷ [] → after ≡ asked ++ Reply c (replies.Betti numbers) ∷ []
+    → command_at scripts c i ≡ Some (commands.Ask q) → Stands scripts start c i old
+    → Stands scripts start c (i + 1) (record { sheaf = sheaf; events = after })
+answered scripts start c i q old sheaf before asked after numbers is was right e f comes h =
+    let own = λ (p : Progress). AreBetti (ops_of p.sheaf.field) p.sheaf.complex p.sheaf.stalks p.sheaf.blocks numbers in
+    subst (λ es. Stands scripts start c (i + 1) (record { sheaf = sheaf; events = es })) (sym (f ∙ ap (λ es. es ++ Reply c (replies.Betti numbers) ∷ []) e))
+    (answer-step scripts start c i (record { sheaf = sheaf; events = before }) queries.Betti (replies.Betti numbers)
+    (comes ∙ ap (λ k. Some (commands.Ask k)) is) (subst own was right) (subst (Stands scripts start c i) was h))
+
+-- the edit was judged
+pub edited : (scripts : List (List Command)) (start : SheafData Field) (c i : ℕ) (e : Change) (v : Verdict) (old middle : Progress) (new : SheafData Field)
+    (before after : List Event) → middle.events ≡ old.events → IsJudged old.sheaf e.sets v middle.sheaf → middle ≡ record { sheaf = new; events = before }
+    → after ≡ before ++ Edit c v ∷ [] → command_at scripts c i ≡ Some (commands.Change e) → Stands scripts start c i old
+    → Stands scripts start c (i + 1) (record { sheaf = new; events = after })
+edited scripts start c i e v old middle new before after same judged was f comes h =
+    let events : before ≡ old.events = sym (ap (λ (p : Progress). p.events) was) ∙ same in
+    let all : after ≡ old.events ++ Edit c v ∷ [] = f ∙ ap (λ es. es ++ Edit c v ∷ []) events in
+    let sheaf : middle.sheaf ≡ new = ap (λ (p : Progress). p.sheaf) was in
+    subst (λ es. Stands scripts start c (i + 1) (record { sheaf = new; events = es })) (sym all)
+    (judge-step scripts start c i old e v new comes (subst (IsJudged old.sheaf e.sets v) sheaf judged) h)
+
+take_next_known : {X : Type 0} (xs : List X) (i : ℕ) (x : X) → slice_get xs i ≡ Some x → take (i + 1) xs ≡ take i xs ++ x ∷ []
+take_next_known xs i x e = ap (λ k. take k xs) (add-one i) ∙ take-suc xs i x (slice_get_within xs i x e) ∙ ap (λ y. take i xs ++ y ∷ []) (get_or_from_slice_get xs i x x e)
+
+-- the events of one script more
+pub commands-more : (scripts : List (List Command)) (i : ℕ) (script : List Command) (old new : ℕ) → slice_get scripts i ≡ Some script
+    → old ≤ 2 * sum_by length (take i scripts) → new ≤ old + 2 * length script → new ≤ 2 * sum_by length (take (i + 1) scripts)
+commands-more scripts i script old new there before more =
+    omega (arith, before, more, ap (sum_by length) (take_next_known scripts i script there), sum_by-append length (take i scripts) (script ∷ []), sum_by-cons length script [])

@@ -14,7 +14,6 @@ use field_table::Field;
 use io_edge::Sink;
 use reply_text::transcript;
 use sheaf_data::{Draft, Sheaf};
-use sheaf_text::Input;
 use sheaf_words::Command;
 use std::alloc::{AllocError as NoMemory, Global};
 
@@ -95,15 +94,20 @@ fn answer_sheaf<K: Sink>(
     }
 }
 
-/// Does the job with an input; where its draft is no sheaf, writes the first fault.
-pub fn answer<K: Sink>(alloc: Global, job: Job, input: Input, sink: &mut K) -> Status
-    requires { AreServable input.scripts }
-    ensures { Replies (AnswersDraft (IsRight job input.draft input.scripts) input.draft)
+/// Does the job with a draft and the scripts of its clients; where the draft is no sheaf, writes its first fault.
+pub fn answer<K: Sink>(
+    alloc: Global,
+    job: Job,
+    draft: Draft<Field>,
+    scripts: &[Listed<Command>],
+    sink: &mut K,
+) -> Status
+    requires { AreServable scripts.now }
+    ensures { Replies (AnswersDraft (IsRight job draft scripts.now) draft)
         (K.taken sink.old) (K.taken sink.new) (K.flushed sink.new) (K.fault_count sink.old) (K.fault_count sink.new) result }
 {
-    let Input { draft, scripts } = input;
     match draft.seal() {
-        Ok(sheaf) => answer_sheaf(alloc, job, sheaf, scripts.as_slice(), sink),
+        Ok(sheaf) => answer_sheaf(alloc, job, sheaf, scripts, sink),
         Err(refused) => refuse_draft(sink, refused.1),
     }
 }

@@ -16,7 +16,7 @@ pub fn answer_bytes<K: Sink>(alloc: Global, job: Job, bytes: &[u8], sink: &mut K
         (K.taken sink.old) (K.taken sink.new) (K.flushed sink.new) (K.fault_count sink.old) (K.fault_count sink.new) result }
 {
     match read(alloc, bytes) {
-        Ok(input) => answer(alloc, job, input, sink),
+        Ok(input) => answer(alloc, job, input.draft, input.scripts.as_slice(), sink),
         Err(TextFault::BadLine { line, cause }) => refuse_line(sink, line, cause),
         Err(TextFault::Limit { line, which }) => refuse_limit(sink, line, which),
         Err(TextFault::NoMemory) => Status::NoMemory,

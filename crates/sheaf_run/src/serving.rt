@@ -38,18 +38,6 @@ impl Model for Session {
     ghost invariant = { λ s. AreKnown s.sheaf s.numbers };
 }
 
-/// Makes the edit or refuses it; gives the verdict.
-fn judged(alloc: Global, sheaf: &mut Sheaf<Field>, edit: &Edit) -> Result<Verdict, NoMemory>
-    requires { length edit.now.sets ≤ 1000000000 }
-    ensures { OnOk result (λ verdict. IsJudged sheaf.old edit.now.sets verdict sheaf.new) }
-{
-    match apply(alloc, sheaf, edit) {
-        Ok(()) => Ok(Verdict::Accepted),
-        Err(EditFault::Refused(cause)) => Ok(Verdict::Refused(cause)),
-        Err(EditFault::NoMemory) => Err(NoMemory),
-    }
-}
-
 impl Session {
     /// Nothing has happened yet.
     fn new(alloc: Global, sheaf: Sheaf<Field>) -> Session
@@ -76,6 +64,22 @@ impl Session {
         Ok(copy)
     }
 
+    /// Makes the edit, or refuses it; gives the verdict. The numbers stay with the version.
+    fn judged(&mut self, alloc: Global, edit: &Edit) -> Result<Verdict, NoMemory>
+        requires { length edit.now.sets ≤ 1000000000 }
+        ensures events { self.new.events ≡ self.old.events }
+        ensures judged { IfOk result (λ verdict. IsJudged self.old.sheaf edit.now.sets verdict self.new.sheaf) }
+    {
+        match apply(alloc, &mut self.sheaf, edit) {
+            Ok(()) => {
+                self.numbers = None;
+                Ok(Verdict::Accepted)
+            }
+            Err(EditFault::Refused(cause)) => Ok(Verdict::Refused(cause)),
+            Err(EditFault::NoMemory) => Err(NoMemory),
+        }
+    }
+
     /// Judges the edit that the client comes to.
     fn judge(&mut self, alloc: Global, client: u32, edit: &Edit) -> Result<(), NoMemory>
         requires { length edit.now.sets ≤ 1000000000 }
@@ -83,8 +87,7 @@ impl Session {
         ensures stands { OnOk result ((scripts : List (List CommandValue)) (start : SheafData FieldValue) (i : ℕ)
             → command_at scripts client i ≡ Some (Change edit.now) → Stands scripts start client i self.old → Stands scripts start client (i + 1) self.new) }
     {
-        let verdict = judged(alloc, &mut self.sheaf, edit)?;
-        self.numbers = None;
+        let verdict = self.judged(alloc, edit)?;
         self.events.push(Event::Edit { c: client, verdict })?;
         Ok(())
     }
@@ -130,6 +133,13 @@ impl Session {
         }
         Ok(())
     }
+
+    /// What has happened.
+    fn into_events(self) -> Vec<Event>
+        ensures { result.items ≡ self.events }
+    {
+        self.events
+    }
 }
 
 /// What happens where the clients with these scripts are served one after the other, each command to its end, on one sheaf
@@ -149,5 +159,5 @@ pub fn served(
         session.serve_all(alloc, client, script.as_slice())?;
         client += 1;
     }
-    Ok(session.events)
+    Ok(session.into_events())
 }
