@@ -1,5 +1,5 @@
 -- What a transcript counts is what the machine keeps, event by event.
-use Rattle.std.proofs.Common.{◌≡◌, ℕ, zero, suc, ◌+◌, ◌<◌, Bool, true, false, ◌==◌, if◌then◌else◌, List, [], ◌∷◌, ◌++◌, length, take, slice_get, Option, Some, None, refl, sym, ap, ap₂, subst, ◌∙◌, arith, append_assoc, append-nil, length-append}
+use Rattle.std.proofs.Common.{◌≡◌, ℕ, zero, suc, ◌+◌, ◌<◌, Bool, true, false, ◌==◌, if◌then◌else◌, List, [], ◌∷◌, ◌++◌, length, take, slice_get, Option, Some, None, refl, sym, ap, subst, ◌∙◌, arith, append_assoc, append-nil, length-append}
 use Rattle.std.proofs.lemmas.Option.{slice_get_within, same_Some, none-some}
 use Rattle.std.proofs.lemmas.Bool.{eqb-true}
 use Rattle.std.specs.Prelude.{option_and_then}
@@ -9,7 +9,6 @@ use Rattle.sheaf_words.specs.declared.asking.Query.{Query}
 use Rattle.sheaf_words.specs.declared.asking.Query.TheVariants as queries
 use Rattle.sheaf_words.specs.declared.asking.Command.{Command}
 use Rattle.sheaf_words.specs.declared.asking.Command.TheVariants as commands
-use Rattle.sheaf_words.specs.declared.editing.Set.{Set}
 use Rattle.sheaf_words.specs.declared.editing.Verdict.{Verdict}
 use Rattle.sheaf_words.specs.declared.editing.Verdict.TheVariants.{Accepted, Refused}
 use Rattle.sheaf_words.specs.declared.replying.Reply.{Reply as Answer}
@@ -17,10 +16,10 @@ use Rattle.sheaf_words.specs.declared.replying.Reply.TheVariants as replies
 use Rattle.sheaf_words.specs.declared.happening.Event.{Event}
 use Rattle.sheaf_words.specs.declared.happening.Event.TheVariants.{Edit, Ask, Pair, Reply}
 use Rattle.reply_text.specs.Replies.{IsAnswerTo}
-use Rattle.reply_text.specs.Transcripts.{ends_for, asks_for, is_accepted, ended, standing, asked, IfPresent, IsAnswered, IsOf, AreOf}
+use Rattle.reply_text.specs.Transcripts.{ends_for, is_accepted, ended, standing, asked, IfPresent, IsAnswered, IsOf, AreOf}
 use Rattle.reply_text.proofs.Counting.{count-more, asked-more}
-use Rattle.core_machine.specs.Replies.{IsRight}
-use Rattle.core_machine.specs.Machine.{Lane, State, free, waiting, first_state, command_at, with_lane, AreVersionsAfter, EditStep, AskStep, ReplyStep, Step, Leads, Reaches}
+use Rattle.core_machine.specs.Replies.{IsRightReply}
+use Rattle.core_machine.specs.Machine.{Lane, State, free, waiting, first_state, command_at, with_lane, AreVersionsAfter, EditStep, AskStep, ReplyStep, Step, Leads, IsLegal}
 use Rattle.core_machine.specs.Counting.{IsCounted}
 
 -- ---- the lanes after one step
@@ -121,7 +120,7 @@ counted-first : {F : Type 0} (sheaf : SheafData F) → IsCounted [] (first_state
 counted-first sheaf = record { current = refl; positions = λ c. refl; pendings = λ c v e. absurd (none-some v e) }
 
 pub transcripts_count : {F : Type 0} (K : Ops) (scripts : List (List Command)) (sheaf : SheafData F) (events : List Event) (s : State F)
-    → Reaches K scripts sheaf events s → IsCounted events s
+    → IsLegal K scripts sheaf events s → IsCounted events s
 transcripts_count K scripts sheaf events s reaches = counted-from K scripts [] events (first_state sheaf) s reaches (counted-first sheaf)
 
 -- ---- legal events answer the commands
@@ -141,7 +140,7 @@ inside scripts c p command there = go (slice_get scripts c) refl there
     go None e h = absurd (none-some command h)
     go (Some script) e h = slice_get_within scripts c script e
 
-right-answers : {F : Type 0} (K : Ops) (sheaf : SheafData F) (c : ℕ) (q : Query) (r : Answer) → IsRight K sheaf q r → IsAnswerTo (commands.Ask q) (Reply c r)
+right-answers : {F : Type 0} (K : Ops) (sheaf : SheafData F) (c : ℕ) (q : Query) (r : Answer) → IsRightReply K sheaf q r → IsAnswerTo (commands.Ask q) (Reply c r)
 right-answers K sheaf c queries.Betti (replies.Betti numbers) right = tt
 right-answers K sheaf c q r right = absurd right
 
@@ -166,7 +165,7 @@ of-from K scripts earlier (first ∷ events) s t leads h (suc i) event at =
     (of-from K scripts (earlier ++ first ∷ []) events leads.0 t leads.2 (counted-step K scripts earlier first s leads.0 leads.1 h) i event at)
 
 pub events_are_answers : {F : Type 0} (K : Ops) (scripts : List (List Command)) (sheaf : SheafData F) (events : List Event) (s : State F)
-    → Reaches K scripts sheaf events s → AreOf scripts events
+    → IsLegal K scripts sheaf events s → AreOf scripts events
 events_are_answers K scripts sheaf events s reaches i event at = of-from K scripts [] events (first_state sheaf) s reaches (counted-first sheaf) i event at
 
 -- ---- one event more

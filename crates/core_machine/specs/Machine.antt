@@ -13,7 +13,7 @@ use Rattle.sheaf_words.specs.declared.replying.Reply.{Reply as Answer}
 use Rattle.sheaf_words.specs.declared.happening.Event.{Event}
 use Rattle.sheaf_words.specs.declared.happening.Event.TheVariants.{Edit, Ask, Pair, Reply}
 use Rattle.edit_versions.specs.Verdicts.{IsVerdict, IsEdited}
-use Rattle.core_machine.specs.Replies.{IsRight}
+use Rattle.core_machine.specs.Replies.{IsRightReply}
 
 -- ---- states
 
@@ -94,7 +94,7 @@ pub record ReplyStep {F : Type 0} (K : Ops) (scripts : List (List Command)) (c :
   pub is_waiting : s.lanes c ≡ waiting position version
   pub command : command_at scripts c position ≡ Some (commands.Ask query)
   pub asked : slice_get s.sheaves version ≡ Some sheaf
-  pub right : IsRight K sheaf query reply
+  pub right : IsRightReply K sheaf query reply
   pub versions : t.sheaves ≡ s.sheaves
   pub lanes : t.lanes ≡ with_lane s.lanes c (free (position + 1))
 
@@ -113,15 +113,15 @@ Leads K scripts [] s t = s ≡ t
 Leads {F} K scripts (event ∷ events) s t = (m : State F) × Step K scripts event s m × Leads K scripts events m t
 
 -- legal: the events lead from the first state to this one
-abbrev pub Reaches : {F : Type 0} → Ops → List (List Command) → SheafData F → List Event → State F → Type 0
-Reaches K scripts sheaf events t = Leads K scripts events (first_state sheaf) t
+abbrev pub IsLegal : {F : Type 0} → Ops → List (List Command) → SheafData F → List Event → State F → Type 0
+IsLegal K scripts sheaf events t = Leads K scripts events (first_state sheaf) t
 
 -- whole: each client's script is done, and nothing is pending
-abbrev pub IsDone : {F : Type 0} → List (List Command) → State F → Type 0
-IsDone scripts s = (c : ℕ) (script : List Command) → slice_get scripts c ≡ Some script → s.lanes c ≡ free (length script)
+abbrev pub IsWhole : {F : Type 0} → List (List Command) → State F → Type 0
+IsWhole scripts s = (c : ℕ) (script : List Command) → slice_get scripts c ≡ Some script → s.lanes c ≡ free (length script)
 
 -- the events are one legal order of all commands of these scripts on this sheaf, whole
 pub record IsLegalAndWhole {F : Type 0} (K : Ops) (scripts : List (List Command)) (sheaf : SheafData F) (events : List Event) : Type 0 where
   pub last : State F
-  pub legal : Reaches K scripts sheaf events last
-  pub whole : IsDone scripts last
+  pub legal : IsLegal K scripts sheaf events last
+  pub whole : IsWhole scripts last

@@ -13,7 +13,7 @@ use Rattle.io_edge.specs.Bytes.{Took}
 use Rattle.sheaf_run.specs.declared.job.Job.{Job}
 use Rattle.sheaf_run.specs.declared.job.Job.TheVariants.{Solve, Check}
 use Rattle.sheaf_run.specs.declared.status.Status.{Status}
-use Rattle.sheaf_run.specs.declared.status.Status.TheVariants.{Done, ReadFault, WriteFault, NoMemory, BadLine, BadComplex, BadSheaf}
+use Rattle.sheaf_run.specs.declared.status.Status.TheVariants.{Done, ReadFault, WriteFault, NoMemory, BadComplex, BadSheaf}
 use Rattle.sheaf_text.specs.Reading.{Reading, reading}
 use Rattle.sheaf_text.specs.Reading as readings
 use Rattle.sheaf_text.specs.declared.input.Input.{Input}

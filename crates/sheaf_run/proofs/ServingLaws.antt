@@ -1,10 +1,10 @@
 -- Clients that are served one after the other make a legal order.
-use Rattle.std.proofs.Common.{◌≡◌, ℕ, zero, suc, ◌+◌, ◌<◌, ◌≤◌, Bool, true, false, ◌==◌, if◌then◌else◌, nat_lt, List, [], ◌∷◌, ◌++◌, length, slice_get, slice_index_or, take, Option, Some, None, ◌*◌, add-one, refl, sym, ap, ap₂, subst, ◌∙◌, arith, length-append}
+use Rattle.std.proofs.Common.{◌≡◌, ℕ, ◌+◌, ◌≤◌, Bool, true, false, ◌==◌, if◌then◌else◌, nat_lt, List, [], ◌∷◌, ◌++◌, length, slice_get, slice_index_or, take, Some, ◌*◌, add-one, refl, sym, ap, ap₂, subst, ◌∙◌, arith, length-append}
 use Rattle.std.specs.Prelude.{sum_by}
 use Rattle.std.proofs.Math.Seq.{take-suc}
 use Rattle.std.proofs.lemmas.List.Sums.{sum_by-append, sum_by-cons}
 use Rattle.std.proofs.lemmas.Option.{slice_get_within, get_or_from_slice_get}
-use Rattle.std.proofs.lemmas.Bool.{eqb-true, eqb-false, eq-eqb, ne_eqb, ltb-true, ltb-false, lt-ltb, le-ltb}
+use Rattle.std.proofs.lemmas.Bool.{eqb-true, eqb-false, eq-eqb, ltb-true, ltb-false, lt-ltb, le-ltb}
 use Rattle.dense_blocks.specs.Field.{Ops}
 use Rattle.field_table.specs.declared.field.Field.{Field}
 use Rattle.field_table.specs.Table.{ops_of}
@@ -22,8 +22,8 @@ use Rattle.sheaf_words.specs.declared.replying.Reply.TheVariants as replies
 use Rattle.sheaf_words.specs.declared.happening.Event.{Event}
 use Rattle.sheaf_words.specs.declared.happening.Event.TheVariants.{Edit, Ask, Reply}
 use Rattle.edit_versions.specs.Verdicts.{IsVerdict, IsEdited}
-use Rattle.core_machine.specs.Replies.{IsRight}
-use Rattle.core_machine.specs.Machine.{Lane, State, free, waiting, first_state, command_at, with_lane, IsCurrentSheaf, AreVersionsAfter, EditStep, AskStep, ReplyStep, Reaches, IsDone, IsLegalAndWhole}
+use Rattle.core_machine.specs.Replies.{IsRightReply}
+use Rattle.core_machine.specs.Machine.{Lane, State, free, waiting, first_state, command_at, with_lane, IsCurrentSheaf, EditStep, AskStep, ReplyStep, IsLegalAndWhole}
 use Rattle.core_machine.proofs.CountLaws.{leads-more}
 use Rattle.sheaf_run.specs.Serving.{Progress, IsSheafAfter, IsJudged, done, Stands}
 
@@ -127,7 +127,7 @@ judge-step scripts start c i p e v new comes judged h = go v judged.after judged
 
 -- the client's question is asked, and answered
 pub answer-step : (scripts : List (List Command)) (start : SheafData Field) (c i : ℕ) (p : Progress) (q : Query) (r : Answer)
-    → command_at scripts c i ≡ Some (commands.Ask q) → IsRight (ops_of p.sheaf.field) p.sheaf q r → Stands scripts start c i p
+    → command_at scripts c i ≡ Some (commands.Ask q) → IsRightReply (ops_of p.sheaf.field) p.sheaf q r → Stands scripts start c i p
     → Stands scripts start c (i + 1) (record { sheaf = p.sheaf; events = (p.events ++ Ask c ∷ []) ++ Reply c r ∷ [] })
 answer-step scripts start c i p q r comes right h =
     let K : Ops = ops_of start.field in
@@ -147,7 +147,7 @@ answer-step scripts start c i p q r comes right h =
       is_waiting = ap (λ b. if b then waiting i v else h.state.lanes c) (eq-eqb c c refl);
       command = comes;
       asked = h.current.2;
-      right = subst (λ f. IsRight (ops_of f) p.sheaf q r) h.field right;
+      right = subst (λ f. IsRightReply (ops_of f) p.sheaf q r) h.field right;
       versions = refl;
       lanes = refl;
     } in record {

@@ -1,5 +1,5 @@
 -- Clients that are served one after the other, on one sheaf that their edits change.
-use Rattle.std.specs.Prelude.{◌≡◌, ℕ, ◌+◌, ◌==◌, List, [], Option, IfSome, length, nat_lt, slice_index_or, if◌then◌else◌}
+use Rattle.std.specs.Prelude.{◌≡◌, ℕ, ◌==◌, List, [], Option, IfSome, length, nat_lt, slice_index_or, if◌then◌else◌}
 use Rattle.field_table.specs.declared.field.Field.{Field}
 use Rattle.field_table.specs.Table.{ops_of}
 use Rattle.sheaf_data.specs.Sheaves.{SheafData}
@@ -10,7 +10,7 @@ use Rattle.sheaf_words.specs.declared.editing.Verdict.{Verdict}
 use Rattle.sheaf_words.specs.declared.editing.Verdict.TheVariants.{Accepted, Refused}
 use Rattle.sheaf_words.specs.declared.happening.Event.{Event}
 use Rattle.edit_versions.specs.Verdicts.{IsVerdict, IsEdited}
-use Rattle.core_machine.specs.Machine.{State, Lane, free, Reaches, IsCurrentSheaf}
+use Rattle.core_machine.specs.Machine.{State, free, IsLegal, IsCurrentSheaf}
 
 -- the current sheaf, and what has happened
 pub record Progress : Type 0 where
@@ -38,7 +38,7 @@ done scripts c i d = if nat_lt d c then length (slice_index_or scripts d []) els
 -- from the start sheaf the events lead to the sheaf; the clients before c are done, c has done i commands, the others none
 pub record Stands (scripts : List (List Command)) (start : SheafData Field) (c i : ℕ) (p : Progress) : Type 0 where
   pub state : State Field
-  pub legal : Reaches (ops_of start.field) scripts start p.events state
+  pub legal : IsLegal (ops_of start.field) scripts start p.events state
   pub current : IsCurrentSheaf state p.sheaf
   pub field : p.sheaf.field ≡ start.field
   pub lanes : (d : ℕ) → state.lanes d ≡ free (done scripts c i d)
