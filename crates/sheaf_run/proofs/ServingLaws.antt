@@ -92,7 +92,9 @@ judge-step scripts start c i p e v new comes judged h = go v judged.after judged
         let right : IsEdited K p.sheaf e.sets new = subst (λ f. IsEdited (ops_of f) p.sheaf e.sets new) h.field edited in
         let after : State Field = record { sheaves = h.state.sheaves ++ new ∷ []; lanes = lanes } in
         let step : EditStep K scripts c Accepted h.state after = record {
-          position = i; edit = e; sheaf = p.sheaf;
+          position = i;
+          edit = e;
+          sheaf = p.sheaf;
           is_free = h.lanes c ∙ ap free (done-here scripts c i);
           command = comes;
           current = h.current;
@@ -110,7 +112,9 @@ judge-step scripts start c i p e v new comes judged h = go v judged.after judged
         let K : Ops = ops_of start.field in
         let after : State Field = record { sheaves = h.state.sheaves; lanes = lanes } in
         let step : EditStep K scripts c (Refused cause) h.state after = record {
-          position = i; edit = e; sheaf = p.sheaf;
+          position = i;
+          edit = e;
+          sheaf = p.sheaf;
           is_free = h.lanes c ∙ ap free (done-here scripts c i);
           command = comes;
           current = h.current;
@@ -135,7 +139,9 @@ answer-step scripts start c i p q r comes right h =
     let asking : State Field = record { sheaves = h.state.sheaves; lanes = with_lane h.state.lanes c (waiting i v) } in
     let after : State Field = record { sheaves = h.state.sheaves; lanes = with_lane asking.lanes c (free (i + 1)) } in
     let ask : AskStep scripts c h.state asking = record {
-      position = i; query = q; version = v;
+      position = i;
+      query = q;
+      version = v;
       is_free = h.lanes c ∙ ap free (done-here scripts c i);
       command = comes;
       current = h.current.1;
@@ -143,7 +149,10 @@ answer-step scripts start c i p q r comes right h =
       lanes = refl;
     } in
     let reply : ReplyStep K scripts c r asking after = record {
-      position = i; query = q; version = v; sheaf = p.sheaf;
+      position = i;
+      query = q;
+      version = v;
+      sheaf = p.sheaf;
       is_waiting = ap (λ b. if b then waiting i v else h.state.lanes c) (eq-eqb c c refl);
       command = comes;
       asked = h.current.2;

@@ -70,12 +70,7 @@ fn answers(rt: HostRuntime) -> Result<(), Fail> {
             Status::BadLine,
             b"bad line 5 entry\n".as_slice(),
         ),
-        (
-            "solve",
-            TWO_CLIENTS,
-            Status::Done,
-            TWO_TRANSCRIPTS,
-        ),
+        ("solve", TWO_CLIENTS, Status::Done, TWO_TRANSCRIPTS),
         (
             "check",
             b"field 2\ncell 0 17\n".as_slice(),

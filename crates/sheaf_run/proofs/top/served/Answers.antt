@@ -27,7 +27,7 @@ returns-in-Some-clause-served g c asks done =
     let job : c.in-Some.job ≡ Solve = same_Some c.in-Some.job Solve (c.in-Some.ensures ∙ asks) in
     serves left (taken c.args.sink.now) (taken c.answer_source.new.sink) (g.K.Sink.flushed c.answer_source.new.sink) c.answer_source.result
     (subst (λ (j : Job). Answered (λ bytes. AnswersReading j (reading bytes)) left (taken c.args.sink.now) (taken c.answer_source.new.sink)
-        (g.K.Sink.flushed c.answer_source.new.sink) c.answer_source.result) job answered) done
+    (g.K.Sink.flushed c.answer_source.new.sink) c.answer_source.result) job answered) done
 
 pub returns-in-Some-clause-exact : goal.returns-in-Some-clause-exact
 returns-in-Some-clause-exact g c h =
