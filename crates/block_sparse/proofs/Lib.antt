@@ -1,0 +1,5 @@
+pub mod Windows
+pub mod GridLaws
+pub mod RemovalLaws
+pub mod LiveLaws
+pub mod CompareLaws

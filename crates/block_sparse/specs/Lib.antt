@@ -1,0 +1,5 @@
+pub mod BlockComplexes
+pub mod Grids
+pub mod Invariants
+pub mod Fresh
+pub mod Lists
