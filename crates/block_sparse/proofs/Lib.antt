@@ -3,3 +3,4 @@ pub mod GridLaws
 pub mod RemovalLaws
 pub mod LiveLaws
 pub mod CompareLaws
+pub mod OpenLaws

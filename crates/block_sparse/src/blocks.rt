@@ -3,10 +3,12 @@ ghost use Rattle.rising_lists.specs.Rising.{IsRising, has, keys, entry_of};
 ghost use Rattle.dense_blocks.specs.Blocks.{matrix_of};
 ghost use Rattle.block_sparse.specs.BlockComplexes.{AreLive, Fits, StandsAt, cells, degree_of, size_of, total_size, held, flag_of, with_flag};
 ghost use Rattle.block_sparse.specs.Grids.{width, part, placed, AreSized};
+ghost use Rattle.block_sparse.specs.Open.{FirstFrom, FirstPair};
+ghost use Rattle.block_sparse.specs.Candidates.{is_candidate};
 ghost use Rattle.block_sparse.specs.Lists.{with_block, with_blocks};
 
+use crate::columns::Columns;
 use crate::fresh::{fresh_columns, fresh_rows};
-use crate::mark::Mark;
 use dense_blocks::Block;
 use rising_lists::Lines;
 use std::alloc::{AllocError as NoMemory, Global};
@@ -20,7 +22,7 @@ use std::marker::Model;
 pub struct Blocks {
     live: Vec<(u32, u8, u8)>,
     rows: Lines<Block>,
-    columns: Lines<Mark>,
+    columns: Columns,
 }
 
 impl Model for Blocks {
@@ -58,7 +60,7 @@ impl Blocks {
         Ok(Blocks {
             live: Vec::from_slice(alloc, live)?,
             rows: Lines::of_cells(alloc, &cells)?,
-            columns: Lines::of_cells(alloc, &cells)?,
+            columns: Columns::of_cells(alloc, &cells)?,
         })
     }
 
@@ -121,6 +123,26 @@ impl Blocks {
         self.columns.cells(x)
     }
 
+    /// The first cell `t` at or after `from` to which a square block without a flag goes from the cell `x`; none exactly where there
+    /// is no such cell.
+    ///
+    /// Takes one step where none goes from `x`, or the first of all at or after `from`; else one for each block that it passes.
+    pub fn next_open(&self, x: u32, from: u32) -> Option<u32>
+        ensures { FirstFrom (λ t. is_candidate self.now x t) from result }
+    {
+        self.columns.next_open(x, from)
+    }
+
+    /// The first square block without a flag that comes from a cell after `x`: the cell that it comes from, and the first to which
+    /// one goes from there; none exactly where there is no such block.
+    ///
+    /// Takes one search, and one step for each cell that it passes.
+    pub fn first_open_after(&self, x: u32) -> Option<(u32, u32)>
+        ensures { FirstPair (is_candidate self.now) x result }
+    {
+        self.columns.first_open_after(x)
+    }
+
     /// Sets the flag of the block that stands from `s` to `t`.
     pub fn flag(&mut self, s: u32, t: u32)
         requires { is_some (held self.old s t) ≡ true }
@@ -128,14 +150,7 @@ impl Blocks {
         ensures held { (p q : ℕ) → held self.new p q ≡
             (if p == s && q == t then with_flag (held self.old s t) else held self.old p q) }
     {
-        if let Some(mark) = self.columns.get(s, t) {
-            let square = mark.square;
-            let flagged = Mark {
-                flagged: true,
-                square,
-            };
-            self.columns.put(s, t, flagged);
-        }
+        self.columns.flag(s, t);
     }
 
     /// Takes the cell and its blocks away; all else stays.
@@ -274,7 +289,7 @@ impl Blocks {
 }
 
 /// Takes the blocks of a cell away: those that come from it, and those that go to it.
-fn clear(rows: &mut Lines<Block>, columns: &mut Lines<Mark>, c: u32)
+fn clear(rows: &mut Lines<Block>, columns: &mut Columns, c: u32)
     requires { (s t : ℕ) → is_some (entry_of columns.old s t) ≡ is_some (entry_of rows.old t s) }
     ensures row_cells { rows.new.cells ≡ rows.old.cells }
     ensures column_cells { columns.new.cells ≡ columns.old.cells }

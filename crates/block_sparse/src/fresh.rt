@@ -4,6 +4,7 @@ ghost use Rattle.dense_blocks.specs.Blocks.{matrix_of};
 ghost use Rattle.block_sparse.specs.Grids.{width};
 ghost use Rattle.block_sparse.specs.Fresh.{IsFreshRow, IsFreshColumn, AreFreshRows, AreFreshColumns};
 
+use crate::columns::Columns;
 use crate::mark::Mark;
 use crate::parts::{column_marks, row_parts};
 use dense_blocks::Block;
@@ -75,7 +76,7 @@ pub(crate) fn fresh_rows(
 /// The columns of the cells on the left once a joined matrix has come in.
 pub(crate) fn fresh_columns(
     alloc: Global,
-    columns: &Lines<Mark>,
+    columns: &Columns,
     left: &[(u32, u8)],
     below: &[(u32, u8)],
     joined: &Block,

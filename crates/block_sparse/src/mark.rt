@@ -15,3 +15,15 @@ impl Duplicate for Mark {
         Ok(*self)
     }
 }
+
+/// What is known of a column: the cell of its first block that is square and has no flag.
+#[derive(Clone, Copy, Debug)]
+pub(crate) struct First {
+    pub cell: Option<u32>,
+}
+
+impl Duplicate for First {
+    fn duplicate(&self, _alloc: Global) -> Result<First, NoMemory> {
+        Ok(*self)
+    }
+}

@@ -1,9 +1,9 @@
-ghost use Rattle.std.specs.Prelude.{◌≡◌, ◌==◌, ◌≤◌, ℕ, [], None, Some, if◌then◌else◌, length, option_copied, option_map, OnOk, IfOk};
+ghost use Rattle.std.specs.Prelude.{◌≡◌, ◌==◌, ◌<◌, ◌≤◌, ℕ, [], None, Some, if◌then◌else◌, length, replicate, slice_index, option_copied, option_map, OnOk, IfOk};
 ghost use Rattle.rising_lists.specs.Rising.{IsRising, IsLine, has, keys, look, entry, updated};
 
 use crate::duplicate::Duplicate;
 use crate::merging::{append, is_listed, next_cell, next_value, past, past_listed};
-use crate::places::place;
+use crate::places::{count_below, place};
 use std::alloc::{AllocError as NoMemory, Global};
 use std::marker::Model;
 
@@ -60,6 +60,15 @@ impl<T> Line<T> {
             None => None,
         }
     }
+
+    /// How many of the cells are below `c`.
+    pub fn count_below(&self, c: u32) -> usize
+        ensures within { result ≤ length self.now.cells }
+        ensures below { (i : ℕ) → i < result → slice_index self.now.cells i < c }
+        ensures from { (i : ℕ) → result ≤ i → i < length self.now.cells → c ≤ slice_index self.now.cells i }
+    {
+        count_below(&self.cells, c)
+    }
 }
 
 impl<T: Drop> Line<T> {
@@ -85,6 +94,22 @@ impl<T: Drop> Line<T> {
 }
 
 impl<T: Duplicate> Line<T> {
+    /// The same value at each of these cells.
+    pub fn filled(alloc: Global, cells: &[u32], value: &T) -> Result<Line<T>, NoMemory>
+        requires { IsRising cells.now }
+        ensures cells { IfOk result (λ l. l.cells ≡ cells.now) }
+        ensures values { IfOk result (λ l. l.values ≡ replicate (length cells.now) value.now) }
+    {
+        let mut values = Vec::with_capacity(alloc, cells.len())?;
+        for _cell in cells {
+            values.push(value.duplicate(alloc)?)?;
+        }
+        Ok(Line {
+            cells: Vec::from_slice(alloc, cells)?,
+            values,
+        })
+    }
+
     /// An equal line.
     pub fn copy(&self, alloc: Global) -> Result<Line<T>, NoMemory>
         ensures { IfOk result (λ l. l ≡ self.now) }

@@ -1,4 +1,4 @@
-ghost use Rattle.std.specs.Prelude.{◌≡◌, ◌==◌, ◌&&◌, ℕ, true, [], None, if◌then◌else◌, length, is_some, option_copied, option_map, unwrap_or, IfOk};
+ghost use Rattle.std.specs.Prelude.{◌≡◌, ◌==◌, ◌&&◌, ℕ, true, false, [], None, if◌then◌else◌, length, is_some, option_copied, option_map, unwrap_or, IfOk, MatchOption};
 ghost use Rattle.rising_lists.specs.Rising.{IsRising, IsLine, has, keys, look, line_of, entry_of};
 
 use crate::duplicate::Duplicate;
@@ -48,6 +48,16 @@ impl<T: Drop> Lines<T> {
     {
         let at = place(&self.cells, c).unwrap();
         &self.lines[at]
+    }
+
+    /// The line of a cell; none where it has none.
+    pub fn find_line(&self, c: u32) -> Option<&Line<T>>
+        ensures { MatchOption result (has c self.now.cells ≡ false) (λ l. l.now ≡ line_of self.now c) }
+    {
+        match place(&self.cells, c) {
+            Some(at) => Some(&self.lines[at]),
+            None => None,
+        }
     }
 
     /// The cells of the line of a cell, rising; none where it has no line.
