@@ -108,6 +108,8 @@ fn clears_flags(rt: HostRuntime) -> Result<(), NoMemory> {
     let mut circle = circle(&rt, rt.alloc())?;
     flag(&rt, &mut circle, 0, 3);
     flag(&rt, &mut circle, 1, 3);
+    assert!(rt; circle.next_open(0, 0) == Some(5) && circle.next_open(1, 4) == Some(4));
+    assert!(rt; circle.first_open_after(0) == Some((1, 4)));
     put(&rt, rt.alloc(), &mut circle, (0, 3, 1))?;
     assert!(rt; !circle.flagged(0, 3) && circle.flagged(1, 3));
     assert!(rt; stands(&circle, 0, 3, &[1]));

@@ -1,4 +1,4 @@
-use Rattle.std.proofs.Common.{◌≡◌, ◌<◌, ◌≤◌, ℕ, arith, Err}
+use Rattle.std.proofs.Common.{arith, Err}
 use Rattle.std.proofs.lemmas.List.Sorted.{searched}
 use Rattle.rising_lists.proofs.Keyed.{rising_le}
 use Rattle.rising_lists.proofs.places.count_below.Goals as goal
