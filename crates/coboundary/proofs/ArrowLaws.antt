@@ -21,7 +21,7 @@ use Rattle.cochain_vec.proofs.CoboundaryLaws.{RowsInto, applied-rows}
 use Rattle.cochain_vec.proofs.PathLaws.{arrows_from}
 use Rattle.sheaf_data.specs.Betti.{signed, arrow_of_face, arrows_of}
 
-eqb-sym : (a b : ℕ) → eqb a b ≡ eqb b a
+pub eqb-sym : (a b : ℕ) → eqb a b ≡ eqb b a
 eqb-sym a b = go (eqb a b) (eqb b a) refl refl
   where
     go : (x y : Bool) → eqb a b ≡ x → eqb b a ≡ y → x ≡ y
@@ -31,10 +31,10 @@ eqb-sym a b = go (eqb a b) (eqb b a) refl refl
     go false false e f = refl
 
 -- where the head fails the test, what is found lies behind it; where it passes, the head is found
-find-behind : {X : Type 0} (p : X → Bool) (x : X) (xs : List X) → p x ≡ false → find p (x ∷ xs) ≡ find p xs
+pub find-behind : {X : Type 0} (p : X → Bool) (x : X) (xs : List X) → p x ≡ false → find p (x ∷ xs) ≡ find p xs
 find-behind p x xs e = ap (λ b. cond b (Some x) (find p xs)) e
 
-at_place-behind : {X Y : Type 0} (p : X → Bool) (x : X) (xs : List X) (y : Y) (ys : List Y) → p x ≡ false
+pub at_place-behind : {X Y : Type 0} (p : X → Bool) (x : X) (xs : List X) (y : Y) (ys : List Y) → p x ≡ false
     → option_and_then (slice_get (y ∷ ys)) (position p (x ∷ xs)) ≡ option_and_then (slice_get ys) (position p xs)
 at_place-behind {X} {Y} p x xs y ys e =
     ap (λ b. option_and_then (slice_get (y ∷ ys)) (cond (nat_lt (cond (not b) (1 + n) 0) (suc (length xs))) (Some (cond (not b) (1 + n) 0)) None)) e
@@ -52,7 +52,7 @@ at_place-behind {X} {Y} p x xs y ys e =
     go true e = ap (λ c. option_and_then (slice_get (y ∷ ys)) (cond c (Some (suc n)) None)) (lt-ltb (suc n) (suc (length xs)) (omega (arith, ltb-true n (length xs) e)))
     go false e = ap (λ c. option_and_then (slice_get (y ∷ ys)) (cond c (Some (suc n)) None)) (le-ltb (suc n) (suc (length xs)) (omega (arith, ltb-false n (length xs) e)))
 
-at_place-front : {X Y : Type 0} (p : X → Bool) (x : X) (xs : List X) (y : Y) (ys : List Y) → p x ≡ true
+pub at_place-front : {X Y : Type 0} (p : X → Bool) (x : X) (xs : List X) (y : Y) (ys : List Y) → p x ≡ true
     → option_and_then (slice_get (y ∷ ys)) (position p (x ∷ xs)) ≡ Some y
 at_place-front {X} p x xs y ys e =
     ap (λ b. option_and_then (slice_get (y ∷ ys)) (cond (nat_lt (cond (not b) (1 + position_or_len p xs) 0) (suc (length xs))) (Some (cond (not b) (1 + position_or_len p xs) 0)) None)) e

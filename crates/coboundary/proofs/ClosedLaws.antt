@@ -34,7 +34,7 @@ use Rattle.coboundary.proofs.ArrowLaws.{between-none, between-face, all-arrows}
 use Rattle.coboundary.proofs.MiddleLaws.{signed_vector, signed-matrix, signed-twice, opposite-cancel, has_arrow}
 
 -- what holds of the cell at each place holds of all numbered cells
-all-numbered : (P : Cell → Type 0) (n : ℕ) (dims stalks : List ℕ) → length stalks ≡ length dims
+pub all-numbered : (P : Cell → Type 0) (n : ℕ) (dims stalks : List ℕ) → length stalks ≡ length dims
     → ((i : ℕ) → i < length dims → P (record { cell = n + i; degree = slice_index dims i; size = slice_index stalks i })) → All P (numbered n dims stalks)
 all-numbered P n [] stalks e h = λ k d l. absurd (omega arith)
 all-numbered P n (d ∷ dims) [] e h = absurd (omega arith)

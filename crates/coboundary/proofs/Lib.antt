@@ -1,3 +1,6 @@
 pub mod ArrowLaws
 pub mod MiddleLaws
 pub mod ClosedLaws
+pub mod StartLaws
+pub mod LiveLaws
+pub mod PutLaws

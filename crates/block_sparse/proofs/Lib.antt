@@ -1,0 +1,6 @@
+pub mod Windows
+pub mod GridLaws
+pub mod RemovalLaws
+pub mod LiveLaws
+pub mod CompareLaws
+pub mod OpenLaws

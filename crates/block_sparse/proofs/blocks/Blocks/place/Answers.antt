@@ -1,0 +1,26 @@
+use Rattle.std.proofs.Common.{◌≡◌, ◌≤◌, ◌*◌, ℕ, ap, ◌∙◌, sym, subst, List, ◌∷◌, [], arith}
+use Rattle.dense_blocks.specs.Blocks.{matrix_of}
+use Rattle.dense_blocks.proofs.Cutting.{Sized}
+use Rattle.block_sparse.specs.BlockComplexes.{held, size_of}
+use Rattle.block_sparse.specs.Grids.{part, placed}
+use Rattle.block_sparse.proofs.GridLaws.{at_pair, part-whole}
+use Rattle.block_sparse.proofs.Windows.{sized-cut}
+use Rattle.block_sparse.proofs.blocks.Blocks.place.Goals as goal
+
+pub returns-clause-held : goal.returns-clause-held
+returns-clause-held c = λ p q.
+    let b = c.args.b.now in
+    let s : ℕ = c.args.s in
+    let t : ℕ = c.args.t in
+    let m : ℕ = c.size_in-from.result in
+    let n : ℕ = c.size_in-to.result in
+    let A = matrix_of b in
+    let left : List (ℕ × ℕ) = (s, m) ∷ [] in
+    let below : List (ℕ × ℕ) = (t, n) ∷ [] in
+    let rows : b.rows ≡ n = c.requires.rows ∙ sym (c.size_in-to.ensures ∙ ap (λ l. size_of l t) c.live-2.ensures.live) in
+    let cols : b.cols ≡ m = c.requires.cols ∙ sym (c.size_in-from.ensures ∙ ap (λ l. size_of l s) c.live.ensures.live) in
+    let whole : Sized b.rows b.cols A = sized-cut b.rows b.cols b.entries (omega (arith, b.full)) in
+    let sized : Sized n m A = subst (λ k. Sized n k A) cols (subst (λ k. Sized k b.cols A) rows whole) in
+    c.in_ok-set_grid.ensures.held p q
+    ∙ at_pair s t p q (placed (part left below A p q)) (placed A) (held c.args.self.now p q)
+    (λ e f. ap (λ x. placed (part left below A x q)) e ∙ ap (λ y. placed (part left below A s y)) f ∙ ap placed (part-whole s t m n A sized))

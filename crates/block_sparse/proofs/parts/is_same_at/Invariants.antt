@@ -1,0 +1,7 @@
+use Rattle.std.proofs.Common.{◌≡◌, ◌<◌, ℕ, [], get_or}
+use Rattle.dense_blocks.specs.Blocks.{matrix_of}
+use Rattle.block_sparse.specs.Grids.{window}
+use Rattle.block_sparse.proofs.parts.is_same_at.Given as goal
+
+abbrev pub invariant-loop-i : goal.invariant-loop-i
+invariant-loop-i l = (k : ℕ) → k < l.i → get_or (matrix_of l.b) k [] ≡ get_or (window l.row l.height l.col l.width (matrix_of l.joined)) k []

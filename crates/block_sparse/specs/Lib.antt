@@ -1,0 +1,7 @@
+pub mod BlockComplexes
+pub mod Grids
+pub mod Invariants
+pub mod Fresh
+pub mod Lists
+pub mod Open
+pub mod Candidates

@@ -1,0 +1,3 @@
+pub mod Keyed
+pub mod MergeLaws
+pub mod LineLaws

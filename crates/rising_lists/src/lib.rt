@@ -1,0 +1,14 @@
+//! Rising lists of cells with values beside them, and merges of such lists in linear time.
+#![tactic(auto)]
+
+mod duplicate;
+mod line;
+mod lines;
+mod merging;
+mod places;
+#[cfg(test)]
+mod tests;
+
+pub use duplicate::Duplicate;
+pub use line::Line;
+pub use lines::Lines;

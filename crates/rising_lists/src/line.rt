@@ -1,0 +1,157 @@
+ghost use Rattle.std.specs.Prelude.{◌≡◌, ◌==◌, ◌<◌, ◌≤◌, ℕ, [], None, Some, if◌then◌else◌, length, replicate, slice_index, option_copied, option_map, OnOk, IfOk};
+ghost use Rattle.rising_lists.specs.Rising.{IsRising, IsLine, has, keys, look, entry, updated};
+
+use crate::duplicate::Duplicate;
+use crate::merging::{append, is_listed, next_cell, next_value, past, past_listed};
+use crate::places::{count_below, place};
+use std::alloc::{AllocError as NoMemory, Global};
+use std::marker::Model;
+
+/// Values by cell: cells in rising order, and beside each its value.
+#[derive(Debug, Drop)]
+pub struct Line<T> {
+    cells: Vec<u32>,
+    values: Vec<T>,
+}
+
+impl<T> Model for Line<T> {
+    ghost use Rattle.rising_lists.specs.Rising.{ByCell, IsLine};
+
+    ghost Value = { ByCell T };
+
+    ghost view = { λ l. record { cells = l.cells.items; values = l.values.items } };
+
+    ghost invariant = { λ l. IsLine {A = T} (record { cells = l.cells.items; values = l.values.items }) };
+}
+
+impl<T> Line<T> {
+    /// No cells; takes no memory.
+    pub fn new(alloc: Global) -> Line<T>
+        ensures { result ≡ record { cells = []; values = [] } }
+    {
+        Line {
+            cells: Vec::new(alloc),
+            values: Vec::new(alloc),
+        }
+    }
+
+    /// The cells, rising.
+    pub fn cells(&self) -> &[u32]
+        ensures cells { result.now ≡ self.now.cells }
+        ensures line { IsLine self.now }
+    {
+        &self.cells
+    }
+
+    /// The values, in order of cells.
+    pub fn values(&self) -> &[T]
+        ensures values { result.now ≡ self.now.values }
+        ensures line { IsLine self.now }
+    {
+        &self.values
+    }
+
+    /// The value at a cell.
+    pub fn get(&self, c: u32) -> Option<&T>
+        ensures { option_copied result ≡ entry self.now c }
+    {
+        match place(&self.cells, c) {
+            Some(at) => Some(&self.values[at]),
+            None => None,
+        }
+    }
+
+    /// How many of the cells are below `c`.
+    pub fn count_below(&self, c: u32) -> usize
+        ensures within { result ≤ length self.now.cells }
+        ensures below { (i : ℕ) → i < result → slice_index self.now.cells i < c }
+        ensures from { (i : ℕ) → result ≤ i → i < length self.now.cells → c ≤ slice_index self.now.cells i }
+    {
+        count_below(&self.cells, c)
+    }
+}
+
+impl<T: Drop> Line<T> {
+    /// Puts another value at a cell that has one; does nothing at other cells.
+    pub fn put(&mut self, c: u32, value: T)
+        ensures { (q : ℕ) → entry self.new q ≡
+            (if q == c then option_map (λ _. value) (entry self.old c) else entry self.old q) }
+    {
+        if let Some(at) = place(&self.cells, c) {
+            self.values[at] = value;
+        }
+    }
+
+    /// Takes a cell out with its value, where it is in.
+    pub fn remove(&mut self, c: u32)
+        ensures { (q : ℕ) → entry self.new q ≡ (if q == c then None else entry self.old q) }
+    {
+        if let Some(at) = place(&self.cells, c) {
+            self.cells.remove(at);
+            let _value = self.values.remove(at);
+        }
+    }
+}
+
+impl<T: Duplicate> Line<T> {
+    /// The same value at each of these cells.
+    pub fn filled(alloc: Global, cells: &[u32], value: &T) -> Result<Line<T>, NoMemory>
+        requires { IsRising cells.now }
+        ensures cells { IfOk result (λ l. l.cells ≡ cells.now) }
+        ensures values { IfOk result (λ l. l.values ≡ replicate (length cells.now) value.now) }
+    {
+        let mut values = Vec::with_capacity(alloc, cells.len())?;
+        for _cell in cells {
+            values.push(value.duplicate(alloc)?)?;
+        }
+        Ok(Line {
+            cells: Vec::from_slice(alloc, cells)?,
+            values,
+        })
+    }
+
+    /// An equal line.
+    pub fn copy(&self, alloc: Global) -> Result<Line<T>, NoMemory>
+        ensures { IfOk result (λ l. l ≡ self.now) }
+    {
+        let mut values = Vec::with_capacity(alloc, self.values.len())?;
+        for value in &self.values {
+            values.push(value.duplicate(alloc)?)?;
+        }
+        Ok(Line {
+            cells: Vec::from_slice(alloc, &self.cells)?,
+            values,
+        })
+    }
+
+    /// The line once the listed cells have got fresh values, or none; the others keep what they have.
+    ///
+    /// Takes one step for each cell of the line and each listed cell.
+    pub fn merged(
+        &self,
+        alloc: Global,
+        listed: &[(u32, u8)],
+        fresh: Vec<Option<T>>,
+    ) -> Result<Line<T>, NoMemory>
+        requires rising { IsRising (keys listed.now) }
+        requires full { length fresh.items ≡ length listed.now }
+        ensures { IfOk result (λ l. (q : ℕ) → entry l q ≡ updated (keys listed.now) fresh.items (entry self.now q) q) }
+    {
+        let old = self.cells.as_slice();
+        let room = old.len().saturating_add(listed.len());
+        let mut cells = Vec::with_capacity(alloc, room)?;
+        let mut values = Vec::with_capacity(alloc, room)?;
+        let mut left = fresh.into_iter();
+        let mut i = 0;
+        let mut j = 0;
+        while i < old.len() || j < listed.len() {
+            let c = next_cell(old, i, listed, j);
+            let is_listed = is_listed(listed, j, c);
+            let value = next_value(alloc, is_listed, &mut left, &self.values, i)?;
+            append(&mut cells, &mut values, c, value)?;
+            i = past(old, i, c);
+            j = past_listed(listed, j, c);
+        }
+        Ok(Line { cells, values })
+    }
+}
