@@ -3,3 +3,4 @@ pub mod Grids
 pub mod Invariants
 pub mod Fresh
 pub mod Lists
+pub mod Cochains

@@ -5,6 +5,7 @@
 //! applies the blocks to a cochain, joins or compares blocks of several rows and columns, or looks for blocks without a flag.
 #![tactic(auto)]
 
+mod applying;
 mod blocks;
 mod comparing;
 mod fresh;
