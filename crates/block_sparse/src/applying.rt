@@ -36,7 +36,7 @@ impl Blocks {
     pub fn is_over<F: Scalars>(&self, f: &F) -> bool
         ensures { IsTrue result ↔ IsOver (F.ops f.now) self.now }
     {
-        self.live().iter().all(|l| self.row_is_over(f, l.0))
+        self.rows_are_over(f, self.live())
     }
 
     /// The coboundary of a cochain of degree `k`: its coordinates at the live cells of degree `k + 1`, in order.
@@ -141,11 +141,25 @@ impl Blocks {
         Ok(())
     }
 
+    /// Whether the blocks that go to these cells have scalars of the field.
+    fn rows_are_over<F: Scalars>(&self, f: &F, to: &[(u32, u8, u8)]) -> bool
+        ensures { IsTrue result ↔ All (λ l. (s : ℕ) → All (AllScalars (F.ops f.now)) (matrix self.now s l.0)) to.now }
+    {
+        to.iter().all(|l| self.row_is_over(f, l.0))
+    }
+
     /// Whether the blocks that go to `t` have scalars of the field.
     fn row_is_over<F: Scalars>(&self, f: &F, t: u32) -> bool
         ensures { IsTrue result ↔ ((s : ℕ) → All (AllScalars (F.ops f.now)) (matrix self.now s t)) }
     {
-        self.row(t).iter().all(|s| self.block_is_over(f, *s, t))
+        self.blocks_are_over(f, self.row(t), t)
+    }
+
+    /// Whether the blocks from these cells to `t` have scalars of the field.
+    fn blocks_are_over<F: Scalars>(&self, f: &F, from: &[u32], t: u32) -> bool
+        ensures { IsTrue result ↔ All (λ s. All (AllScalars (F.ops f.now)) (matrix self.now s t)) from.now }
+    {
+        from.iter().all(|s| self.block_is_over(f, *s, t))
     }
 
     /// Whether the block from `s` to `t`, if one stands, has scalars of the field.
@@ -196,6 +210,6 @@ fn value_of<'a>(live: &[(u32, u8, u8)], starts: &Starts, z: &'a [u8], s: u32) ->
     ensures size { length result.now ≡ size_of live.now s }
 {
     let at = find(live, s).unwrap();
-    let start = starts.places[at] as usize;
-    &z[start..start + live[at].2 as usize]
+    let rest = &z[starts.places[at] as usize..];
+    &rest[..live[at].2 as usize]
 }
