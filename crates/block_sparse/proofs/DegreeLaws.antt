@@ -12,7 +12,7 @@ use Rattle.rising_lists.proofs.Keyed.{rising_tail, rising_head}
 use Rattle.block_sparse.specs.BlockComplexes.{cells}
 use Rattle.block_sparse.specs.BlockComplexes as blocks
 use Rattle.block_sparse.specs.Cochains.{cell_of, of_degree}
-use Rattle.block_sparse.proofs.LiveLaws.{cell-at, length-cells}
+use Rattle.block_sparse.proofs.LiveLaws.{cell-at, length-cells, total-take}
 
 -- one cell more
 of_degree-next : (k : ℕ) (live : List (ℕ × ℕ × ℕ)) (i : ℕ) (d : ℕ × ℕ × ℕ) → i < length live
@@ -35,7 +35,7 @@ pub parts-next : (piece : Cell → List ℕ) (k : ℕ) (live : List (ℕ × ℕ 
 parts-next piece k live i d l = ap (flat_map piece) (of_degree-next k live i d l) ∙ flat_map-append piece (of_degree k (take i live)) (of_degree k (get_or live i d ∷ []))
 
 -- the cells of one degree have no more coordinates than all
-pub total-of_degree : (k : ℕ) (live : List (ℕ × ℕ × ℕ)) → total_size (of_degree k live) ≤ blocks.total_size live
+total-of_degree : (k : ℕ) (live : List (ℕ × ℕ × ℕ)) → total_size (of_degree k live) ≤ blocks.total_size live
 total-of_degree k [] = omega arith
 total-of_degree k (l ∷ ls) = go (eqb l.1 k) (total-of_degree k ls)
   where
@@ -91,3 +91,6 @@ value-absent k (x ∷ xs) z s h = go (eqb x.1 k) (eqb x.0 s) refl h (λ y m. val
     go b true f m r = cc
     go true false f m r = rw f (r (drop x.2 z) m)
     go false false f m r = r z m
+
+pub start-within : (k : ℕ) (live : List (ℕ × ℕ × ℕ)) (i : ℕ) → total_size (of_degree k (take i live)) ≤ blocks.total_size live
+start-within k live i = omega (arith, total-of_degree k (take i live), total-take live i)

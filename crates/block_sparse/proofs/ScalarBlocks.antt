@@ -10,11 +10,16 @@ use Rattle.dense_blocks.specs.declared.block.Block.{Block}
 use Rattle.dense_blocks.proofs.Cutting.{flat}
 use Rattle.dense_blocks.proofs.Shapes.{matrix-rows, matrix-size, to_vector, vector-scalars}
 use Rattle.dense_blocks.proofs.BlockLaws.{block-entries, block-matrix, block-size}
-use Rattle.dense_blocks.proofs.MatrixLaws.{zero_matrix-matrix}
-use Rattle.cochain_vec.specs.Complexes.{value_at, total_size}
+use Rattle.dense_blocks.proofs.MatrixLaws.{zero_matrix-matrix, zero_matrix-applied}
+use Rattle.cochain_vec.specs.Complexes.{sum_into, value_at, total_size}
+use Rattle.cochain_vec.proofs.PathLaws.{sum_over}
 use Rattle.cochain_vec.specs.declared.cell.Cell.{Cell}
 use Rattle.cochain_vec.proofs.CoboundaryLaws.{size_at, value-vector}
-use Rattle.block_sparse.specs.BlockComplexes.{BlockComplex, Standing, StandsAt, held, matrix, matrix_or, size_of}
+use Rattle.block_sparse.specs.BlockComplexes.{AreConsecutive, BlockComplex, Standing, StandsAt, cells, held, matrix, matrix_or, size_of, standing}
+use Rattle.block_sparse.specs.Cochains.{complex_of}
+use Rattle.block_sparse.specs.Invariants.{IsSound}
+use Rattle.block_sparse.proofs.SumLaws.{arriving-vector, sum_into-live, sum_over-some}
+use Rattle.rising_lists.specs.Rising.{IsRising, entry_of, has}
 
 pub value-scalars : (K : Ops) (cs : List Cell) (z : List ℕ) (s : ℕ) → IsVector K (total_size cs) z → AllScalars K (value_at cs z s)
 value-scalars K cs z s h = vector-scalars K (size_at cs s) (value_at cs z s) (value-vector K cs z s (to_vector K (total_size cs) z h))
@@ -47,3 +52,36 @@ module _ (K : Ops) (v : BlockComplex) (s t : ℕ) where
 pub not-held : (o : Option Standing) → is_some o ≡ false → o ≡ None
 not-held None e = refl
 not-held (Some b) e = cc
+
+zero_matrix-size : (m n : ℕ) → length (zero_matrix m n) ≡ m
+zero_matrix-size zero n = refl
+zero_matrix-size (suc m) n = ap suc (zero_matrix-size m n)
+
+-- what stands goes between live cells, and has their sizes
+module _ (v : BlockComplex) (sound : IsSound v.live v.rows v.columns) (s t : ℕ) where
+  between-live : (o : Option Block) → entry_of v.rows t s ≡ o → is_some (standing o (entry_of v.columns s t)) ≡ true → AreConsecutive v.live s t
+  between-live None e h = cc
+  between-live (Some b) e h = (sound.blocks_fit s t b e).between
+
+  pub held-between : is_some (held v s t) ≡ true → AreConsecutive v.live s t
+  held-between h = between-live (entry_of v.rows t s) refl h
+
+  pub matrix-size_of : length (matrix v s t) ≡ size_of v.live t
+  matrix-size_of = go (entry_of v.rows t s) refl
+    where
+      go : (o : Option Block) → entry_of v.rows t s ≡ o → length (matrix_or (standing o (entry_of v.columns s t)) (zero_matrix (size_of v.live t) (size_of v.live s))) ≡ size_of v.live t
+      go None e = zero_matrix-size (size_of v.live t) (size_of v.live s)
+      go (Some b) e = block-size b ∙ (sound.blocks_fit s t b e).rows
+
+-- the sum into a live cell, over the cells from which a block comes
+pub sum_into-row : (K : Ops) (F : IsField K) (v : BlockComplex) (sound : IsSound v.live v.rows v.columns) (value : ℕ → List ℕ) (t : ℕ) (row : List ℕ)
+    → has t (cells v.live) ≡ true → IsRising row → ((s : ℕ) → has s row ≡ is_some (held v s t))
+    → sum_into K (complex_of v).arrows value (size_of v.live t) t ≡ sum_over K (size_of v.live t) (λ s. applied K (matrix v s t) (value s)) row
+sum_into-row K F v sound value t row is_live rises is_row =
+    let n = size_of v.live t in
+    let sized : (s : ℕ) → length (matrix v s t) ≡ n = λ s. matrix-size_of v sound s t in
+    sum_into-live K F v value n t sized sound.live_cells.rising is_live
+    ∙ sum_over-some K F n (λ s. applied K (matrix v s t) (value s)) (cells v.live) row sound.live_cells.rising rises
+    (λ s h. (held-between v sound s t (sym (is_row s) ∙ h)).from) (arriving-vector K F v value n t sized)
+    (λ s h. ap (λ A. applied K A (value s)) (matrix-none K v s t (not-held (held v s t) (sym (is_row s) ∙ h)))
+    ∙ zero_matrix-applied K F n (size_of v.live s) (value s))

@@ -1,4 +1,4 @@
-ghost use Rattle.std.specs.Prelude.{◌≡◌, ◌↔◌, ◌+◌, ◌∷◌, ◌++◌, ℕ, true, [], length, All, IfOk, OnOk, IsTrue};
+ghost use Rattle.std.specs.Prelude.{◌≡◌, ◌↔◌, ◌+◌, ◌≤◌, ◌∷◌, ◌++◌, ℕ, true, [], length, take, drop, All, IfOk, OnOk, IsTrue};
 ghost use Rattle.std.specs.List.{flat_map};
 ghost use Rattle.dense_blocks.specs.Vectors.{AllScalars, IsVector, plus};
 ghost use Rattle.dense_blocks.specs.Matrices.{applied};
@@ -25,18 +25,14 @@ impl Blocks {
     pub fn coordinates(&self, k: u8) -> usize
         ensures { result ≡ coordinates (complex_of self.now) k }
     {
-        let mut total = 0;
-        for cell in self.live() {
-            total += size_at(k, *cell) as usize;
-        }
-        total
+        total_of(k, self.live()) as usize
     }
 
     /// Whether the entries of all blocks are scalars of the field.
     pub fn is_over<F: Scalars>(&self, f: &F) -> bool
         ensures { IsTrue result ↔ IsOver (F.ops f.now) self.now }
     {
-        self.rows_are_over(f, self.live())
+        self.rows_are_over(f, &self.live)
     }
 
     /// The coboundary of a cochain of degree `k`: its coordinates at the live cells of degree `k + 1`, in order.
@@ -55,9 +51,10 @@ impl Blocks {
         requires cochain { IsCochain (F.ops f.now) (complex_of self.now) k z.now }
         ensures { IfOk result (λ w. w.items ≡ coboundary (F.ops f.now) (complex_of self.now) k z.now) }
     {
-        let starts = starts_of(alloc, self.live(), k)?;
+        let live = self.live();
+        let starts = starts_of(alloc, live, k)?;
         let mut all = Vec::new(alloc);
-        for cell in self.live() {
+        for cell in live {
             self.add_part(alloc, f, &starts, z, *cell, &mut all)?;
         }
         Ok(all)
@@ -107,6 +104,7 @@ impl Blocks {
         ensures { IfOk result (λ part. part.items ≡ sum_into (F.ops f.now) (complex_of self.now).arrows
             (value_at (cells_of (complex_of self.now) starts.now.degree) z.now) (size_of self.now.live t) t) }
     {
+        let _ = &self.live;
         let mut sum = zeros(alloc, self.size(t) as usize)?;
         for s in self.row(t) {
             self.add_image(alloc, f, starts, z, *s, t, &mut sum)?;
@@ -188,6 +186,18 @@ fn starts_of(alloc: Global, live: &[(u32, u8, u8)], degree: u8) -> Result<Starts
     Ok(Starts { degree, places })
 }
 
+/// How many coordinates a cochain of this degree has.
+fn total_of(degree: u8, live: &[(u32, u8, u8)]) -> u32
+    requires { AreLive live.now }
+    ensures { result ≡ total_size (of_degree degree live.now) }
+{
+    let mut total = 0;
+    for cell in live {
+        total += size_at(degree, *cell);
+    }
+    total
+}
+
 /// How many coordinates a cochain of this degree has at the cell.
 fn size_at(degree: u8, cell: (u32, u8, u8)) -> u32
     ensures { result ≡ total_size (of_degree degree (cell ∷ [])) }
@@ -210,6 +220,15 @@ fn value_of<'a>(live: &[(u32, u8, u8)], starts: &Starts, z: &'a [u8], s: u32) ->
     ensures size { length result.now ≡ size_of live.now s }
 {
     let at = find(live, s).unwrap();
-    let rest = &z[starts.places[at] as usize..];
-    &rest[..live[at].2 as usize]
+    part(z, starts.places[at], live[at].2)
+}
+
+/// So many coordinates from a place on.
+fn part(z: &[u8], start: u32, size: u8) -> &[u8]
+    requires { start + size ≤ length z.now }
+    ensures part { result.now ≡ take size (drop start z.now) }
+    ensures size { length result.now ≡ size }
+{
+    let start = start as usize;
+    &z[start..start + size as usize]
 }

@@ -18,7 +18,7 @@ use std::marker::Model;
 /// room; they go from a cell to a cell one degree above, and each has a flag. Reading takes no memory.
 #[derive(Debug, Drop)]
 pub struct Blocks {
-    live: Vec<(u32, u8, u8)>,
+    pub(crate) live: Vec<(u32, u8, u8)>,
     rows: Lines<Block>,
     columns: Lines<Mark>,
 }

@@ -7,4 +7,4 @@ use Rattle.block_sparse.proofs.blocks.Blocks.apply.Given as goal
 abbrev pub invariant-loop-cell : goal.invariant-loop-cell
 invariant-loop-cell g l = l.all.items ≡ flat_map
     (λ t. sum_into (g.F.Scalars.ops l.f) (complex_of l.self).arrows (value_at (cells_of (complex_of l.self) l.k) l.z) t.size t.cell)
-    (of_degree (l.k + 1) (take l.cell-index l.cell-items))
+    (of_degree (l.k + 1) (take l.cell-index l.live))
