@@ -41,7 +41,7 @@ use Rattle.coboundary.specs.Start.{IsStart, face_matrix, with_stalks}
 use Rattle.coboundary.specs.StartCoboundary.{StartIsOverTheField, StartHasTheCoboundary, StartIsCochainComplex, StartHasTheCohomology}
 use Rattle.coboundary.proofs.ArrowLaws.{between-none, between-face}
 use Rattle.coboundary.proofs.MiddleLaws.{has_arrow, signed-matrix}
-use Rattle.coboundary.proofs.ClosedLaws.{all-numbered, from_stalks, rows, from_cells, sized, dd_zero}
+use Rattle.coboundary.proofs.ClosedLaws.{all-numbered, from_stalks, rows, from_cells, dd_zero}
 use Rattle.coboundary.proofs.LiveLaws.{numbered-rising, with_stalks-rising}
 
 not-found : {X : Type 0} (p : X → Bool) (xs : List X) → list_any p xs ≡ false → find p xs ≡ None
@@ -97,11 +97,10 @@ module _ (K : Ops) (F : IsField K) (c : CellComplex) (stalks : List ℕ) (blocks
   abbrev size : ℕ → ℕ
   size t = slice_index stalks t
 
-  kept : List Cell
+  abbrev kept : List Cell
   kept = filter has_coordinates W.cells
 
   cells_are : (complex_of v).cells ≡ kept
-  unfolding kept
   cells_are = ap (map cell_of) start.live ∙ cells-of-rows kept
 
   live_rises : IsRising (cells v.live)
@@ -119,7 +118,6 @@ module _ (K : Ops) (F : IsField K) (c : CellComplex) (stalks : List ℕ) (blocks
       (get_or-map cell_of v.live i d (cell_of d) l)
     where
       kept_alive : All (λ (u : Cell). (u.cell < length c.dims) × (u.size ≡ size u.cell)) kept
-      unfolding kept
       kept_alive = All-filter has_coordinates (λ (u : Cell). (u.cell < length c.dims) × (u.size ≡ size u.cell)) W.cells
           (all-numbered (λ (u : Cell). (u.cell < length c.dims) × (u.size ≡ size u.cell)) 0 c.dims stalks sheaf.one_each
           (λ i l. let same : i ≡ 0 + i = omega arith in (omega arith, ap size same)))
@@ -163,16 +161,14 @@ module _ (K : Ops) (F : IsField K) (c : CellComplex) (stalks : List ℕ) (blocks
       ap (λ o. option_and_then (λ g. option_map (λ b. signed K g (matrix_of b)) (restriction c blocks s t)) (option_map (λ (f : Face). f.sign) o))
       (not-found (joins s t) c.faces h)
 
-  zero_between : ℕ → ℕ → List (List ℕ)
+  abbrev zero_between : ℕ → ℕ → List (List ℕ)
   zero_between s t = zero_matrix (size_of v.live t) (size_of v.live s)
 
   matrix-apart : (s t : ℕ) → is_face c s t ≡ false → matrix v s t ≡ zero_between s t
-  unfolding zero_between
   matrix-apart s t h = ap (λ o. matrix_or o (zero_between s t)) (start.faces s t ∙ ap (option_and_then placed) (apart s t h))
 
   -- the matrix of a face, or zeros where it is zero
   matrix-joined : (s t : ℕ) (j : Joined s t) → matrix v s t ≡ cond (is_zero j.its_matrix) (zero_between s t) j.its_matrix
-  unfolding zero_between
   matrix-joined s t j =
       ap (λ o. matrix_or o (zero_between s t)) (start.faces s t ∙ ap (option_and_then placed) j.is) ∙ go (is_zero j.its_matrix)
     where
@@ -181,7 +177,6 @@ module _ (K : Ops) (F : IsField K) (c : CellComplex) (stalks : List ℕ) (blocks
       go false = refl
 
   over : (s t : ℕ) → All (AllScalars K) (matrix v s t)
-  unfolding zero_between
   over s t = go (is_face c s t) refl
     where
       scalars : (m n : ℕ) (A : List (List ℕ)) → Matrix K m n A → All (AllScalars K) A
@@ -202,19 +197,17 @@ module _ (K : Ops) (F : IsField K) (c : CellComplex) (stalks : List ℕ) (blocks
 
   -- into a live cell
   module _ (k : ℕ) (z : List ℕ) (t : ℕ) (is_live : has t (cells v.live) ≡ true) where
-    value : ℕ → List ℕ
+    abbrev value : ℕ → List ℕ
     value = value_at (cells_of (complex_of v) k) z
 
     same_size : size_of v.live t ≡ size t
     same_size = (alive t is_live).same_size
 
     zero-rows : (s : ℕ) → length (zero_between s t) ≡ size t
-    unfolding zero_between
     zero-rows s =
         matrix-size K (size_of v.live t) (size_of v.live s) (zero_between s t) (zero_matrix-matrix K F (size_of v.live t) (size_of v.live s)) ∙ same_size
 
     zero-acts : (s : ℕ) (w : List ℕ) → applied K (zero_between s t) w ≡ zeros (size t)
-    unfolding zero_between
     zero-acts s w = zero_matrix-applied K F (size_of v.live t) (size_of v.live s) w ∙ ap zeros same_size
 
     matrix-rows_of : (s : ℕ) → length (matrix v s t) ≡ size t
@@ -247,7 +240,6 @@ module _ (K : Ops) (F : IsField K) (c : CellComplex) (stalks : List ℕ) (blocks
                 ap (λ A. applied K A (value s)) (matrix-joined s t j ∙ ap (λ b. cond b (zero_between s t) j.its_matrix) e) ∙ sym (j.acts value)
 
     no-value : (s : ℕ) → has s (cells v.live) ≡ false → applied K (matrix v s t) (value s) ≡ zeros (size t)
-    unfolding value
     no-value s h =
         ap (applied K (matrix v s t)) (value-absent k v.live z s h) ∙ nothing (matrix v s t) (size t) (matrix-rows_of s)
       where
@@ -267,7 +259,6 @@ module _ (K : Ops) (F : IsField K) (c : CellComplex) (stalks : List ℕ) (blocks
         ∙ sym (sum_into-by-source K F (complexes.cells c) W.arrows value (size t) t (rows K F c stalks blocks complex sheaf t) (from_cells K F c stalks blocks complex sheaf))
 
   same : Agree K (complex_of v) W
-  unfolding kept
   same = record {
     sizes = λ k. ap (λ cs. coordinates (record { cells = cs; arrows = [] }) k) cells_are ∙ coordinates-without_empty K W rising k;
     maps = λ k z.
@@ -282,7 +273,6 @@ module _ (K : Ops) (F : IsField K) (c : CellComplex) (stalks : List ℕ) (blocks
 
       each : (k : ℕ) (z : List ℕ) → All (λ (t : Cell). sum_into K (complex_of v).arrows (value_at (cells_of (complex_of v) k) z) t.size t.cell
           ≡ sum_into K W.arrows (value_at (cells_of (complex_of v) k) z) t.size t.cell) (cells_of (complex_of v) (suc k))
-      unfolding value
       each k z = All-filter (λ (t : Cell). t.degree == suc k) (λ (t : Cell). sum_into K (complex_of v).arrows (value_at (cells_of (complex_of v) k) z) t.size t.cell
           ≡ sum_into K W.arrows (value_at (cells_of (complex_of v) k) z) t.size t.cell) (complex_of v).cells
           (All-map (λ (t : Cell). sum_into K (complex_of v).arrows (value_at (cells_of (complex_of v) k) z) t.size t.cell
