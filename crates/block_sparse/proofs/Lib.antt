@@ -4,3 +4,6 @@ pub mod RemovalLaws
 pub mod LiveLaws
 pub mod CompareLaws
 pub mod OpenLaws
+pub mod SumLaws
+pub mod DegreeLaws
+pub mod ScalarBlocks

@@ -5,3 +5,4 @@ pub mod Fresh
 pub mod Lists
 pub mod Open
 pub mod Candidates
+pub mod Cochains

@@ -20,7 +20,7 @@ use std::marker::Model;
 /// room; they go from a cell to a cell one degree above, and each has a flag. Reading takes no memory.
 #[derive(Debug, Drop)]
 pub struct Blocks {
-    live: Vec<(u32, u8, u8)>,
+    pub(crate) live: Vec<(u32, u8, u8)>,
     rows: Lines<Block>,
     columns: Columns,
 }
@@ -354,7 +354,7 @@ fn remove_live(live: &mut Vec<(u32, u8, u8)>, c: u32)
 }
 
 /// Where a cell stands in a list of live cells.
-fn find(live: &[(u32, u8, u8)], c: u32) -> Option<usize>
+pub(crate) fn find(live: &[(u32, u8, u8)], c: u32) -> Option<usize>
     requires { IsRising (cells live.now) }
     ensures { MatchOption result (has c (cells live.now) ≡ false)
         (λ i. (i < length live.now) × ((slice_index_or live.now i (0, 0, 0)).0 ≡ c)) }

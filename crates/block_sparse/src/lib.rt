@@ -1,10 +1,11 @@
 //! Block complexes whose zero blocks take no room: for each cell the blocks that go to it.
 //!
 //! What is here: to make and copy one, to read its blocks by pair, row and column, to put blocks one by one, by list or as the parts
-//! of a joined matrix, to set flags, to take cells away, to compare a row or a column with a joined matrix, and to find the square
-//! blocks without a flag. No call here applies the blocks to a cochain, or joins or compares blocks of several rows and columns.
+//! of a joined matrix, to set flags, to take cells away, to compare a row or a column with a joined matrix, to find the square blocks
+//! without a flag, and to apply all blocks to a cochain. No call here joins or compares blocks of several rows and columns.
 #![tactic(auto)]
 
+mod applying;
 mod blocks;
 mod columns;
 mod comparing;

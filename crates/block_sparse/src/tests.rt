@@ -2,7 +2,7 @@
 ghost use Rattle.std.specs.Prelude.{◌≡◌, ℕ, [], ◌∷◌, IfOk};
 
 use crate::blocks::Blocks;
-use dense_blocks::Block;
+use dense_blocks::{Block, Two, all_scalars};
 use std::alloc::{AllocError as NoMemory, Global};
 use std::process::Abort;
 
@@ -204,5 +204,60 @@ fn compares_a_column(rt: HostRuntime) -> Result<(), NoMemory> {
     assert!(rt; !is_column(rt.alloc(), &both, 9, [1, 0])?);
     assert!(rt; !is_column(rt.alloc(), &one, 9, [1, 2])?);
     assert!(rt; is_column(rt.alloc(), &both, 3, [1, 0])?);
+    Ok(())
+}
+
+/// The coboundary of a cochain over the field of two elements.
+fn coboundary(
+    rt: &impl Abort,
+    alloc: Global,
+    blocks: &Blocks,
+    k: u8,
+    z: &[u8],
+) -> Result<Vec<u8>, NoMemory> {
+    assert!(rt; blocks.is_over(&Two));
+    assert!(rt; z.len() == blocks.coordinates(k));
+    assert!(rt; all_scalars(&Two, z));
+    blocks.apply(alloc, &Two, k, z)
+}
+
+#[test]
+fn applies_the_circle(rt: HostRuntime) -> Result<(), NoMemory> {
+    let alloc = rt.alloc();
+    let mut blocks = circle(&rt, alloc)?;
+    assert!(rt; !blocks.is_over(&Two));
+    for (s, t, _) in CIRCLE_BLOCKS {
+        put(&rt, alloc, &mut blocks, (s, t, 1))?;
+    }
+    // A cochain of vertices, and its differences along the edges.
+    let cases: [([u8; 3], [u8; 3]); 4] = [
+        ([1, 0, 0], [1, 0, 1]),
+        ([0, 1, 0], [1, 1, 0]),
+        ([0, 0, 1], [0, 1, 1]),
+        ([1, 1, 1], [0, 0, 0]),
+    ];
+    for (z, image) in cases {
+        let w = coboundary(&rt, alloc, &blocks, 0, &z)?;
+        assert_eq!(rt; w.as_slice(), image.as_slice());
+    }
+    assert_eq!(rt; coboundary(&rt, alloc, &blocks, 1, &[1, 0, 1])?.len(), 0);
+    assert_eq!(rt; coboundary(&rt, alloc, &blocks, 2, &[])?.len(), 0);
+    Ok(())
+}
+
+#[test]
+fn applies_blocks_of_several_rows(rt: HostRuntime) -> Result<(), NoMemory> {
+    let alloc = rt.alloc();
+    // The cells 1 and 6 stand between others of their degree.
+    let live = [(1, 2, 1), (2, 1, 2), (3, 2, 2), (4, 1, 1), (5, 0, 1), (6, 2, 1)];
+    assert!(rt; Blocks::may_live(&live));
+    let mut blocks = Blocks::of_cells(alloc, &live)?;
+    let b = Block::of(alloc, 2, 2, &[0, 1, 1, 1])?;
+    assert!(rt; blocks.fits(2, 3, &b));
+    assert!(rt; blocks.set(2, 3, b).is_ok());
+    put(&rt, alloc, &mut blocks, (4, 6, 1))?;
+    // The cochain has two coordinates at 2, and one at 4; its coboundary has those of 1, 3 and 6.
+    assert_eq!(rt; coboundary(&rt, alloc, &blocks, 1, &[1, 0, 0])?.as_slice(), [0, 0, 1, 0].as_slice());
+    assert_eq!(rt; coboundary(&rt, alloc, &blocks, 1, &[0, 1, 1])?.as_slice(), [0, 1, 1, 1].as_slice());
     Ok(())
 }

@@ -92,19 +92,19 @@ once-in-range s a (suc n) l m = go (eqb s a) refl (none-in-range s (a + 1) n) (o
     go false e none once = once (omega (arith, eqb-false s a e)) (omega arith)
 
 module _ (K : Ops) (F : IsField K) (c : CellComplex) (stalks : List ℕ) (blocks : List Block) (complex : IsComplex c) (sheaf : IsSheaf K c stalks blocks) where
-  abbrev W : CellularComplex
+  abbrev pub W : CellularComplex
   W = cochain_complex_of K c stalks blocks
 
-  abbrev size : ℕ → ℕ
+  abbrev pub size : ℕ → ℕ
   size t = slice_index stalks t
 
-  abbrev from_stalks : AreRestrictions K c blocks
+  abbrev pub from_stalks : AreRestrictions K c blocks
   from_stalks = record { stalks = stalks; shapes = sheaf.restrictions.shapes; scalars = sheaf.restrictions.scalars }
 
   same : length blocks ≡ length c.faces
   same = sheaf.restrictions.shapes.count
 
-  rows : (t : ℕ) → RowsInto W.arrows (size t) t
+  pub rows : (t : ℕ) → RowsInto W.arrows (size t) t
   unfolding RowsInto
   rows t = all-arrows K (λ (a : Arrow). a.to ≡ t → length a.matrix ≡ size t) c.faces blocks
       (λ p f b is_f is_b e.
@@ -113,7 +113,7 @@ module _ (K : Ops) (F : IsField K) (c : CellComplex) (stalks : List ℕ) (blocks
       (all-at (λ (b : Block). AllScalars K b.entries) blocks p b sheaf.restrictions.scalars is_b) in
       matrix-size K (size f.t) (size f.s) (signed K f.sign (matrix_of b)) (signed-matrix K F (size f.t) (size f.s) f.sign (matrix_of b) matrix) ∙ ap size e)
 
-  from_cells : ComeFrom W.arrows (cells c)
+  pub from_cells : ComeFrom W.arrows (cells c)
   from_cells = all-arrows K (λ (a : Arrow). length (filter (λ s. a.from == s) (cells c)) ≡ 1) c.faces blocks
       (λ p f b is_f is_b. let fit = face-fits c complex p f is_f in once-in-range f.s 0 (length c.dims) (omega arith) (omega (arith, fit.s_is_cell)))
 

@@ -4,3 +4,4 @@ pub mod ClosedLaws
 pub mod StartLaws
 pub mod LiveLaws
 pub mod PutLaws
+pub mod StartCoboundaryLaws

@@ -58,14 +58,20 @@ total-with_stalks n (d ∷ dims) (size ∷ stalks) e =
     go true low more = omega arith
     go false low more = omega arith
 
+pub with_stalks-rising : (dims stalks : List ℕ) → length stalks ≡ length dims → IsRising (cells (with_stalks (numbered 0 dims stalks)))
+unfolding row
+with_stalks-rising dims stalks same =
+    let all : List Cell = numbered 0 dims stalks in
+    let kept : List Cell = filter has_coordinates all in
+    subst IsRising (sym (numbers-of-rows kept)) (numbers-rising kept (rising-filter has_coordinates all (numbered-rising 0 dims stalks same)))
+
 pub live_cells-live : (dims stalks : List ℕ) → AreCells dims → AreStalks dims stalks → AreLive (with_stalks (numbered 0 dims stalks))
 unfolding row
 live_cells-live dims stalks are_cells are_stalks =
     let all : List Cell = numbered 0 dims stalks in
     let kept : List Cell = filter has_coordinates all in
     record {
-      rising = subst IsRising (sym (numbers-of-rows kept))
-          (numbers-rising kept (rising-filter has_coordinates all (numbered-rising 0 dims stalks are_stalks.one_each)));
+      rising = with_stalks-rising dims stalks are_stalks.one_each;
       degrees = All-map (λ (l : ℕ × ℕ × ℕ). l.1 ≤ 15) row kept
           (All-filter has_coordinates (λ (c : Cell). c.degree ≤ 15) all
           (all-numbered (λ (c : Cell). c.degree ≤ 15) 0 dims stalks are_stalks.one_each (λ i l. are_cells.low i 0 l)));

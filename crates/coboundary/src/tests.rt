@@ -3,7 +3,7 @@ use crate::start::full;
 use block_sparse::Blocks;
 use cell_complex::Sign::{Minus, Plus};
 use cell_complex::{Complex, Face, Sign};
-use dense_blocks::{Block, Scalars};
+use dense_blocks::{Block, Scalars, all_scalars};
 use field_table::Field;
 use sheaf_data::{Draft, Sheaf, stalks_fit};
 use std::alloc::{AllocError as NoMemory, Global};
@@ -229,5 +229,57 @@ fn leaves_out_what_is_zero(rt: HostRuntime) -> Result<(), Fail> {
     assert_eq!(rt; blocks.live(), [(0, 0, 1), (1, 0, 2), (3, 1, 1)].as_slice());
     assert_eq!(rt; block_count(&blocks, 4), 1);
     assert!(rt; has_entries(&blocks, 1, 3, &[4, 2]));
+    Ok(())
+}
+
+/// The coboundary of a cochain on the start complex of the constant sheaf.
+fn coboundary(
+    rt: &impl Abort,
+    alloc: Global,
+    order: u32,
+    blocks: &Blocks,
+    k: u8,
+    z: &[u8],
+) -> Result<Vec<u8>, Fail> {
+    let field = Field::of(order).expect(rt, "an order of the table");
+    assert!(rt; blocks.is_over(&field));
+    assert!(rt; z.len() == blocks.coordinates(k));
+    assert!(rt; all_scalars(&field, z));
+    Ok(blocks.apply(alloc, &field, k, z)?)
+}
+
+#[test]
+fn applies_the_circle(rt: HostRuntime) -> Result<(), Fail> {
+    let alloc = rt.alloc();
+    // The order of the field, a cochain of vertices, and its differences along the edges 01, 12 and 02.
+    let cases: [(u32, [u8; 3], [u8; 3]); 6] = [
+        (2, [1, 0, 0], [1, 0, 1]),
+        (2, [0, 1, 0], [1, 1, 0]),
+        (2, [0, 0, 1], [0, 1, 1]),
+        (3, [1, 0, 0], [2, 0, 2]),
+        (3, [0, 1, 0], [1, 2, 0]),
+        (3, [0, 0, 1], [0, 1, 1]),
+    ];
+    for (order, z, image) in cases {
+        let blocks = full(alloc, &constant(&rt, alloc, order, &CIRCLE_DIMS, &CIRCLE)?)?;
+        let w = coboundary(&rt, alloc, order, &blocks, 0, &z)?;
+        assert_eq!(rt; w.as_slice(), image.as_slice());
+    }
+    Ok(())
+}
+
+#[test]
+fn applies_the_tetrahedron_twice(rt: HostRuntime) -> Result<(), Fail> {
+    let alloc = rt.alloc();
+    let sheaf = constant(&rt, alloc, 3, &TETRAHEDRON_DIMS, &TETRAHEDRON)?;
+    let blocks = full(alloc, &sheaf)?;
+    // The differences along the edges 01, 02, 03, 12, 13 and 23; around each triangle they add up to 0.
+    let w = coboundary(&rt, alloc, 3, &blocks, 0, &[1, 2, 0, 1])?;
+    assert_eq!(rt; w.as_slice(), [1, 2, 0, 1, 2, 1].as_slice());
+    let around = coboundary(&rt, alloc, 3, &blocks, 1, &w)?;
+    assert_eq!(rt; around.as_slice(), [0, 0, 0, 0].as_slice());
+    // The edge 01 is in the triangles 012 and 013.
+    let one = coboundary(&rt, alloc, 3, &blocks, 1, &[1, 0, 0, 0, 0, 0])?;
+    assert_eq!(rt; one.as_slice(), [1, 1, 0, 0].as_slice());
     Ok(())
 }

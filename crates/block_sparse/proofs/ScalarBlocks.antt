@@ -1,0 +1,87 @@
+-- Blocks of scalars, and what they make of a value.
+use Rattle.std.proofs.Common.{◌≡◌, ℕ, zero, suc, ◌+◌, ◌<◌, Bool, true, false, List, [], ◌∷◌, ◌++◌, length, take, drop, get_or, Option, Some, None, All, refl, sym, ap, ◌∙◌, subst, arith}
+use Rattle.std.specs.Option.{is_some}
+use Rattle.std.proofs.lemmas.List.Elements.{All-head, All-tail, All-append, All-nil}
+use Rattle.dense_blocks.specs.Field.{Ops, IsField}
+use Rattle.dense_blocks.specs.Vectors.{AllScalars, IsVector}
+use Rattle.dense_blocks.specs.Matrices.{applied, zero_matrix}
+use Rattle.dense_blocks.specs.Blocks.{matrix_of}
+use Rattle.dense_blocks.specs.declared.block.Block.{Block}
+use Rattle.dense_blocks.proofs.Cutting.{flat}
+use Rattle.dense_blocks.proofs.Shapes.{matrix-rows, matrix-size, to_vector, vector-scalars}
+use Rattle.dense_blocks.proofs.BlockLaws.{block-entries, block-matrix, block-size}
+use Rattle.dense_blocks.proofs.MatrixLaws.{zero_matrix-matrix, zero_matrix-applied}
+use Rattle.cochain_vec.specs.Complexes.{sum_into, value_at, total_size}
+use Rattle.cochain_vec.proofs.PathLaws.{sum_over}
+use Rattle.cochain_vec.specs.declared.cell.Cell.{Cell}
+use Rattle.cochain_vec.proofs.CoboundaryLaws.{size_at, value-vector}
+use Rattle.block_sparse.specs.BlockComplexes.{AreConsecutive, BlockComplex, Standing, StandsAt, cells, held, matrix, matrix_or, size_of, standing}
+use Rattle.block_sparse.specs.Cochains.{complex_of}
+use Rattle.block_sparse.specs.Invariants.{IsSound}
+use Rattle.block_sparse.proofs.SumLaws.{arriving-vector, sum_into-live, sum_over-some}
+use Rattle.rising_lists.specs.Rising.{IsRising, entry_of, has}
+
+pub value-scalars : (K : Ops) (cs : List Cell) (z : List ℕ) (s : ℕ) → IsVector K (total_size cs) z → AllScalars K (value_at cs z s)
+value-scalars K cs z s h = vector-scalars K (size_at cs s) (value_at cs z s) (value-vector K cs z s (to_vector K (total_size cs) z h))
+
+flat-all : (K : Ops) (A : List (List ℕ)) → All (AllScalars K) A → AllScalars K (flat A)
+flat-all K [] h = All-nil (λ a. a < K.order)
+flat-all K (r ∷ A) h = All-append (λ a. a < K.order) r (flat A) (All-head (AllScalars K) r A h) (flat-all K A (All-tail (AllScalars K) r A h))
+
+module _ (K : Ops) (v : BlockComplex) (s t : ℕ) where
+  -- a block that stands has scalars where the matrix has them
+  pub block-scalars : (b : Block) → StandsAt v s t b → All (AllScalars K) (matrix v s t) → AllScalars K b.entries
+  block-scalars b h all =
+      subst (AllScalars K) (ap flat (sym h.is_matrix) ∙ block-entries b) (flat-all K (matrix v s t) all)
+
+  pub matrix-scalars : (b : Block) → StandsAt v s t b → AllScalars K b.entries → All (AllScalars K) (matrix v s t)
+  matrix-scalars b h all = subst (All (AllScalars K)) h.is_matrix (λ i d l. (matrix-rows K b.rows b.cols (matrix_of b) (block-matrix K b all) i d l).scalars)
+
+  pub block-rows : (b : Block) → StandsAt v s t b → length (matrix_of b) ≡ size_of v.live t
+  block-rows b h = block-size b ∙ h.fits.rows
+
+  -- where none stands the matrix is zero
+  pub matrix-none : held v s t ≡ None → matrix v s t ≡ zero_matrix (size_of v.live t) (size_of v.live s)
+  matrix-none e = ap (λ o. matrix_or o (zero_matrix (size_of v.live t) (size_of v.live s))) e
+
+  pub none-scalars : IsField K → held v s t ≡ None → All (AllScalars K) (matrix v s t)
+  none-scalars F e =
+      let m = size_of v.live t in let n = size_of v.live s in
+      subst (All (AllScalars K)) (sym (matrix-none e)) (λ i d l. (matrix-rows K m n (zero_matrix m n) (zero_matrix-matrix K F m n) i d l).scalars)
+
+pub not-held : (o : Option Standing) → is_some o ≡ false → o ≡ None
+not-held None e = refl
+not-held (Some b) e = cc
+
+zero_matrix-size : (m n : ℕ) → length (zero_matrix m n) ≡ m
+zero_matrix-size zero n = refl
+zero_matrix-size (suc m) n = ap suc (zero_matrix-size m n)
+
+-- what stands goes between live cells, and has their sizes
+module _ (v : BlockComplex) (sound : IsSound v.live v.rows v.columns) (s t : ℕ) where
+  between-live : (o : Option Block) → entry_of v.rows t s ≡ o → is_some (standing o (entry_of v.columns s t)) ≡ true → AreConsecutive v.live s t
+  between-live None e h = cc
+  between-live (Some b) e h = (sound.blocks_fit s t b e).between
+
+  pub held-between : is_some (held v s t) ≡ true → AreConsecutive v.live s t
+  held-between h = between-live (entry_of v.rows t s) refl h
+
+  pub matrix-size_of : length (matrix v s t) ≡ size_of v.live t
+  matrix-size_of = go (entry_of v.rows t s) refl
+    where
+      go : (o : Option Block) → entry_of v.rows t s ≡ o → length (matrix_or (standing o (entry_of v.columns s t)) (zero_matrix (size_of v.live t) (size_of v.live s))) ≡ size_of v.live t
+      go None e = zero_matrix-size (size_of v.live t) (size_of v.live s)
+      go (Some b) e = block-size b ∙ (sound.blocks_fit s t b e).rows
+
+-- the sum into a live cell, over the cells from which a block comes
+pub sum_into-row : (K : Ops) (F : IsField K) (v : BlockComplex) (sound : IsSound v.live v.rows v.columns) (value : ℕ → List ℕ) (t : ℕ) (row : List ℕ)
+    → has t (cells v.live) ≡ true → IsRising row → ((s : ℕ) → has s row ≡ is_some (held v s t))
+    → sum_into K (complex_of v).arrows value (size_of v.live t) t ≡ sum_over K (size_of v.live t) (λ s. applied K (matrix v s t) (value s)) row
+sum_into-row K F v sound value t row is_live rises is_row =
+    let n = size_of v.live t in
+    let sized : (s : ℕ) → length (matrix v s t) ≡ n = λ s. matrix-size_of v sound s t in
+    sum_into-live K F v value n t sized sound.live_cells.rising is_live
+    ∙ sum_over-some K F n (λ s. applied K (matrix v s t) (value s)) (cells v.live) row sound.live_cells.rising rises
+    (λ s h. (held-between v sound s t (sym (is_row s) ∙ h)).from) (arriving-vector K F v value n t sized)
+    (λ s h. ap (λ A. applied K A (value s)) (matrix-none K v s t (not-held (held v s t) (sym (is_row s) ∙ h)))
+    ∙ zero_matrix-applied K F n (size_of v.live s) (value s))

@@ -1,0 +1,37 @@
+-- The start complex of a sheaf has the cochains and the coboundary of the sheaf.
+use Rattle.std.specs.Prelude.{◌≡◌, ◌↔◌, ℕ, List}
+use Rattle.cell_complex.specs.Complexes.{CellComplex, IsComplex}
+use Rattle.dense_blocks.specs.Field.{Ops, IsField}
+use Rattle.dense_blocks.specs.declared.block.Block.{Block}
+use Rattle.cochain_vec.specs.Complexes.{CellularComplex, coboundary, coordinates}
+use Rattle.cochain_vec.specs.Cohomology.{IsCochainComplex, IsBasis}
+use Rattle.block_sparse.specs.BlockComplexes.{BlockComplex}
+use Rattle.block_sparse.specs.Cochains.{IsOver, complex_of}
+use Rattle.sheaf_data.specs.Sheaves.{IsSheaf}
+use Rattle.sheaf_data.specs.Betti.{cochain_complex_of}
+use Rattle.coboundary.specs.Start.{IsStart}
+
+-- for every sheaf over a field, its complex C and its start complex v
+abbrev pub ForEachStart : (Ops → CellularComplex → BlockComplex → Type 0) → Type 0
+ForEachStart P = (K : Ops) (c : CellComplex) (stalks : List ℕ) (blocks : List Block) (v : BlockComplex) → IsField K → IsComplex c
+    → IsSheaf K c stalks blocks → IsStart K c stalks blocks v → P K (cochain_complex_of K c stalks blocks) v
+
+-- two complexes have cochains of as many coordinates, and the same coboundary, in each degree
+pub record HaveSameCoboundary (K : Ops) (C D : CellularComplex) : Type 0 where
+  pub sizes : (k : ℕ) → coordinates C k ≡ coordinates D k
+  pub maps : (k : ℕ) (z : List ℕ) → coboundary K C k z ≡ coboundary K D k z
+
+-- the matrices have scalars of the field
+abbrev pub StartIsOverTheField : Type 0
+StartIsOverTheField = ForEachStart (λ K C v. IsOver K v)
+
+abbrev pub StartHasTheCoboundary : Type 0
+StartHasTheCoboundary = ForEachStart (λ K C v. HaveSameCoboundary K (complex_of v) C)
+
+-- the coboundary of the coboundary is zero
+abbrev pub StartIsCochainComplex : Type 0
+StartIsCochainComplex = ForEachStart (λ K C v. IsCochainComplex K (complex_of v))
+
+-- the bases of cohomology are those of the sheaf
+abbrev pub StartHasTheCohomology : Type 0
+StartHasTheCohomology = ForEachStart (λ K C v. (k : ℕ) (B : List (List ℕ)) → IsBasis K (complex_of v) k B ↔ IsBasis K C k B)
