@@ -34,7 +34,12 @@ fn ones(alloc: Global, rows: u32, cols: u32, count: u8) -> Result<Block, NoMemor
     Block::of(alloc, rows, cols, &entries[..count as usize])
 }
 
-fn put(rt: &impl Abort, alloc: Global, blocks: &mut Blocks, pair: (u32, u32, u8)) -> Result<(), NoMemory> {
+fn put(
+    rt: &impl Abort,
+    alloc: Global,
+    blocks: &mut Blocks,
+    pair: (u32, u32, u8),
+) -> Result<(), NoMemory> {
     let b = ones(alloc, blocks.size(pair.1), blocks.size(pair.0), pair.2)?;
     assert!(rt; blocks.fits(pair.0, pair.1, &b));
     match blocks.set(pair.0, pair.1, b) {
@@ -61,7 +66,9 @@ fn flag(rt: &impl Abort, blocks: &mut Blocks, s: u32, t: u32) {
 
 /// Whether the next candidates are these, where each search begins at the pair beside it.
 fn are_next(blocks: &Blocks, table: &[((u32, u32), Option<(u32, u32)>)]) -> bool {
-    table.iter().all(|row| next_candidate(blocks, row.0) == row.1)
+    table
+        .iter()
+        .all(|row| next_candidate(blocks, row.0) == row.1)
 }
 
 /// The candidates are (0, 7), (1, 4), (1, 5), (2, 6) and (3, 4).
@@ -69,7 +76,14 @@ fn are_next(blocks: &Blocks, table: &[((u32, u32), Option<(u32, u32)>)]) -> bool
 fn finds_the_next(rt: HostRuntime) -> Result<(), NoMemory> {
     let blocks = blocks(&rt, rt.alloc())?;
     let at = are_next(&blocks, &[((0, 7), Some((0, 7))), ((3, 4), Some((3, 4)))]);
-    let after = are_next(&blocks, &[((0, 0), Some((0, 7))), ((1, 5), Some((1, 5))), ((1, 6), Some((2, 6)))]);
+    let after = are_next(
+        &blocks,
+        &[
+            ((0, 0), Some((0, 7))),
+            ((1, 5), Some((1, 5))),
+            ((1, 6), Some((2, 6))),
+        ],
+    );
     let wrapped = are_next(&blocks, &[((3, 5), Some((0, 7))), ((9, 0), Some((0, 7)))]);
     assert!(rt; at && after && wrapped);
     Ok(())
@@ -81,7 +95,16 @@ fn passes_flags(rt: HostRuntime) -> Result<(), NoMemory> {
     flag(&rt, &mut blocks, 0, 7);
     flag(&rt, &mut blocks, 1, 4);
     flag(&rt, &mut blocks, 2, 6);
-    assert!(rt; are_next(&blocks, &[((0, 0), Some((1, 5))), ((1, 6), Some((3, 4))), ((3, 5), Some((1, 5)))]));
+    assert!(rt;
+        are_next(
+            &blocks,
+            &[
+                ((0, 0), Some((1, 5))),
+                ((1, 6), Some((3, 4))),
+                ((3, 5), Some((1, 5)))
+            ]
+        )
+    );
     flag(&rt, &mut blocks, 1, 5);
     blocks.remove_cell(3);
     assert!(rt; are_next(&blocks, &[((0, 0), None), ((1, 5), None)]));

@@ -32,7 +32,7 @@ returns-then-has_open c =
     (first-listed (λ s. is_some (first_of (entry firsts s))) firsts.cells (c.args.x + 1) (unlisted-column firsts) i c.cells-cells.ensures.line.rising inside c.loop-i.invariant
     (omega (arith, c.if-cells-i.true, ap (λ cells. get_or cells i 0) c.cells-cells.ensures.cells))
     (ap (λ o. is_some (first_of o)) (entry-at firsts i nothing c.cells-cells.ensures.line inside) ∙ ap (λ vs. is_some (get_or vs i nothing).cell) (sym c.values-values.ensures.values)
-      ∙ sym c.has_open.ensures ∙ passed))
+    ∙ sym c.has_open.ensures ∙ passed))
 
 pub returns : goal.returns
 returns c =

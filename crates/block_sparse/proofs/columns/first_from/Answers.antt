@@ -15,7 +15,7 @@ loop-i-preserved c =
     let failed : c.is_open.result ≡ false = search rules in
     none-next (λ t. is_open (entry column t)) column.cells c.args.from i c.loop-i.invariant
     (λ a. ap is_open (entry-at column i no_mark c.cells-cells.ensures.line inside) ∙ ap (λ vs. is_open (Some (get_or vs i no_mark))) (sym c.values-marks.ensures.values)
-      ∙ sym c.is_open.ensures ∙ failed)
+    ∙ sym c.is_open.ensures ∙ failed)
 
 pub returns-then-is_open : goal.returns-then-is_open
 returns-then-is_open c =
@@ -27,7 +27,7 @@ returns-then-is_open c =
     (first-listed (λ t. is_open (entry column t)) column.cells c.args.from (unlisted-mark column) i c.cells-cells.ensures.line.rising inside c.loop-i.invariant
     (c.count_below-i.ensures.from i (omega arith) inside)
     (ap is_open (entry-at column i no_mark c.cells-cells.ensures.line inside) ∙ ap (λ vs. is_open (Some (get_or vs i no_mark))) (sym c.values-marks.ensures.values)
-      ∙ sym c.is_open.ensures ∙ passed))
+    ∙ sym c.is_open.ensures ∙ passed))
 
 pub returns : goal.returns
 returns c =
