@@ -3,7 +3,7 @@ pub mod GridLaws
 pub mod RemovalLaws
 pub mod LiveLaws
 pub mod CompareLaws
-pub mod OpenLaws
+pub mod CandidateLaws
 pub mod SumLaws
 pub mod DegreeLaws
 pub mod ScalarBlocks

@@ -8,7 +8,7 @@ use Rattle.dense_blocks.specs.declared.block.Block.{Block}
 use Rattle.dense_blocks.specs.Blocks.{matrix_of}
 use Rattle.rising_lists.specs.Rising.{ByCell, IsRising, has, entry_of}
 use Rattle.rising_lists.proofs.Keyed.{rising_tail, rising_head, rising_cons, head-absent}
-use Rattle.block_sparse.specs.declared.mark.Mark.{Mark}
+use Rattle.open_columns.specs.declared.mark.Mark.{Mark}
 use Rattle.block_sparse.specs.BlockComplexes.{Standing, AreLive, Fits, standing, cells, of_cell, total_size}
 use Rattle.block_sparse.specs.Grids.{placed}
 use Rattle.block_sparse.specs.Lists.{with_block, with_blocks}

@@ -5,7 +5,7 @@ use Rattle.dense_blocks.specs.Matrices.{zero_matrix}
 use Rattle.dense_blocks.specs.Blocks.{matrix_of, IsBlock}
 use Rattle.dense_blocks.specs.declared.block.Block.{Block}
 use Rattle.rising_lists.specs.Rising.{ByCell, IsRising, has, entry_of}
-use Rattle.block_sparse.specs.declared.mark.Mark.{Mark}
+use Rattle.open_columns.specs.declared.mark.Mark.{Mark}
 
 -- the live cells, each with its degree and its size; for each cell t the blocks that go to it, by the cells s that they come from;
 -- and for each s what is noted of those that come from it, by t

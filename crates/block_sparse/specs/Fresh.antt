@@ -2,7 +2,7 @@
 use Rattle.std.specs.Prelude.{◌≡◌, ◌<◌, ◌==◌, ℕ, false, List, [], Option, Some, None, if◌then◌else◌, length, take, slice_index_or}
 use Rattle.dense_blocks.specs.declared.block.Block.{Block}
 use Rattle.rising_lists.specs.Rising.{ByCell, keys, entry, updated, line_of}
-use Rattle.block_sparse.specs.declared.mark.Mark.{Mark}
+use Rattle.open_columns.specs.declared.mark.Mark.{Mark}
 use Rattle.block_sparse.specs.BlockComplexes.{is_zero}
 use Rattle.block_sparse.specs.Grids.{width, window, IsPart}
 

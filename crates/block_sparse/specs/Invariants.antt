@@ -3,7 +3,7 @@ use Rattle.std.specs.Prelude.{◌≡◌, ◌==◌, ℕ, Bool, true, false, List,
 use Rattle.dense_blocks.specs.Blocks.{matrix_of}
 use Rattle.dense_blocks.specs.declared.block.Block.{Block}
 use Rattle.rising_lists.specs.Rising.{ByCell, has, entry_of}
-use Rattle.block_sparse.specs.declared.mark.Mark.{Mark}
+use Rattle.open_columns.specs.declared.mark.Mark.{Mark}
 use Rattle.block_sparse.specs.BlockComplexes.{AreLive, Fits, cells, is_zero}
 
 abbrev pub is_square : Block → Bool

@@ -3,6 +3,5 @@ pub mod Grids
 pub mod Invariants
 pub mod Fresh
 pub mod Lists
-pub mod Open
 pub mod Candidates
 pub mod Cochains

@@ -3,11 +3,11 @@ ghost use Rattle.rising_lists.specs.Rising.{IsRising, has, keys, entry_of};
 ghost use Rattle.dense_blocks.specs.Blocks.{matrix_of};
 ghost use Rattle.block_sparse.specs.BlockComplexes.{AreLive, Fits, StandsAt, cells, degree_of, size_of, total_size, held, flag_of, with_flag};
 ghost use Rattle.block_sparse.specs.Grids.{width, part, placed, AreSized};
-ghost use Rattle.block_sparse.specs.Open.{FirstFrom, FirstPair};
+ghost use Rattle.open_columns.specs.Open.{FirstFrom, FirstPair};
 ghost use Rattle.block_sparse.specs.Candidates.{is_candidate};
 ghost use Rattle.block_sparse.specs.Lists.{with_block, with_blocks};
 
-use crate::columns::Columns;
+use open_columns::Columns;
 use crate::fresh::{fresh_columns, fresh_rows};
 use dense_blocks::Block;
 use rising_lists::Lines;

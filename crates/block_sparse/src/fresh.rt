@@ -4,8 +4,8 @@ ghost use Rattle.dense_blocks.specs.Blocks.{matrix_of};
 ghost use Rattle.block_sparse.specs.Grids.{width};
 ghost use Rattle.block_sparse.specs.Fresh.{IsFreshRow, IsFreshColumn, AreFreshRows, AreFreshColumns};
 
-use crate::columns::Columns;
-use crate::mark::Mark;
+use open_columns::Columns;
+use open_columns::Mark;
 use crate::parts::{column_marks, row_parts};
 use dense_blocks::Block;
 use rising_lists::{Line, Lines};

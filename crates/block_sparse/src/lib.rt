@@ -7,10 +7,8 @@
 
 mod applying;
 mod blocks;
-mod columns;
 mod comparing;
 mod fresh;
-mod mark;
 mod parts;
 #[cfg(test)]
 mod tests;

@@ -5,7 +5,7 @@ ghost use Rattle.block_sparse.specs.BlockComplexes.{is_zero};
 ghost use Rattle.block_sparse.specs.Grids.{width, window, IsPart};
 ghost use Rattle.block_sparse.specs.Fresh.{mark_of};
 
-use crate::mark::Mark;
+use open_columns::Mark;
 use dense_blocks::{Block, Entries};
 use std::alloc::{AllocError as NoMemory, Global};
 

@@ -3,7 +3,7 @@ use Rattle.std.proofs.Common.{◌≡◌, ℕ, ◌<◌, ◌≤◌, Bool, true, fa
 use Rattle.std.proofs.lemmas.Bool.{cases_lt, cases_Bool}
 use Rattle.block_sparse.specs.BlockComplexes.{BlockComplex}
 use Rattle.block_sparse.specs.Candidates.{is_candidate}
-use Rattle.block_sparse.specs.Open.{FirstFrom, FirstPair, IsFirst}
+use Rattle.open_columns.specs.Open.{FirstFrom, FirstPair, IsFirst}
 use Rattle.pair_find.specs.Pairs.{AtOrAfter, IsFirstFrom, IsNextFrom, NoneFrom}
 
 differ : (b : Bool) → b ≡ true → b ≡ false → ⊥

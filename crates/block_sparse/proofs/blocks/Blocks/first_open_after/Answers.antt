@@ -1,8 +1,9 @@
 use Rattle.std.proofs.Common.{ap, ◌∙◌}
 use Rattle.rising_lists.specs.Rising.{entry_of}
-use Rattle.block_sparse.specs.Open.{is_open}
+use Rattle.open_columns.specs.Open.{is_open}
 use Rattle.block_sparse.specs.Candidates.{is_candidate}
-use Rattle.block_sparse.proofs.OpenLaws.{open-candidate, first_pair-same}
+use Rattle.open_columns.proofs.OpenLaws.{first_pair-same}
+use Rattle.block_sparse.proofs.CandidateLaws.{open-candidate}
 use Rattle.block_sparse.proofs.blocks.Blocks.first_open_after.Goals as goal
 
 pub returns : goal.returns

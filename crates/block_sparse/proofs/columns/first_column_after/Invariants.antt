@@ -1,8 +1,0 @@
-use Rattle.std.proofs.Common.{◌+◌, is_some}
-use Rattle.rising_lists.specs.Rising.{entry}
-use Rattle.block_sparse.specs.Open.{first_of}
-use Rattle.block_sparse.proofs.OpenLaws.{NoneTo}
-use Rattle.block_sparse.proofs.columns.first_column_after.Given as goal
-
-abbrev pub invariant-loop-i : goal.invariant-loop-i
-invariant-loop-i l = NoneTo (λ s. is_some (first_of (entry l.firsts s))) l.firsts.cells (l.x + 1) l.i

@@ -1,7 +1,0 @@
-use Rattle.rising_lists.specs.Rising.{entry}
-use Rattle.block_sparse.specs.Open.{is_open}
-use Rattle.block_sparse.proofs.OpenLaws.{NoneTo}
-use Rattle.block_sparse.proofs.columns.first_from.Given as goal
-
-abbrev pub invariant-loop-i : goal.invariant-loop-i
-invariant-loop-i l = NoneTo (λ t. is_open (entry l.column t)) l.column.cells l.from l.i

@@ -1,0 +1,8 @@
+//! What the columns of a block complex note of its blocks, and the first open block of each column: square, and without a flag.
+#![tactic(auto)]
+
+mod columns;
+mod mark;
+
+pub use columns::Columns;
+pub use mark::Mark;
