@@ -1,18 +1,17 @@
 -- What a joined matrix leaves when its parts have come in.
-use Rattle.std.proofs.Common.{◌≡◌, ◌≢◌, ℕ, zero, suc, ◌<◌, ◌≤◌, ◌+◌, Bool, true, false, cond, ◌&&◌, ◌||◌, refl, sym, ap, ap₂, ◌∙◌, subst, arith, ◌⊎◌, inl, inr, List, [], ◌∷◌, length, map, get_or, take, drop, Option, Some, None, eqb, All, Result, Ok, Err}
-use Rattle.std.specs.Option.{unwrap_or, option_map, is_some}
+use Rattle.std.proofs.Common.{◌≡◌, ◌≢◌, ℕ, zero, suc, ◌<◌, ◌+◌, Bool, true, false, cond, ◌&&◌, ◌||◌, refl, sym, ap, ap₂, ◌∙◌, subst, arith, ◌⊎◌, inl, inr, List, [], ◌∷◌, length, map, get_or, take, drop, Option, Some, None, eqb, Result, Ok, Err}
+use Rattle.std.specs.Option.{unwrap_or, option_map}
 use Rattle.std.specs.Result.{IfOk}
 use Rattle.std.proofs.lemmas.Bool.{eq-eqb, ne_eqb, cases_eq, cases_Bool}
 use Rattle.std.proofs.lemmas.List.{drop-drop, length-map, get_or-map}
 use Rattle.dense_blocks.specs.declared.block.Block.{Block}
-use Rattle.dense_blocks.specs.Blocks.{matrix_of, IsBlock}
 use Rattle.dense_blocks.proofs.Cutting.{Sized, sized-size}
 use Rattle.rising_lists.specs.Rising.{ByCell, IsRising, has, keys, look, entry, entry_of, line_of, updated}
-use Rattle.rising_lists.proofs.Keyed.{rising_tail, rising_head, Place, place_of, has-at, look-at, look-absent}
+use Rattle.rising_lists.proofs.Keyed.{rising_tail, rising_head, place_of, has-at, look-at, look-absent}
 use Rattle.open_columns.specs.declared.mark.Mark.{Mark}
-use Rattle.block_sparse.specs.BlockComplexes.{BlockComplex, Standing, Fits, AreConsecutive, standing, held, is_zero, cells, size_of, degree_of}
+use Rattle.block_sparse.specs.BlockComplexes.{standing, is_zero, cells, size_of, degree_of}
 use Rattle.block_sparse.specs.Grids.{width, segment, part, placed, window, IsPart, AreSized}
-use Rattle.block_sparse.specs.Fresh.{mark_of, IsFreshRow, IsFreshColumn, line_at, AreFreshRows, AreFreshColumns}
+use Rattle.block_sparse.specs.Fresh.{mark_of, IsFreshRow, line_at, AreFreshRows, AreFreshColumns}
 use Rattle.block_sparse.specs.Invariants.{IsSound, is_square}
 
 abbrev no_line : {T : Type 0} → ByCell T

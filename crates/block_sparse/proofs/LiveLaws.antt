@@ -1,9 +1,9 @@
 -- Live cells by place.
-use Rattle.std.proofs.Common.{◌≡◌, ◌≢◌, ℕ, zero, suc, ◌<◌, ◌≤◌, ◌+◌, Bool, true, false, cond, ◌||◌, refl, sym, ap, ◌∙◌, subst, arith, ◌⊎◌, inl, inr, List, [], ◌∷◌, length, map, get_or, take, eqb, add-one}
-use Rattle.std.proofs.lemmas.Bool.{eq-eqb, ne_eqb, cases_eq, cases_lt}
+use Rattle.std.proofs.Common.{◌≡◌, ◌≢◌, ℕ, zero, suc, ◌<◌, ◌≤◌, ◌+◌, Bool, true, false, cond, ◌||◌, refl, sym, ap, ◌∙◌, arith, inl, inr, List, [], ◌∷◌, length, get_or, take, eqb, add-one}
+use Rattle.std.proofs.lemmas.Bool.{eq-eqb, ne_eqb, cases_lt}
 use Rattle.std.proofs.lemmas.List.{get_or-map, length-map}
 use Rattle.rising_lists.specs.Rising.{IsRising, has}
-use Rattle.rising_lists.proofs.Keyed.{rising_tail, rising_head, rising_le, has-absent}
+use Rattle.rising_lists.proofs.Keyed.{rising_tail, rising_head, has-absent}
 use Rattle.block_sparse.specs.BlockComplexes.{cells, of_cell, total_size}
 
 pub cell-at : (live : List (ℕ × ℕ × ℕ)) (i : ℕ) → i < length live → get_or (cells live) i 0 ≡ (get_or live i (0, 0, 0)).0

@@ -1,7 +1,7 @@
 -- What is left when a cell has gone, and blocks put one after another.
-use Rattle.std.proofs.Common.{◌≡◌, ◌≢◌, ℕ, zero, suc, ◌<◌, ◌≤◌, ◌+◌, Bool, true, false, cond, not, ◌&&◌, ◌||◌, refl, sym, ap, ap₂, ◌∙◌, subst, arith, ◌⊎◌, inl, inr, List, [], ◌∷◌, length, map, get_or, drop, Option, Some, None, eqb, All, filter}
+use Rattle.std.proofs.Common.{◌≡◌, ◌≢◌, ℕ, zero, suc, ◌<◌, ◌≤◌, ◌+◌, Bool, true, false, cond, not, ◌&&◌, ◌||◌, refl, sym, ap, ap₂, ◌∙◌, arith, ◌⊎◌, inl, inr, List, [], ◌∷◌, length, get_or, drop, Option, Some, None, eqb, filter}
 use Rattle.std.specs.Option.{is_some, option_map}
-use Rattle.std.proofs.lemmas.Bool.{eq-eqb, ne_eqb, cases_eq, cases_Bool, eqb-true}
+use Rattle.std.proofs.lemmas.Bool.{eq-eqb, ne_eqb, cases_eq}
 use Rattle.std.specs.List.{remove}
 use Rattle.std.proofs.lemmas.List.Elements.{All-filter}
 use Rattle.dense_blocks.specs.declared.block.Block.{Block}
@@ -9,7 +9,7 @@ use Rattle.dense_blocks.specs.Blocks.{matrix_of}
 use Rattle.rising_lists.specs.Rising.{ByCell, IsRising, has, entry_of}
 use Rattle.rising_lists.proofs.Keyed.{rising_tail, rising_head, rising_cons, head-absent}
 use Rattle.open_columns.specs.declared.mark.Mark.{Mark}
-use Rattle.block_sparse.specs.BlockComplexes.{Standing, AreLive, Fits, standing, cells, of_cell, total_size}
+use Rattle.block_sparse.specs.BlockComplexes.{Standing, AreLive, standing, cells, of_cell, total_size}
 use Rattle.block_sparse.specs.Grids.{placed}
 use Rattle.block_sparse.specs.Lists.{with_block, with_blocks}
 use Rattle.block_sparse.proofs.LiveLaws.{cell-at, length-cells}

@@ -1,5 +1,5 @@
 -- Blocks of scalars, and what they make of a value.
-use Rattle.std.proofs.Common.{◌≡◌, ℕ, zero, suc, ◌+◌, ◌<◌, Bool, true, false, List, [], ◌∷◌, ◌++◌, length, take, drop, get_or, Option, Some, None, All, refl, sym, ap, ◌∙◌, subst, arith}
+use Rattle.std.proofs.Common.{◌≡◌, ℕ, zero, suc, ◌<◌, true, false, List, [], ◌∷◌, length, Option, Some, None, All, refl, sym, ap, ◌∙◌, subst}
 use Rattle.std.specs.Option.{is_some}
 use Rattle.std.proofs.lemmas.List.Elements.{All-head, All-tail, All-append, All-nil}
 use Rattle.dense_blocks.specs.Field.{Ops, IsField}
@@ -8,7 +8,7 @@ use Rattle.dense_blocks.specs.Matrices.{applied, zero_matrix}
 use Rattle.dense_blocks.specs.Blocks.{matrix_of}
 use Rattle.dense_blocks.specs.declared.block.Block.{Block}
 use Rattle.dense_blocks.proofs.Cutting.{flat}
-use Rattle.dense_blocks.proofs.Shapes.{matrix-rows, matrix-size, to_vector, vector-scalars}
+use Rattle.dense_blocks.proofs.Shapes.{matrix-rows, to_vector, vector-scalars}
 use Rattle.dense_blocks.proofs.BlockLaws.{block-entries, block-matrix, block-size}
 use Rattle.dense_blocks.proofs.MatrixLaws.{zero_matrix-matrix, zero_matrix-applied}
 use Rattle.cochain_vec.specs.Complexes.{sum_into, value_at, total_size}

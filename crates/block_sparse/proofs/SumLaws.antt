@@ -1,18 +1,18 @@
 -- Sums over rising lists of cells, and the sum into a cell as the sum over the live cells.
-use Rattle.std.proofs.Common.{◌≡◌, ◌≢◌, ℕ, zero, suc, ◌<◌, ◌≤◌, ◌+◌, Bool, true, false, cond, ◌&&◌, ◌||◌, refl, sym, ap, ap₂, ◌∙◌, subst, arith, ◌⊎◌, inl, inr, List, [], ◌∷◌, ◌++◌, length, map, filter, get_or, take, eqb, All}
+use Rattle.std.proofs.Common.{◌≡◌, ◌≢◌, ℕ, ◌<◌, ◌≤◌, ◌+◌, Bool, true, false, cond, ◌&&◌, ◌||◌, refl, sym, ap, ap₂, ◌∙◌, arith, ◌⊎◌, inl, inr, List, [], ◌∷◌, ◌++◌, length, map, filter, get_or, take, eqb, All}
 use Rattle.std.specs.List.{flat_map}
-use Rattle.std.proofs.lemmas.Bool.{eq-eqb, ne_eqb, eqb-true, cases_Bool, cases_eq}
+use Rattle.std.proofs.lemmas.Bool.{eq-eqb, ne_eqb, eqb-true, cases_eq}
 use Rattle.std.proofs.lemmas.List.{take_more}
 use Rattle.std.proofs.lemmas.List.Elements.{All-append, All-filter, All-from_get_or, All-map, All-nil, All-tail, All-head}
 use Rattle.dense_blocks.specs.Field.{Ops, IsField}
 use Rattle.dense_blocks.specs.Vectors.{zeros, plus}
 use Rattle.dense_blocks.specs.Matrices.{applied}
 use Rattle.dense_blocks.proofs.Shapes.{Vector}
-use Rattle.dense_blocks.proofs.VectorLaws.{plus-assoc, plus-comm, plus-zeros, zeros-plus, zeros-vector}
+use Rattle.dense_blocks.proofs.VectorLaws.{plus-assoc, plus-comm}
 use Rattle.cochain_vec.specs.declared.cell.Cell.{Cell}
 use Rattle.cochain_vec.specs.Complexes.{Arrow, RowsFit, sum_into}
 use Rattle.cochain_vec.proofs.CoboundaryLaws.{applied-rows}
-use Rattle.cochain_vec.proofs.PathLaws.{sum_over, sum_over-vector, sum_over-filter}
+use Rattle.cochain_vec.proofs.PathLaws.{sum_over, sum_over-filter}
 use Rattle.rising_lists.specs.Rising.{IsRising, has}
 use Rattle.rising_lists.proofs.Keyed.{rising_tail, rising_head, rising_cons, head-absent, place_of}
 use Rattle.block_sparse.specs.BlockComplexes.{BlockComplex, cells, matrix, size_of}

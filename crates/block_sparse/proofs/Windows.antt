@@ -1,8 +1,8 @@
 -- Parts of matrices, row by row.
-use Rattle.std.proofs.Common.{◌≡◌, ℕ, zero, suc, ◌+◌, ◌-◌, ◌*◌, ◌<◌, ◌≤◌, Bool, true, false, cond, ◌&&◌, List, [], ◌∷◌, ◌++◌, length, map, take, drop, get_or, refl, sym, ap, ap₂, ◌∙◌, subst, arith, eqb, length-drop, add-one}
-use Rattle.std.proofs.lemmas.List.{get_or-take, get_or-drop, get_or-map, length-map, length-take-le, take_more}
+use Rattle.std.proofs.Common.{◌≡◌, ℕ, zero, suc, ◌+◌, ◌*◌, ◌<◌, ◌≤◌, Bool, true, false, ◌&&◌, List, [], ◌∷◌, ◌++◌, length, map, take, drop, get_or, refl, sym, ap, ap₂, ◌∙◌, subst, arith, eqb, length-drop, add-one}
+use Rattle.std.proofs.lemmas.List.{get_or-take, get_or-drop, get_or-map, length-map, length-take-le}
 use Rattle.std.specs.List.{list_all}
-use Rattle.dense_blocks.proofs.Cutting.{Sized, sized-size, first_rows, first_rows-next}
+use Rattle.dense_blocks.proofs.Cutting.{Sized, first_rows, first_rows-next}
 use Rattle.dense_blocks.specs.Matrices.{cut}
 use Rattle.block_sparse.specs.BlockComplexes.{is_zero}
 use Rattle.block_sparse.specs.Grids.{width, window}

@@ -1,8 +1,8 @@
 -- Block complexes: live cells, and a matrix for each ordered pair of them.
-use Rattle.std.specs.Prelude.{◌≡◌, ◌≤◌, ◌==◌, ◌+◌, ℕ, Bool, true, false, List, [], ◌∷◌, Option, Some, None, if◌then◌else◌, length, map, All, is_some}
+use Rattle.std.specs.Prelude.{◌≡◌, ◌≤◌, ◌==◌, ◌+◌, ℕ, Bool, true, false, List, [], ◌∷◌, Option, Some, None, if◌then◌else◌, map, All, is_some}
 use Rattle.std.specs.List.{list_all}
 use Rattle.dense_blocks.specs.Matrices.{zero_matrix}
-use Rattle.dense_blocks.specs.Blocks.{matrix_of, IsBlock}
+use Rattle.dense_blocks.specs.Blocks.{matrix_of}
 use Rattle.dense_blocks.specs.declared.block.Block.{Block}
 use Rattle.rising_lists.specs.Rising.{ByCell, IsRising, has, entry_of}
 use Rattle.open_columns.specs.declared.mark.Mark.{Mark}

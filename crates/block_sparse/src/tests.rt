@@ -249,7 +249,14 @@ fn applies_the_circle(rt: HostRuntime) -> Result<(), NoMemory> {
 fn applies_blocks_of_several_rows(rt: HostRuntime) -> Result<(), NoMemory> {
     let alloc = rt.alloc();
     // The cells 1 and 6 stand between others of their degree.
-    let live = [(1, 2, 1), (2, 1, 2), (3, 2, 2), (4, 1, 1), (5, 0, 1), (6, 2, 1)];
+    let live = [
+        (1, 2, 1),
+        (2, 1, 2),
+        (3, 2, 2),
+        (4, 1, 1),
+        (5, 0, 1),
+        (6, 2, 1),
+    ];
     assert!(rt; Blocks::may_live(&live));
     let mut blocks = Blocks::of_cells(alloc, &live)?;
     let b = Block::of(alloc, 2, 2, &[0, 1, 1, 1])?;
@@ -257,7 +264,13 @@ fn applies_blocks_of_several_rows(rt: HostRuntime) -> Result<(), NoMemory> {
     assert!(rt; blocks.set(2, 3, b).is_ok());
     put(&rt, alloc, &mut blocks, (4, 6, 1))?;
     // The cochain has two coordinates at 2, and one at 4; its coboundary has those of 1, 3 and 6.
-    assert_eq!(rt; coboundary(&rt, alloc, &blocks, 1, &[1, 0, 0])?.as_slice(), [0, 0, 1, 0].as_slice());
-    assert_eq!(rt; coboundary(&rt, alloc, &blocks, 1, &[0, 1, 1])?.as_slice(), [0, 1, 1, 1].as_slice());
+    assert_eq!(rt;
+        coboundary(&rt, alloc, &blocks, 1, &[1, 0, 0])?.as_slice(),
+        [0, 0, 1, 0].as_slice()
+    );
+    assert_eq!(rt;
+        coboundary(&rt, alloc, &blocks, 1, &[0, 1, 1])?.as_slice(),
+        [0, 1, 1, 1].as_slice()
+    );
     Ok(())
 }

@@ -1,4 +1,4 @@
-use Rattle.std.proofs.Common.{◌≡◌, ◌∙◌, ◌+◌, ◌≤◌, ◌<◌, ℕ, ap, ap₂, sym, length, take, drop, get_or, refl, arith}
+use Rattle.std.proofs.Common.{◌≡◌, ◌∙◌, ◌<◌, ℕ, ap, sym, length, take, drop, get_or, refl, arith}
 use Rattle.std.proofs.lemmas.List.{get_or_read_under}
 use Rattle.cochain_vec.specs.Complexes.{total_size, value_at}
 use Rattle.block_sparse.specs.Cochains.{of_degree}

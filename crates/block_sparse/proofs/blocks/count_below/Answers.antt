@@ -1,4 +1,4 @@
-use Rattle.std.proofs.Common.{◌≡◌, ◌≤◌, ◌<◌, ◌+◌, ◌-◌, ◌/◌, ℕ, length, get_or, arith}
+use Rattle.std.proofs.Common.{◌<◌, ◌+◌, ◌-◌, ◌/◌, ℕ, length, arith}
 use Rattle.rising_lists.proofs.Keyed.{rising_le}
 use Rattle.block_sparse.specs.BlockComplexes.{cells}
 use Rattle.block_sparse.proofs.LiveLaws.{cell-at, length-cells}

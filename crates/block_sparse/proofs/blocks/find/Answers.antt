@@ -1,4 +1,4 @@
-use Rattle.std.proofs.Common.{◌≡◌, ◌<◌, ◌≢◌, ℕ, length, get_or, arith}
+use Rattle.std.proofs.Common.{arith}
 use Rattle.block_sparse.proofs.LiveLaws.{absent-at}
 use Rattle.block_sparse.proofs.blocks.find.Goals as goal
 use Rattle.block_sparse.proofs.blocks.find.Goals.{else-at-live-via-then-at-live+else-live-at, else-at-live-via-else-at-live}

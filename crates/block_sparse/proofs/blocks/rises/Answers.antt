@@ -1,4 +1,4 @@
-use Rattle.std.proofs.Common.{true, false, ◌≡◌, ◌≤◌, ◌<◌, ◌+◌, ◌-◌, ℕ, length, get_or, arith, inl, inr, subst}
+use Rattle.std.proofs.Common.{true, false, ◌≡◌, ◌<◌, ◌-◌, ℕ, length, get_or, arith, inl, inr, subst}
 use Rattle.std.proofs.lemmas.Bool.{cases_lt}
 use Rattle.block_sparse.specs.BlockComplexes.{cells}
 use Rattle.block_sparse.proofs.LiveLaws.{cell-at, length-cells}

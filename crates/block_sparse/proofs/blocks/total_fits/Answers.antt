@@ -1,4 +1,4 @@
-use Rattle.std.proofs.Common.{true, false, ◌≡◌, ◌≤◌, ◌<◌, ◌+◌, ℕ, length, arith}
+use Rattle.std.proofs.Common.{true, false, ◌≡◌, ◌<◌, ◌+◌, ℕ, length, arith}
 use Rattle.block_sparse.proofs.LiveLaws.{total-next, total-take}
 use Rattle.block_sparse.proofs.blocks.total_fits.Goals as goal
 

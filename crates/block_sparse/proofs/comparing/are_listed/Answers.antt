@@ -1,4 +1,4 @@
-use Rattle.std.proofs.Common.{◌≡◌, ◌<◌, ℕ, ap, ◌∙◌, sym, refl, true, false, length, get_or, arith, below_more, rules}
+use Rattle.std.proofs.Common.{◌≡◌, ℕ, ap, ◌∙◌, sym, refl, true, false, get_or, arith, below_more, rules}
 use Rattle.rising_lists.specs.Rising.{has, keys}
 use Rattle.rising_lists.proofs.Keyed.{place_of, has-at}
 use Rattle.block_sparse.proofs.comparing.are_listed.Goals as goal

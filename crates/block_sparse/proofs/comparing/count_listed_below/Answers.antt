@@ -1,4 +1,4 @@
-use Rattle.std.proofs.Common.{◌≡◌, ◌≤◌, ◌<◌, ◌+◌, ◌-◌, ◌/◌, ℕ, length, get_or, arith}
+use Rattle.std.proofs.Common.{◌<◌, ◌+◌, ◌-◌, ◌/◌, ℕ, length, arith}
 use Rattle.rising_lists.proofs.Keyed.{rising_le}
 use Rattle.std.proofs.lemmas.List.{get_or-map, length-map}
 use Rattle.rising_lists.specs.Rising.{keys}

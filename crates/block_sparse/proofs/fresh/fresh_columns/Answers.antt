@@ -1,9 +1,8 @@
-use Rattle.std.proofs.Common.{◌≡◌, ◌<◌, ◌≤◌, ◌+◌, ℕ, ap, ◌∙◌, sym, subst, length, get_or, take, true, [], ◌∷◌, ◌++◌, arith, inl, inr, length-append}
+use Rattle.std.proofs.Common.{◌≡◌, ◌<◌, ℕ, ap, ◌∙◌, sym, subst, length, get_or, take, [], ◌∷◌, arith, inl, inr, length-append}
 use Rattle.std.proofs.lemmas.Bool.{cases_lt}
-use Rattle.std.proofs.lemmas.List.{get_or_push, get_or_append_left, get_or-map, length-map}
+use Rattle.std.proofs.lemmas.List.{get_or_push, get_or_append_left}
 use Rattle.dense_blocks.specs.Blocks.{matrix_of}
-use Rattle.rising_lists.specs.Rising.{has, keys, line_of}
-use Rattle.rising_lists.proofs.Keyed.{has-at}
+use Rattle.rising_lists.specs.Rising.{line_of}
 use Rattle.block_sparse.specs.Fresh.{IsFreshColumn, line_at}
 use Rattle.block_sparse.specs.Grids.{width}
 use Rattle.block_sparse.proofs.GridLaws.{key-listed}

@@ -1,4 +1,3 @@
-use Rattle.std.proofs.Common.{Ok, Err}
 use Rattle.block_sparse.proofs.GridLaws.{fresh-row}
 use Rattle.block_sparse.proofs.fresh.fresh_row.Goals as goal
 

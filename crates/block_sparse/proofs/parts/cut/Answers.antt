@@ -1,8 +1,8 @@
-use Rattle.std.proofs.Common.{◌≡◌, ◌<◌, ◌≤◌, ◌+◌, ◌*◌, ℕ, ap, ap₂, ◌∙◌, sym, refl, length, get_or, take, drop, [], ◌++◌, arith, rules}
+use Rattle.std.proofs.Common.{◌≡◌, ◌<◌, ◌≤◌, ◌+◌, ◌*◌, ap₂, ◌∙◌, sym, length, ◌++◌, arith, rules}
 use Rattle.dense_blocks.specs.Blocks.{matrix_of}
 use Rattle.dense_blocks.specs.Matrices.{cut}
 use Rattle.dense_blocks.proofs.BlockLaws.{block-size}
-use Rattle.dense_blocks.proofs.Cutting.{Sized, first_rows, first_rows-none, first_rows-size, cut-first_rows}
+use Rattle.dense_blocks.proofs.Cutting.{Sized, first_rows-none, first_rows-size, cut-first_rows}
 use Rattle.block_sparse.specs.Grids.{window}
 use Rattle.block_sparse.proofs.Windows.{window-next, sized-window, sized-cut}
 use Rattle.block_sparse.proofs.parts.cut.Goals as goal

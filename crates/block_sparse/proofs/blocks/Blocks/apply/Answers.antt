@@ -1,5 +1,5 @@
 -- The live cells one by one, and all of them.
-use Rattle.std.proofs.Common.{◌≡◌, ◌∙◌, ◌≤◌, ◌<◌, ◌+◌, ℕ, suc, List, ap, sym, subst, length, get_or, take, arith, ◌++◌, ◌∷◌, [], refl, add-one}
+use Rattle.std.proofs.Common.{◌≡◌, ◌∙◌, ◌≤◌, ◌<◌, ◌+◌, ℕ, suc, List, ap, sym, subst, length, get_or, arith, ◌++◌, ◌∷◌, [], refl, add-one}
 use Rattle.std.specs.List.{flat_map}
 use Rattle.std.proofs.lemmas.List.{take_all}
 use Rattle.cochain_vec.specs.declared.cell.Cell.{Cell}

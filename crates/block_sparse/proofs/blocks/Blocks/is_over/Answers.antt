@@ -1,4 +1,4 @@
-use Rattle.std.proofs.Common.{◌≡◌, ap, ◌∙◌, sym, subst, All, inl, inr, ◌<◌, length, arith, ℕ}
+use Rattle.std.proofs.Common.{◌≡◌, ap, ◌∙◌, sym, subst, All, inl, inr, ◌<◌, length, arith}
 use Rattle.std.specs.Option.{is_some}
 use Rattle.std.proofs.lemmas.Bool.{cases_Bool}
 use Rattle.dense_blocks.specs.Vectors.{AllScalars}
@@ -16,12 +16,13 @@ returns g c =
     let v = c.args.self.now in
     let live = c.deref.result.now in
     let is : live ≡ v.live = c.deref.ensures.value ∙ ap (λ (v : BlockComplex). v.live) c.self.view_is in
-    let sound : IsSound v.live v.rows v.columns = subst (λ (v : BlockComplex). IsSound v.live v.rows v.columns) c.self.view_is c.self.invariant in
-    (λ h s t. elim (cases_Bool (is_some (held v s t))) [
-      | inl e ↦
-          let p = place_of (cells live) t (ap (λ l. has t (cells l)) is ∙ (held-between v sound s t e).to) in
-          let l : p.at < length live = omega (arith, p.inside, length-cells live) in
-          subst (λ q. All (AllScalars K) (matrix v s q)) (sym (cell-at live p.at l) ∙ p.is) (c.rows_are_over.ensures.0 h p.at (0, 0, 0) l s)
-      | inr e ↦ none-scalars K v s t (g.met.F.Scalars.is_field c.args.f.now) (not-held (held v s t) e)
-    ],
-    λ all. c.rows_are_over.ensures.1 (λ i d l s. all s _))
+    let sound : IsSound v.live v.rows v.columns = subst (λ (v : BlockComplex). IsSound v.live v.rows v.columns) c.self.view_is c.self.invariant in (
+      λ h s t. elim (cases_Bool (is_some (held v s t))) [
+        | inl e ↦
+            let p = place_of (cells live) t (ap (λ l. has t (cells l)) is ∙ (held-between v sound s t e).to) in
+            let l : p.at < length live = omega (arith, p.inside, length-cells live) in
+            subst (λ q. All (AllScalars K) (matrix v s q)) (sym (cell-at live p.at l) ∙ p.is) (c.rows_are_over.ensures.0 h p.at (0, 0, 0) l s)
+        | inr e ↦ none-scalars K v s t (g.met.F.Scalars.is_field c.args.f.now) (not-held (held v s t) e)
+      ],
+      λ all. c.rows_are_over.ensures.1 (λ i d l s. all s _),
+    )

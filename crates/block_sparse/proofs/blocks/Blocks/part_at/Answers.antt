@@ -1,5 +1,5 @@
 -- The row's blocks one by one, and all of them.
-use Rattle.std.proofs.Common.{◌≡◌, ◌∙◌, ◌≤◌, ◌<◌, ℕ, List, ap, sym, subst, length, get_or, take, arith}
+use Rattle.std.proofs.Common.{◌≡◌, ◌∙◌, ◌≤◌, ◌<◌, ℕ, List, ap, sym, subst, length, get_or, arith}
 use Rattle.std.proofs.lemmas.List.{take_all}
 use Rattle.dense_blocks.specs.Vectors.{IsVector, plus, zeros}
 use Rattle.dense_blocks.specs.Matrices.{applied}

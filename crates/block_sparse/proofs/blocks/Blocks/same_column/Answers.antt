@@ -1,4 +1,4 @@
-use Rattle.std.proofs.Common.{◌≡◌, ℕ, ap, ◌∙◌, sym, true, false, length, ◌≤◌, arith}
+use Rattle.std.proofs.Common.{◌≡◌, ℕ, ap, ◌∙◌, sym, true, false, ◌≤◌, arith}
 use Rattle.dense_blocks.specs.Blocks.{matrix_of}
 use Rattle.dense_blocks.proofs.Cutting.{Sized}
 use Rattle.block_sparse.proofs.Windows.{sized-cut}

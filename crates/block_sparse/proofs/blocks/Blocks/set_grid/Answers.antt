@@ -1,4 +1,4 @@
-use Rattle.std.proofs.Common.{◌≡◌, ◌≤◌, ◌+◌, ℕ, subst, ap, ◌∙◌, sym, true, cond, ◌&&◌, arith}
+use Rattle.std.proofs.Common.{◌≡◌, ◌+◌, subst, ap, ◌∙◌, sym, cond, ◌&&◌}
 use Rattle.dense_blocks.specs.Blocks.{matrix_of}
 use Rattle.rising_lists.specs.Rising.{has, keys}
 use Rattle.block_sparse.specs.BlockComplexes.{cells, held, degree_of}

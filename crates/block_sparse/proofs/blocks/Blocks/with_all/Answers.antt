@@ -1,4 +1,4 @@
-use Rattle.std.proofs.Common.{◌≡◌, ◌<◌, ◌≤◌, ◌+◌, ℕ, ap, ◌∙◌, sym, length, drop, get_or, drop-cons, add-one, arith, suc, ◌∷◌}
+use Rattle.std.proofs.Common.{◌<◌, ◌≤◌, ◌+◌, ℕ, ap, ◌∙◌, sym, length, drop, drop-cons, add-one, arith, suc, ◌∷◌}
 use Rattle.dense_blocks.specs.Blocks.{matrix_of}
 use Rattle.block_sparse.specs.BlockComplexes.{held}
 use Rattle.block_sparse.specs.Lists.{with_block, with_blocks}
