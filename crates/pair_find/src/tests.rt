@@ -17,32 +17,32 @@ const CELLS: [(u32, u8, u8); 8] = [
     (7, 1, 1),
 ];
 
-/// The pairs with a block, and whether it is square: all but (0, 6) and (2, 4).
-const PAIRS: [(u32, u32, u8); 7] = [
-    (0, 6, 2),
-    (0, 7, 1),
-    (1, 4, 1),
-    (1, 5, 1),
-    (2, 4, 2),
-    (2, 6, 4),
-    (3, 4, 1),
+/// The pairs with a block, and its entries: all but those at (0, 6) and (2, 4) are square.
+const PAIRS: &[(u32, u32, &[u8])] = &[
+    (0, 6, &[1, 1]),
+    (0, 7, &[1]),
+    (1, 4, &[1]),
+    (1, 5, &[1]),
+    (2, 4, &[1, 1]),
+    (2, 6, &[1, 1, 1, 1]),
+    (3, 4, &[1]),
 ];
 
-/// A block of so many rows and columns with as many entries, all 1.
-fn ones(alloc: Global, rows: u32, cols: u32, count: u8) -> Result<Block, NoMemory> {
-    let entries = [1; 4];
-    Block::of(alloc, rows, cols, &entries[..count as usize])
-}
-
+/// Puts the block of these entries.
 fn put(
     rt: &impl Abort,
     alloc: Global,
     blocks: &mut Blocks,
-    pair: (u32, u32, u8),
+    s: u32,
+    t: u32,
+    entries: &[u8],
 ) -> Result<(), NoMemory> {
-    let b = ones(alloc, blocks.size(pair.1), blocks.size(pair.0), pair.2)?;
-    assert!(rt; blocks.fits(pair.0, pair.1, &b));
-    match blocks.set(pair.0, pair.1, b) {
+    let rows = blocks.size(t);
+    let cols = blocks.size(s);
+    assert!(rt; Block::fits(rows, cols, entries.len()));
+    let b = Block::of(alloc, rows, cols, entries)?;
+    assert!(rt; blocks.fits(s, t, &b));
+    match blocks.set(s, t, b) {
         Ok(()) => Ok(()),
         Err((_, fault)) => Err(fault),
     }
@@ -51,8 +51,8 @@ fn put(
 fn blocks(rt: &impl Abort, alloc: Global) -> Result<Blocks, NoMemory> {
     assert!(rt; Blocks::may_live(&CELLS));
     let mut blocks = Blocks::of_cells(alloc, &CELLS)?;
-    for pair in PAIRS {
-        put(rt, alloc, &mut blocks, pair)?;
+    for (s, t, entries) in PAIRS {
+        put(rt, alloc, &mut blocks, *s, *t, entries)?;
     }
     Ok(blocks)
 }
