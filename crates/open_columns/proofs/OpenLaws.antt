@@ -1,6 +1,6 @@
 -- The first open block of each column.
-use Rattle.std.proofs.Common.{◌≡◌, ◌≢◌, ℕ, zero, suc, ◌<◌, ◌≤◌, ◌+◌, Bool, true, false, cond, not, ◌&&◌, refl, sym, ap, ap₂, ◌∙◌, subst, arith, ◌⊎◌, inl, inr, List, [], ◌∷◌, length, get_or, replicate, Option, Some, None, MatchOption, eqb}
-use Rattle.std.specs.Option.{option_map, is_some, unwrap_or}
+use Rattle.std.proofs.Common.{◌≡◌, ◌≢◌, ℕ, zero, suc, ◌<◌, ◌≤◌, ◌+◌, Bool, true, false, cond, refl, sym, ap, ◌∙◌, subst, arith, ◌⊎◌, inl, inr, List, [], ◌∷◌, length, get_or, replicate, Option, Some, None, MatchOption, eqb}
+use Rattle.std.specs.Option.{option_map, is_some}
 use Rattle.std.proofs.lemmas.Bool.{eq-eqb, ne_eqb, cases_eq, cases_Bool, cases_lt}
 use Rattle.std.proofs.lemmas.List.{length-replicate}
 use Rattle.rising_lists.specs.Rising.{ByCell, IsRising, IsLine, has, look, entry, entry_of}

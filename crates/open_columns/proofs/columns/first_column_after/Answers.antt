@@ -1,4 +1,4 @@
-use Rattle.std.proofs.Common.{◌≡◌, ◌<◌, ◌≤◌, ◌+◌, ℕ, true, false, Some, is_some, ap, ◌∙◌, sym, subst, length, get_or, arith, rules, inl, inr}
+use Rattle.std.proofs.Common.{◌≡◌, ◌<◌, ◌+◌, ℕ, true, false, is_some, ap, ◌∙◌, sym, subst, length, get_or, arith, rules}
 use Rattle.rising_lists.specs.Rising.{entry}
 use Rattle.open_columns.specs.Open.{first_of, IsFirst}
 use Rattle.open_columns.proofs.OpenLaws.{first-listed, none-at_all, none-next, unlisted-column, entry-at, nothing}

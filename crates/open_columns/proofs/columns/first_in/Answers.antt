@@ -1,4 +1,4 @@
-use Rattle.std.proofs.Common.{ap, ◌∙◌, sym}
+use Rattle.std.proofs.Common.{ap}
 use Rattle.rising_lists.specs.Rising.{entry, entry_of}
 use Rattle.rising_lists.proofs.LineLaws.{line-absent}
 use Rattle.open_columns.specs.Open.{is_open}

@@ -1,5 +1,5 @@
-use Rattle.std.proofs.Common.{ap, ◌∙◌, sym, cond, eqb, None, refl}
-use Rattle.rising_lists.specs.Rising.{entry, entry_of}
+use Rattle.std.proofs.Common.{ap, ◌∙◌, cond, None, refl}
+use Rattle.rising_lists.specs.Rising.{entry_of}
 use Rattle.std.proofs.lemmas.Bool.{eq-eqb, ne_eqb}
 use Rattle.open_columns.specs.Open.{is_open}
 use Rattle.open_columns.proofs.OpenLaws.{first-replaced}

@@ -1,4 +1,4 @@
-use Rattle.std.proofs.Common.{ℕ, ap, ◌∙◌, sym}
+use Rattle.std.proofs.Common.{ap, ◌∙◌, sym}
 use Rattle.rising_lists.specs.Rising.{entry_of}
 use Rattle.open_columns.specs.Open.{is_open}
 use Rattle.open_columns.proofs.OpenLaws.{first_pair-none, first_pair-some, first_pair-same}

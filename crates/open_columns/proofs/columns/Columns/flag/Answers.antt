@@ -1,8 +1,7 @@
-use Rattle.std.proofs.Common.{ap, ◌∙◌, sym, cond, eqb, ◌&&◌, None, refl, subst, ◌≡◌, true}
+use Rattle.std.proofs.Common.{ap, ◌∙◌, sym, cond, eqb, ◌&&◌, true}
 use Rattle.std.specs.Option.{option_map}
-use Rattle.std.proofs.lemmas.Bool.{eq-eqb, ne_eqb}
+use Rattle.std.proofs.lemmas.Bool.{ne_eqb}
 use Rattle.rising_lists.specs.Rising.{entry, entry_of}
-use Rattle.open_columns.specs.declared.mark.Mark.{Mark}
 use Rattle.open_columns.specs.Open.{is_open, first_of}
 use Rattle.open_columns.proofs.OpenLaws.{first-renewed, fewer, flag-closes}
 use Rattle.open_columns.proofs.columns.Columns.flag.Goals as goal

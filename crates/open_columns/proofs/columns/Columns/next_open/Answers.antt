@@ -1,4 +1,4 @@
-use Rattle.std.proofs.Common.{ℕ, ap, ◌∙◌, sym, subst, arith, Some, None}
+use Rattle.std.proofs.Common.{ap, ◌∙◌, sym, subst, arith, None}
 use Rattle.rising_lists.specs.Rising.{entry_of}
 use Rattle.open_columns.specs.Open.{is_open, FirstFrom}
 use Rattle.open_columns.proofs.columns.Columns.next_open.Goals as goal

@@ -1,4 +1,4 @@
-use Rattle.std.proofs.Common.{◌≡◌, ℕ, true, ap, ◌∙◌, sym, cond, eqb, ◌&&◌, None, refl}
+use Rattle.std.proofs.Common.{ap, ◌∙◌, sym, cond, ◌&&◌, refl}
 use Rattle.std.proofs.lemmas.Bool.{eq-eqb, ne_eqb}
 use Rattle.rising_lists.specs.Rising.{has, entry, entry_of, line_of}
 use Rattle.open_columns.specs.Open.{is_open}

@@ -1,5 +1,5 @@
-use Rattle.std.proofs.Common.{ap, ◌∙◌, sym, cond, eqb, ◌&&◌, None, refl, subst, ◌≡◌, true}
-use Rattle.std.proofs.lemmas.Bool.{eq-eqb, ne_eqb}
+use Rattle.std.proofs.Common.{ap, ◌∙◌, sym, cond, eqb, ◌&&◌, None}
+use Rattle.std.proofs.lemmas.Bool.{ne_eqb}
 use Rattle.rising_lists.specs.Rising.{entry, entry_of}
 use Rattle.open_columns.specs.Open.{is_open, first_of}
 use Rattle.open_columns.proofs.OpenLaws.{first-renewed, fewer, removal-closes}
