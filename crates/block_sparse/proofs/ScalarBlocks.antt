@@ -24,7 +24,7 @@ use Rattle.rising_lists.specs.Rising.{IsRising, entry_of, has}
 pub value-scalars : (K : Ops) (cs : List Cell) (z : List ℕ) (s : ℕ) → IsVector K (total_size cs) z → AllScalars K (value_at cs z s)
 value-scalars K cs z s h = vector-scalars K (size_at cs s) (value_at cs z s) (value-vector K cs z s (to_vector K (total_size cs) z h))
 
-flat-all : (K : Ops) (A : List (List ℕ)) → All (AllScalars K) A → AllScalars K (flat A)
+pub flat-all : (K : Ops) (A : List (List ℕ)) → All (AllScalars K) A → AllScalars K (flat A)
 flat-all K [] h = All-nil (λ a. a < K.order)
 flat-all K (r ∷ A) h = All-append (λ a. a < K.order) r (flat A) (All-head (AllScalars K) r A h) (flat-all K A (All-tail (AllScalars K) r A h))
 
