@@ -35,6 +35,7 @@ use Rattle.block_sparse.specs.Cochains.{cell_of, complex_of, of_degree}
 use Rattle.block_sparse.proofs.LiveLaws.{cell-at, length-cells, of_cell-at}
 use Rattle.block_sparse.proofs.SumLaws.{arriving, arriving-vector, sum_into-live, sum_over-some}
 use Rattle.block_sparse.proofs.DegreeLaws.{value-absent}
+use Rattle.block_sparse.proofs.ScalarBlocks.{zero-is}
 use Rattle.sheaf_data.specs.Sheaves.{IsSheaf}
 use Rattle.sheaf_data.specs.Betti.{numbered, signed, cochain_complex_of}
 use Rattle.coboundary.specs.Start.{IsStart, face_matrix, with_stalks}
@@ -54,23 +55,6 @@ joined-same : (f g : Cell → List ℕ) (cs : List Cell) → All (λ (u : Cell).
 joined-same f g [] h = refl
 joined-same f g (c ∷ cs) h =
     ap₂ ◌++◌ (All-head (λ (u : Cell). f u ≡ g u) c cs h) (joined-same f g cs (All-tail (λ (u : Cell). f u ≡ g u) c cs h))
-
--- a matrix whose entries are all 0
-zero-list : (K : Ops) (n : ℕ) (v : List ℕ) → Vector K n v → list_all (λ a. a == 0) v ≡ true → v ≡ zeros n
-zero-list K zero [] h e = refl
-zero-list K zero (a ∷ v) h e = absurd h
-zero-list K (suc n) [] h e = absurd h
-zero-list K (suc n) (a ∷ v) h e =
-    let p = and_parts (a == 0) (list_all (λ a. a == 0) v) e in
-    ap₂ ◌∷◌ (eqb-true a 0 p.0) (zero-list K n v h.1 p.1)
-
-zero-is : (K : Ops) (m n : ℕ) (A : List (List ℕ)) → Matrix K m n A → is_zero A ≡ true → A ≡ zero_matrix m n
-zero-is K zero n [] h e = refl
-zero-is K zero n (r ∷ A) h e = absurd h
-zero-is K (suc m) n [] h e = absurd h
-zero-is K (suc m) n (r ∷ A) h e =
-    let p = and_parts (list_all (λ a. a == 0) r) (is_zero A) e in
-    ap₂ ◌∷◌ (zero-list K n r h.0 p.0) (zero-is K m n A h.1 p.1)
 
 range-rising : (a n : ℕ) → IsRising (range_with_len a n)
 range-rising a n i j l m =

@@ -94,54 +94,63 @@ module _ (K : Ops) (F : IsField K) (v : BlockComplex) (sound : IsSound v.live v.
       go true e = absurd (n (held-between v sound s t e).degrees)
       go false e = matrix-none K v s t (not-held (held v s t) e)
 
-  module _ (x y : ℕ) (a : List (List ℕ)) (w : BlockComplex) (removal : IsRemoval K v x y a w) where
-    pub inverse-shape : Matrix K (size x) (size y) a
-    inverse-shape = subst (λ n. Matrix K (size x) n a) (sym removal.square) (to_matrix K (size x) (size x) a removal.inverse.shape)
-
+  -- M(s, t) - M(x, t) a M(s, y)
+  module _ (x y : ℕ) (a : List (List ℕ)) (a-shape : Matrix K (size x) (size y) a) where
     pub corner-shape : (s t : ℕ) → Matrix K (size t) (size s) (corner K v x y a s t)
     corner-shape s t =
-        matrix_sum-matrix K F (size t) (size s) (matrix v s t) (matrix_negative K (product K (size s) (matrix v x t) (product K (size s) a (matrix v s y)))) (shape s t)
-        (matrix_negative-matrix K F (size t) (size s) (product K (size s) (matrix v x t) (product K (size s) a (matrix v s y)))
+        let taken = product K (size s) (matrix v x t) (product K (size s) a (matrix v s y)) in
+        matrix_sum-matrix K F (size t) (size s) (matrix v s t) (matrix_negative K taken) (shape s t)
+        (matrix_negative-matrix K F (size t) (size s) taken
         (product-matrix K F (size t) (size x) (size s) (matrix v x t) (product K (size s) a (matrix v s y)) (shape x t)
-        (product-matrix K F (size x) (size y) (size s) a (matrix v s y) inverse-shape (shape s y))))
+        (product-matrix K F (size x) (size y) (size s) a (matrix v s y) a-shape (shape s y))))
 
-    -- what is no corner stays, and so M(s, t) - M(x, t) a M(s, y) stands at each pair
-    no-corner : (s t : ℕ) → is_corner v.live x y s t ≡ false → corner K v x y a s t ≡ matrix v s t
-    no-corner s t e = go (cases_eq (degree_of v.live s) (degree_of v.live x)) (cases_eq (degree_of v.live t) (degree_of v.live y))
+    pub corner-zero_row : (s t : ℕ) → matrix v s y ≡ zero_matrix (size y) (size s) → corner K v x y a s t ≡ matrix v s t
+    corner-zero_row s t = corner-without-row K F (size t) (size x) (size y) (size s) (matrix v s t) (matrix v x t) a (matrix v s y) (shape s t) a-shape (shape x t)
+
+    pub corner-zero_column : (s t : ℕ) → matrix v x t ≡ zero_matrix (size t) (size x) → corner K v x y a s t ≡ matrix v s t
+    corner-zero_column s t e =
+        corner-without-column K F (size t) (size x) (size y) (size s) (matrix v s t) (matrix v x t) a (matrix v s y) (shape s t) a-shape e (shape s y)
+
+    -- it is M(s, t) at each pair that is no corner
+    pub no-corner : AreConsecutive v.live x y → (s t : ℕ) → is_corner v.live x y s t ≡ false → corner K v x y a s t ≡ matrix v s t
+    no-corner pair s t e = go (cases_eq (degree_of v.live s) (degree_of v.live x)) (cases_eq (degree_of v.live t) (degree_of v.live y))
       where
-        no_row : matrix v s y ≡ zero_matrix (size y) (size s) → corner K v x y a s t ≡ matrix v s t
-        no_row = corner-without-row K F (size t) (size x) (size y) (size s) (matrix v s t) (matrix v x t) a (matrix v s y) (shape s t) inverse-shape (shape x t)
-
         go : (degree_of v.live s ≡ degree_of v.live x) ⊎ (degree_of v.live s ≡ degree_of v.live x → ⊥)
             → (degree_of v.live t ≡ degree_of v.live y) ⊎ (degree_of v.live t ≡ degree_of v.live y → ⊥) → corner K v x y a s t ≡ matrix v s t
         go (inl p) (inl q) =
             let bad : true ≡ false = sym (ap₂ ◌&&◌ (eq-eqb (degree_of v.live s) (degree_of v.live x) p) (eq-eqb (degree_of v.live t) (degree_of v.live y) q)) ∙ e in cc
-        go (inl p) (inr q) =
-            corner-without-column K F (size t) (size x) (size y) (size s) (matrix v s t) (matrix v x t) a (matrix v s y) (shape s t) inverse-shape
-            (matrix-zero x t (λ d. q (d ∙ sym removal.pair.degrees))) (shape s y)
-        go (inr p) d = no_row (matrix-zero s y (λ up. p (omega (arith, up, removal.pair.degrees))))
+        go (inl p) (inr q) = corner-zero_column s t (matrix-zero x t (λ d. q (d ∙ sym pair.degrees)))
+        go (inr p) d = corner-zero_row s t (matrix-zero s y (λ up. p (omega (arith, up, pair.degrees))))
+
+    pub corner-applied : (s t : ℕ) (z : List ℕ) → applied K (corner K v x y a s t) z
+        ≡ plus K (applied K (matrix v s t) z) (negative K (applied K (matrix v x t) (applied K a (applied K (matrix v s y) z))))
+    corner-applied s t z =
+        let n = size s in
+        let back = product K n a (matrix v s y) in
+        let back-shape : Matrix K (size x) n back = product-matrix K F (size x) (size y) n a (matrix v s y) a-shape (shape s y) in
+        let away = product K n (matrix v x t) back in
+        let away-shape : Matrix K (size t) n away = product-matrix K F (size t) (size x) n (matrix v x t) back (shape x t) back-shape in
+        matrix_sum-applied K F (size t) n (matrix v s t) (matrix_negative K away) z (shape s t) (matrix_negative-matrix K F (size t) n away away-shape)
+        ∙ ap (plus K (applied K (matrix v s t) z))
+        (matrix_negative-applied K F away z
+        ∙ ap (negative K) (product-applied K F (size x) n (matrix v x t) back z back-shape
+        ∙ ap (applied K (matrix v x t)) (product-applied K F (size y) n a (matrix v s y) z (shape s y))))
+
+  -- after a removal that stands at each pair that is left
+  module _ (x y : ℕ) (a : List (List ℕ)) (w : BlockComplex) (removal : IsRemoval K v x y a w) where
+    pub inverse-shape : Matrix K (size x) (size y) a
+    inverse-shape = subst (λ n. Matrix K (size x) n a) (sym removal.square) (to_matrix K (size x) (size x) a removal.inverse.shape)
 
     pub matrix-left : (s t : ℕ) → has s (cells w.live) ≡ true → has t (cells w.live) ≡ true → matrix w s t ≡ corner K v x y a s t
     matrix-left s t hs ht = removal.matrices s t hs ht ∙ go (is_corner v.live x y s t) refl
       where
         go : (b : Bool) → is_corner v.live x y s t ≡ b → cond b (corner K v x y a s t) (matrix v s t) ≡ corner K v x y a s t
         go true e = refl
-        go false e = sym (no-corner s t e)
+        go false e = sym (no-corner x y a inverse-shape removal.pair s t e)
 
     pub left-shape : (s t : ℕ) → has s (cells w.live) ≡ true → has t (cells w.live) ≡ true → Matrix K (size t) (size s) (matrix w s t)
-    left-shape s t hs ht = subst (Matrix K (size t) (size s)) (sym (matrix-left s t hs ht)) (corner-shape s t)
+    left-shape s t hs ht = subst (Matrix K (size t) (size s)) (sym (matrix-left s t hs ht)) (corner-shape x y a inverse-shape s t)
 
     pub left-applied : (s t : ℕ) (z : List ℕ) → has s (cells w.live) ≡ true → has t (cells w.live) ≡ true
         → applied K (matrix w s t) z ≡ plus K (applied K (matrix v s t) z) (negative K (applied K (matrix v x t) (applied K a (applied K (matrix v s y) z))))
-    left-applied s t z hs ht =
-        let n = size s in
-        let back = product K n a (matrix v s y) in
-        let back-shape : Matrix K (size x) n back = product-matrix K F (size x) (size y) n a (matrix v s y) inverse-shape (shape s y) in
-        let away = product K n (matrix v x t) back in
-        let away-shape : Matrix K (size t) n away = product-matrix K F (size t) (size x) n (matrix v x t) back (shape x t) back-shape in
-        ap (λ A. applied K A z) (matrix-left s t hs ht)
-        ∙ matrix_sum-applied K F (size t) n (matrix v s t) (matrix_negative K away) z (shape s t) (matrix_negative-matrix K F (size t) n away away-shape)
-        ∙ ap (plus K (applied K (matrix v s t) z))
-        (matrix_negative-applied K F away z
-        ∙ ap (negative K) (product-applied K F (size x) n (matrix v x t) back z back-shape
-        ∙ ap (applied K (matrix v x t)) (product-applied K F (size y) n a (matrix v s y) z (shape s y))))
+    left-applied s t z hs ht = ap (λ A. applied K A z) (matrix-left s t hs ht) ∙ corner-applied x y a inverse-shape s t z

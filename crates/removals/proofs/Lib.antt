@@ -4,3 +4,4 @@ pub mod DifferentialLaws
 pub mod ComplexLaws
 pub mod RemovalLaws
 pub mod PartLaws
+pub mod HeldLaws
