@@ -1,21 +1,23 @@
 -- Sums over rising lists of cells, and the sum into a cell as the sum over the live cells.
-use Rattle.std.proofs.Common.{◌≡◌, ◌≢◌, ℕ, zero, suc, ◌<◌, ◌≤◌, ◌+◌, Bool, true, false, cond, ◌&&◌, ◌||◌, refl, sym, ap, ap₂, ◌∙◌, subst, arith, ◌⊎◌, inl, inr, List, [], ◌∷◌, ◌++◌, length, map, filter, get_or, take, eqb, add-one}
+use Rattle.std.proofs.Common.{◌≡◌, ◌≢◌, ℕ, zero, suc, ◌<◌, ◌≤◌, ◌+◌, Bool, true, false, cond, ◌&&◌, ◌||◌, refl, sym, ap, ap₂, ◌∙◌, subst, arith, ◌⊎◌, inl, inr, List, [], ◌∷◌, ◌++◌, length, map, filter, get_or, take, eqb, All}
 use Rattle.std.specs.List.{flat_map}
 use Rattle.std.proofs.lemmas.Bool.{eq-eqb, ne_eqb, eqb-true, cases_Bool, cases_eq}
 use Rattle.std.proofs.lemmas.List.{take_more}
-use Rattle.std.proofs.lemmas.List.Elements.{All-filter, All-from_get_or}
+use Rattle.std.proofs.lemmas.List.Elements.{All-append, All-filter, All-from_get_or, All-map, All-nil, All-tail, All-head}
 use Rattle.dense_blocks.specs.Field.{Ops, IsField}
 use Rattle.dense_blocks.specs.Vectors.{zeros, plus}
 use Rattle.dense_blocks.specs.Matrices.{applied}
 use Rattle.dense_blocks.proofs.Shapes.{Vector}
 use Rattle.dense_blocks.proofs.VectorLaws.{plus-assoc, plus-comm, plus-zeros, zeros-plus, zeros-vector}
-use Rattle.cochain_vec.specs.Complexes.{Arrow, sum_into}
+use Rattle.cochain_vec.specs.declared.cell.Cell.{Cell}
+use Rattle.cochain_vec.specs.Complexes.{Arrow, RowsFit, sum_into}
 use Rattle.cochain_vec.proofs.CoboundaryLaws.{applied-rows}
 use Rattle.cochain_vec.proofs.PathLaws.{sum_over, sum_over-vector, sum_over-filter}
 use Rattle.rising_lists.specs.Rising.{IsRising, has}
 use Rattle.rising_lists.proofs.Keyed.{rising_tail, rising_head, rising_cons, head-absent, place_of}
-use Rattle.block_sparse.specs.BlockComplexes.{BlockComplex, cells, matrix}
-use Rattle.block_sparse.specs.Cochains.{complex_of}
+use Rattle.block_sparse.specs.BlockComplexes.{BlockComplex, cells, matrix, size_of}
+use Rattle.block_sparse.specs.Cochains.{cell_of, complex_of}
+use Rattle.block_sparse.proofs.LiveLaws.{of_cell-at}
 
 rising-filter : (p : ℕ → Bool) (ks : List ℕ) → IsRising ks → IsRising (filter p ks)
 rising-filter p [] r = r
@@ -91,6 +93,28 @@ module _ (K : Ops) (F : IsField K) (n : ℕ) (f : ℕ → List ℕ) where
       same false true h = h refl
       same false false h = refl
 
+-- the matrices from some cells to one
+abbrev to_cell : BlockComplex → List ℕ → ℕ → List Arrow
+to_cell v ss u = map (λ s. record { from = s; to = u; matrix = matrix v s u }) ss
+
+all-matrices : (v : BlockComplex) (P : Arrow → Type 0) (ss us : List ℕ) → All (λ u. (s : ℕ) → P (record { from = s; to = u; matrix = matrix v s u })) us
+    → All P (flat_map (to_cell v ss) us)
+all-matrices v P ss [] h = All-nil P
+all-matrices v P ss (u ∷ us) h =
+    let Into : ℕ → Type 0 = λ u. (s : ℕ) → P (record { from = s; to = u; matrix = matrix v s u }) in
+    All-append P (to_cell v ss u) (flat_map (to_cell v ss) us)
+    (All-map P (λ s. record { from = s; to = u; matrix = matrix v s u }) ss (λ i d l. All-head Into u us h (get_or ss i d)))
+    (all-matrices v P ss us (All-tail Into u us h))
+
+-- each matrix into a live cell has a row for each coordinate of the cell
+pub rows_fit : (v : BlockComplex) → IsRising (cells v.live) → ((s t : ℕ) → length (matrix v s t) ≡ size_of v.live t) → RowsFit (complex_of v)
+rows_fit v rises sized =
+    All-map (λ (t : Cell). All (λ (a : Arrow). a.to ≡ t.cell → length a.matrix ≡ t.size) (complex_of v).arrows) cell_of v.live
+    (All-from_get_or (λ (l : ℕ × ℕ × ℕ). All (λ (a : Arrow). a.to ≡ l.0 → length a.matrix ≡ l.2) (complex_of v).arrows) v.live (0, 0, 0)
+    (λ i inside. let l = get_or v.live i (0, 0, 0) in
+    all-matrices v (λ (a : Arrow). a.to ≡ l.0 → length a.matrix ≡ l.2) (cells v.live) (cells v.live)
+    (λ j d m s e. sized s (get_or (cells v.live) j d) ∙ of_cell-at (λ l. l.2) v.live i (get_or (cells v.live) j d) rises inside (sym e))))
+
 -- the sum into a live cell of n coordinates
 module _ (K : Ops) (F : IsField K) (v : BlockComplex) (value : ℕ → List ℕ) (n t : ℕ) (rows : (s : ℕ) → length (matrix v s t) ≡ n) where
   abbrev pub arriving : ℕ → List ℕ
@@ -99,36 +123,33 @@ module _ (K : Ops) (F : IsField K) (v : BlockComplex) (value : ℕ → List ℕ)
   pub arriving-vector : (s : ℕ) → Vector K n (arriving s)
   arriving-vector s = applied-rows K F n (matrix v s t) (value s) (rows s)
 
-  abbrev to_cell : List ℕ → ℕ → List Arrow
-  to_cell ss u = map (λ s. record { from = s; to = u; matrix = matrix v s u }) ss
-
-  into-other : (ss : List ℕ) (u : ℕ) (others : List Arrow) → u ≢ t → sum_into K (to_cell ss u ++ others) value n t ≡ sum_into K others value n t
+  into-other : (ss : List ℕ) (u : ℕ) (others : List Arrow) → u ≢ t → sum_into K (to_cell v ss u ++ others) value n t ≡ sum_into K others value n t
   into-other [] u others apart = refl
   into-other (s ∷ ss) u others apart = rw (ne_eqb u t apart) (into-other ss u others apart)
 
-  into-same : (ss : List ℕ) (others : List Arrow) → sum_into K others value n t ≡ zeros n → sum_into K (to_cell ss t ++ others) value n t ≡ sum_over K n arriving ss
+  into-same : (ss : List ℕ) (others : List Arrow) → sum_into K others value n t ≡ zeros n → sum_into K (to_cell v ss t ++ others) value n t ≡ sum_over K n arriving ss
   into-same [] others none = none
   into-same (s ∷ ss) others none = rw (eq-eqb t t refl) (ap (plus K (arriving s)) (into-same ss others none))
 
-  into-none : (ss us : List ℕ) → has t us ≡ false → sum_into K (flat_map (to_cell ss) us) value n t ≡ zeros n
+  into-none : (ss us : List ℕ) → has t us ≡ false → sum_into K (flat_map (to_cell v ss) us) value n t ≡ zeros n
   into-none ss [] h = refl
   into-none ss (u ∷ us) h = go (cases_eq u t) h (into-none ss us)
     where
-      go : (u ≡ t) ⊎ (u ≡ t → ⊥) → (eqb u t || has t us) ≡ false → (has t us ≡ false → sum_into K (flat_map (to_cell ss) us) value n t ≡ zeros n)
-          → sum_into K (to_cell ss u ++ flat_map (to_cell ss) us) value n t ≡ zeros n
+      go : (u ≡ t) ⊎ (u ≡ t → ⊥) → (eqb u t || has t us) ≡ false → (has t us ≡ false → sum_into K (flat_map (to_cell v ss) us) value n t ≡ zeros n)
+          → sum_into K (to_cell v ss u ++ flat_map (to_cell v ss) us) value n t ≡ zeros n
       go (inl e) m later = let f : true ≡ false = sym (ap (λ b. b || has t us) (eq-eqb u t e)) ∙ m in cc
-      go (inr apart) m later = into-other ss u (flat_map (to_cell ss) us) apart ∙ later (sym (ap (λ b. b || has t us) (ne_eqb u t apart)) ∙ m)
+      go (inr apart) m later = into-other ss u (flat_map (to_cell v ss) us) apart ∙ later (sym (ap (λ b. b || has t us) (ne_eqb u t apart)) ∙ m)
 
-  into-one : (ss us : List ℕ) → IsRising us → has t us ≡ true → sum_into K (flat_map (to_cell ss) us) value n t ≡ sum_over K n arriving ss
+  into-one : (ss us : List ℕ) → IsRising us → has t us ≡ true → sum_into K (flat_map (to_cell v ss) us) value n t ≡ sum_over K n arriving ss
   into-one ss [] r h = cc
   into-one ss (u ∷ us) r h = go (cases_eq u t) h (into-one ss us (rising_tail u us r))
     where
-      go : (u ≡ t) ⊎ (u ≡ t → ⊥) → (eqb u t || has t us) ≡ true → (has t us ≡ true → sum_into K (flat_map (to_cell ss) us) value n t ≡ sum_over K n arriving ss)
-          → sum_into K (to_cell ss u ++ flat_map (to_cell ss) us) value n t ≡ sum_over K n arriving ss
+      go : (u ≡ t) ⊎ (u ≡ t → ⊥) → (eqb u t || has t us) ≡ true → (has t us ≡ true → sum_into K (flat_map (to_cell v ss) us) value n t ≡ sum_over K n arriving ss)
+          → sum_into K (to_cell v ss u ++ flat_map (to_cell v ss) us) value n t ≡ sum_over K n arriving ss
       go (inl e) m later =
-          ap (λ k. sum_into K (to_cell ss k ++ flat_map (to_cell ss) us) value n t) e
-          ∙ into-same ss (flat_map (to_cell ss) us) (into-none ss us (ap (λ k. has k us) (sym e) ∙ head-absent u us r))
-      go (inr apart) m later = into-other ss u (flat_map (to_cell ss) us) apart ∙ later (sym (ap (λ b. b || has t us) (ne_eqb u t apart)) ∙ m)
+          ap (λ k. sum_into K (to_cell v ss k ++ flat_map (to_cell v ss) us) value n t) e
+          ∙ into-same ss (flat_map (to_cell v ss) us) (into-none ss us (ap (λ k. has k us) (sym e) ∙ head-absent u us r))
+      go (inr apart) m later = into-other ss u (flat_map (to_cell v ss) us) apart ∙ later (sym (ap (λ b. b || has t us) (ne_eqb u t apart)) ∙ m)
 
   -- the sum, over the live cells s, of the matrix from s to t times the value at s
   pub sum_into-live : IsRising (cells v.live) → has t (cells v.live) ≡ true

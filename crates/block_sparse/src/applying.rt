@@ -49,8 +49,10 @@ impl Blocks {
     ) -> Result<Vec<u8>, NoMemory>
         requires scalars { IsOver (F.ops f.now) self.now }
         requires cochain { IsCochain (F.ops f.now) (complex_of self.now) k z.now }
-        ensures { IfOk result (λ w. w.items ≡ coboundary (F.ops f.now) (complex_of self.now) k z.now) }
+        ensures coboundary { IfOk result (λ w. w.items ≡ coboundary (F.ops f.now) (complex_of self.now) k z.now) }
+        ensures cochain { IfOk result (λ w. IsCochain (F.ops f.now) (complex_of self.now) (k + 1) w.items) }
     {
+        let _ = &self.live;
         let live = self.live();
         let starts = starts_of(alloc, live, k)?;
         let mut all = Vec::new(alloc);

@@ -3,10 +3,15 @@ use Rattle.std.proofs.Common.{◌≡◌, ◌∙◌, ◌≤◌, ◌<◌, ◌+◌,
 use Rattle.std.specs.List.{flat_map}
 use Rattle.std.proofs.lemmas.List.{take_all}
 use Rattle.cochain_vec.specs.declared.cell.Cell.{Cell}
-use Rattle.cochain_vec.specs.Complexes.{sum_into, value_at}
+use Rattle.cochain_vec.specs.Complexes.{IsCochain, coboundary, coordinates, sum_into, value_at}
+use Rattle.cochain_vec.proofs.CoboundaryLaws.{coboundary-cochain}
+use Rattle.dense_blocks.proofs.Shapes.{from_vector}
 use Rattle.rising_lists.specs.Rising.{has}
 use Rattle.rising_lists.proofs.Keyed.{has-at}
-use Rattle.block_sparse.specs.BlockComplexes.{cells, degree_of, size_of}
+use Rattle.block_sparse.specs.BlockComplexes.{BlockComplex, cells, degree_of, size_of}
+use Rattle.block_sparse.specs.Invariants.{IsSound}
+use Rattle.block_sparse.proofs.SumLaws.{rows_fit}
+use Rattle.block_sparse.proofs.ScalarBlocks.{matrix-size_of}
 use Rattle.block_sparse.specs.Cochains.{complex_of, of_degree}
 use Rattle.block_sparse.proofs.LiveLaws.{cell-at, length-cells, of_cell-at}
 use Rattle.block_sparse.proofs.DegreeLaws.{parts-next}
@@ -56,8 +61,8 @@ loop-cell-preserved g c =
     ∙ ap (λ u. u ++ flat_map (piece k) (of_degree (k + 1) (cell ∷ []))) c.loop-cell.invariant
     ∙ sym (parts-next (piece k) (k + 1) live i (0, 0, 0) inside)
 
-pub returns : goal.returns
-returns g c =
+pub returns-clause-coboundary : goal.returns-clause-coboundary
+returns-clause-coboundary g c =
     let K = g.F.Scalars.ops c.args.f.now in
     let v = c.args.self.now in
     let k = c.args.k in
@@ -67,3 +72,16 @@ returns g c =
     c.loop-cell.invariant
     ∙ ap (λ l. flat_map piece (of_degree (k + 1) l)) (take_all c.loop-cell.cell-index live end ∙ c.live-live.ensures.live)
     ∙ ap (λ j. flat_map piece (of_degree j v.live)) (add-one k)
+
+pub returns-clause-cochain : goal.returns-clause-cochain
+returns-clause-cochain g c =
+    let K = g.F.Scalars.ops c.args.f.now in
+    let F = g.met.F.Scalars.is_field c.args.f.now in
+    let v = c.args.self.now in
+    let k = c.args.k in
+    let z = c.args.z.now in
+    let C = complex_of v in
+    let sound : IsSound v.live v.rows v.columns = subst (λ (v : BlockComplex). IsSound v.live v.rows v.columns) c.self.view_is c.self.invariant in
+    let fits = rows_fit v sound.live_cells.rising (matrix-size_of v sound) in
+    subst (λ j. IsCochain K C j c.loop-cell.all.items) (sym (add-one k))
+    (subst (IsCochain K C (suc k)) (sym (returns-clause-coboundary g c)) (from_vector K (coordinates C (suc k)) (coboundary K C k z) (coboundary-cochain K F C fits k z)))
