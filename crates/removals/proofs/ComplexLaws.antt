@@ -98,7 +98,6 @@ module _ (K : Ops) (F : IsField K) (cs : List Cell) (s n : ℕ) (z : List ℕ) (
     where
       rows : (j : ℕ) → j < 1 → (get_or arrow j (record { from = 0; to = s; matrix = identity n })).to ≡ (get_or cs i d).cell
           → length (get_or arrow j (record { from = 0; to = s; matrix = identity n })).matrix ≡ (get_or cs i d).size
-      unfolding arrow
       rows zero m e = matrix-size K n n (identity n) (identity-matrix K F n) ∙ sym (one i d l (sym e))
       rows (suc j) m e = absurd (omega arith)
 
@@ -196,8 +195,8 @@ module _ (K : Ops) (F : IsField K) (v : BlockComplex) (sound : IsSound v.live v.
   passes-zero : IsDifferential K v → (s u : ℕ) → IsLive s → IsLive u → (z : List ℕ) → passes s u z ≡ zeros (size u)
   passes-zero closed s u hs hu z = between-zero K F size M (cells v.live) (λ s t hs ht. M-shape s t) s u hs hu (closed s u hs hu) z
 
-  pub forth : IsDifferential K v → IsCochainComplex K C
-  forth closed k z is = joined-zeros (λ (u : Cell). sum_into K C.arrows (next k z) u.size u.cell) (cells_of C (suc (suc k))) at_cell
+  pub differential-complex : IsDifferential K v → IsCochainComplex K C
+  differential-complex closed k z is = joined-zeros (λ (u : Cell). sum_into K C.arrows (next k z) u.size u.cell) (cells_of C (suc (suc k))) at_cell
     where
       at_cell : All (λ (u : Cell). sum_into K C.arrows (next k z) u.size u.cell ≡ zeros u.size) (cells_of C (suc (suc k)))
       at_cell i d l =
@@ -279,8 +278,8 @@ module _ (K : Ops) (F : IsField K) (v : BlockComplex) (sound : IsSound v.live v.
             (λ t. ap (applied K (M t u)) (applied-zeros K F (size_at (cells_of C k) q) (size t) (size q) (M q t) (M-shape q t))
             ∙ applied-zeros K F (size t) (size u) (size t) (M t u) (M-shape t u))
 
-  pub back : IsCochainComplex K C → IsDifferential K v
-  back closed s u hs hu = zero-between K F size M (cells v.live) (λ s t hs ht. M-shape s t) s u hs hu each
+  pub complex-differential : IsCochainComplex K C → IsDifferential K v
+  complex-differential closed s u hs hu = zero-between K F size M (cells v.live) (λ s t hs ht. M-shape s t) s u hs hu each
     where
       each : (z : List ℕ) → Vector K (size s) z → passes s u z ≡ zeros (size u)
       each z hz = elim (cases_eq (degree_of v.live u) (suc (suc (degree_of v.live s)))) [

@@ -19,7 +19,7 @@ use Rattle.removals.specs.Laws.{RemovalKeepsScalars, RemovalKeepsDifferential, R
 use Rattle.removals.proofs.Sums.{is_other, sum_over-equal, sum_over-negative, applied-sum_over, sum_over-apart}
 use Rattle.removals.proofs.CornerLaws.{cells-without, has-without, of_cell-without, shape, inverse-shape, left-shape, left-applied}
 use Rattle.removals.proofs.DifferentialLaws.{between-zero, zero-between}
-use Rattle.removals.proofs.ComplexLaws.{forth, back}
+use Rattle.removals.proofs.ComplexLaws.{differential-complex, complex-differential}
 
 module _ (K : Ops) (F : IsField K) (v : BlockComplex) (sound : IsSound v.live v.rows v.columns) (over : IsOver K v)
     (x y : ℕ) (a : List (List ℕ)) (w : BlockComplex) (removal : IsRemoval K v x y a w) where
@@ -160,9 +160,9 @@ pub removal_keeps_differential : RemovalKeepsDifferential
 removal_keeps_differential K v w x y a F sound left_sound over removal = keeps_differential K F v sound over x y a w removal
 
 pub differential_is_cochain_complex : DifferentialIsCochainComplex
-differential_is_cochain_complex K v F sound over = (forth K F v sound over, back K F v sound over)
+differential_is_cochain_complex K v F sound over = (differential-complex K F v sound over, complex-differential K F v sound over)
 
 pub removal_keeps_cochain_complex : RemovalKeepsCochainComplex
 removal_keeps_cochain_complex K v w x y a F sound left_sound over removal closed =
-    forth K F w left_sound (left-over K F v sound over x y a w removal left_sound)
-    (keeps_differential K F v sound over x y a w removal (back K F v sound over closed))
+    differential-complex K F w left_sound (left-over K F v sound over x y a w removal left_sound)
+    (keeps_differential K F v sound over x y a w removal (complex-differential K F v sound over closed))
