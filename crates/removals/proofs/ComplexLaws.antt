@@ -1,14 +1,14 @@
 -- For a block complex as cells with matrices: the sum over all cells between two is zero exactly where the coboundary of each
 -- coboundary is.
-use Rattle.std.proofs.Common.{◌≡◌, ◌≢◌, ℕ, zero, suc, ◌+◌, ◌<◌, Bool, true, false, cond, ◌||◌, eqb, refl, sym, ap, ap₂, ◌∙◌, subst, arith, ◌⊎◌, inl, inr, List, [], ◌∷◌, length, map, filter, get_or, All}
+use Rattle.std.proofs.Common.{◌≡◌, ◌≢◌, ℕ, zero, suc, ◌<◌, Bool, true, false, cond, ◌||◌, eqb, refl, sym, ap, ap₂, ◌∙◌, subst, arith, inl, inr, List, [], ◌∷◌, length, map, get_or, All}
 use Rattle.std.specs.List.{flat_map}
-use Rattle.std.proofs.lemmas.Bool.{eq-eqb, ne_eqb, eqb-true, eqb-false, cases_eq}
+use Rattle.std.proofs.lemmas.Bool.{eq-eqb, ne_eqb, eqb-true, cases_eq}
 use Rattle.std.proofs.lemmas.List.Elements.{All-map, All-filter, All-from_get_or, filter_passes}
 use Rattle.dense_blocks.specs.Field.{Ops, IsField}
 use Rattle.dense_blocks.specs.Vectors.{zeros, plus}
-use Rattle.dense_blocks.specs.Matrices.{applied, identity, zero_matrix}
+use Rattle.dense_blocks.specs.Matrices.{applied, identity}
 use Rattle.dense_blocks.proofs.Shapes.{Vector, Matrix, matrix-size, from_vector}
-use Rattle.dense_blocks.proofs.VectorLaws.{zeros-vector, plus-zeros, zeros-plus-zeros}
+use Rattle.dense_blocks.proofs.VectorLaws.{zeros-vector, plus-zeros}
 use Rattle.dense_blocks.proofs.MatrixLaws.{applied-vector, applied-zeros, zero_matrix-applied, identity-applied, identity-matrix}
 use Rattle.cochain_vec.specs.declared.cell.Cell.{Cell}
 use Rattle.cochain_vec.specs.Complexes.{Arrow, CellularComplex, cells_of, total_size, coordinates, value_at, sum_into, coboundary}
@@ -23,9 +23,9 @@ use Rattle.block_sparse.specs.Invariants.{IsSound}
 use Rattle.block_sparse.proofs.LiveLaws.{cell-at, length-cells, of_cell-at}
 use Rattle.block_sparse.proofs.SumLaws.{sum_into-live, sum_over-some}
 use Rattle.removals.specs.Differentials.{IsDifferential}
-use Rattle.removals.proofs.Sums.{Each, has-head, has-tail, sum_over-equal, applied-sum_over}
+use Rattle.removals.proofs.Sums.{sum_over-equal, applied-sum_over}
 use Rattle.removals.proofs.CornerLaws.{shape, matrix-zero}
-use Rattle.removals.proofs.DifferentialLaws.{through, between-zero, zero-between}
+use Rattle.removals.proofs.DifferentialLaws.{between-zero, zero-between}
 
 -- a cell of this degree among the live cells
 record IsOfDegree (live : List (ℕ × ℕ × ℕ)) (k : ℕ) (u : Cell) : Type 0 where
@@ -49,9 +49,11 @@ of_degree-are live r k i d l =
 
     numbered : (i : ℕ) → i < length live → IsCell (cell_of (get_or live i (0, 0, 0)))
     numbered i l =
-        let m = get_or live i (0, 0, 0) in
-        (subst (λ c. has c (cells live) ≡ true) (cell-at live i l) (has-at (cells live) i (omega (arith, length-cells live))),
-         of_cell-at (λ l. l.1) live i m.0 r l refl, of_cell-at (λ l. l.2) live i m.0 r l refl)
+        let m = get_or live i (0, 0, 0) in (
+          subst (λ c. has c (cells live) ≡ true) (cell-at live i l) (has-at (cells live) i (omega (arith, length-cells live))),
+          of_cell-at (λ l. l.1) live i m.0 r l refl,
+          of_cell-at (λ l. l.2) live i m.0 r l refl,
+        )
 
 -- the size of a live cell among the cells of its degree
 size-of_degree : (live : List (ℕ × ℕ × ℕ)) (k c : ℕ) → has c (cells live) ≡ true → degree_of live c ≡ k → size_at (of_degree k live) c ≡ size_of live c

@@ -1,17 +1,17 @@
 -- The matrices of a block complex, and of what is left of it without a pair of cells.
-use Rattle.std.proofs.Common.{◌≡◌, ◌≢◌, ℕ, zero, suc, ◌+◌, ◌<◌, Bool, true, false, cond, not, ◌||◌, ◌&&◌, refl, sym, ap, ap₂, ◌∙◌, subst, arith, ◌⊎◌, inl, inr, List, [], ◌∷◌, length, map, filter, eqb, Option, Some, None, All}
+use Rattle.std.proofs.Common.{◌≡◌, ◌≢◌, ℕ, ◌+◌, Bool, true, false, cond, not, ◌||◌, ◌&&◌, refl, sym, ap, ap₂, ◌∙◌, subst, arith, ◌⊎◌, inl, inr, List, [], ◌∷◌, filter, eqb, Option, Some, None, All}
 use Rattle.std.specs.Option.{is_some}
 use Rattle.std.proofs.lemmas.Bool.{eq-eqb, ne_eqb, cases_eq}
 use Rattle.dense_blocks.specs.Field.{Ops, IsField}
 use Rattle.dense_blocks.specs.Vectors.{AllScalars, plus, negative}
-use Rattle.dense_blocks.specs.Matrices.{applied, product, zero_matrix, matrix_sum, matrix_negative, IsInverse}
+use Rattle.dense_blocks.specs.Matrices.{applied, product, zero_matrix, matrix_sum, matrix_negative}
 use Rattle.dense_blocks.specs.Blocks.{matrix_of}
 use Rattle.dense_blocks.specs.declared.block.Block.{Block}
-use Rattle.dense_blocks.proofs.Shapes.{Vector, Matrix, to_matrix}
+use Rattle.dense_blocks.proofs.Shapes.{Matrix, to_matrix}
 use Rattle.dense_blocks.proofs.BlockLaws.{block-entries, block-matrix}
 use Rattle.dense_blocks.proofs.MatrixLaws.{zero_matrix-matrix, matrix_sum-matrix, matrix_negative-matrix, product-matrix, matrix_sum-zero_matrix, matrix_negative-zero_matrix, product-zero_matrix, zero_matrix-product, matrix_sum-applied, matrix_negative-applied, product-applied}
-use Rattle.rising_lists.specs.Rising.{IsRising, has, entry_of}
-use Rattle.block_sparse.specs.BlockComplexes.{BlockComplex, AreConsecutive, StandsAt, cells, of_cell, degree_of, size_of, held, matrix, matrix_or, standing}
+use Rattle.rising_lists.specs.Rising.{has, entry_of}
+use Rattle.block_sparse.specs.BlockComplexes.{BlockComplex, AreConsecutive, cells, of_cell, degree_of, size_of, held, matrix, matrix_or, standing}
 use Rattle.block_sparse.specs.Cochains.{IsOver}
 use Rattle.block_sparse.specs.Invariants.{IsSound}
 use Rattle.block_sparse.proofs.ScalarBlocks.{flat-all, held-between, matrix-none, not-held}
@@ -40,6 +40,31 @@ module _ (x y : ℕ) where
           → cells (cond b (l ∷ without ls x y) (without ls x y)) ≡ cond b (l.0 ∷ filter (is_other x y) (cells ls)) (filter (is_other x y) (cells ls))
       go true e = ap (λ ks. l.0 ∷ ks) e
       go false e = e
+
+  -- one cell after the other
+  pub without-twice : (live : List (ℕ × ℕ × ℕ)) → filter (λ l. not (eqb l.0 y)) (filter (λ l. not (eqb l.0 x)) live) ≡ without live x y
+  without-twice [] = refl
+  without-twice (l ∷ ls) = go (eqb l.0 x) (without-twice ls)
+    where
+      once : List (ℕ × ℕ × ℕ)
+      once = filter (λ l. not (eqb l.0 x)) ls
+
+      go : (b : Bool) → filter (λ l. not (eqb l.0 y)) once ≡ without ls x y
+          → filter (λ l. not (eqb l.0 y)) (cond (not b) (l ∷ once) once) ≡ cond (not (b || eqb l.0 y)) (l ∷ without ls x y) (without ls x y)
+      go true e = e
+      go false e = ap (λ ls. cond (not (eqb l.0 y)) (l ∷ ls) ls) e
+
+  -- what stands between two other cells stays
+  pub spared : {A : Type 0} (s t : ℕ) (h : Option A) → is_other x y s ≡ true → is_other x y t ≡ true
+      → cond (eqb s y || eqb t y) None (cond (eqb s x || eqb t x) None h) ≡ h
+  spared {A} s t h = go (eqb s x) (eqb s y) (eqb t x) (eqb t y)
+    where
+      go : (p q r u : Bool) → not (p || q) ≡ true → not (r || u) ≡ true → cond (q || u) None (cond (p || r) None h) ≡ h
+      go true q r u e f = cc
+      go false true r u e f = cc
+      go false false true u e f = cc
+      go false false false true e f = cc
+      go false false false false e f = refl
 
   -- a cell that is left was live, is neither of the two, and has the numbers that it had
   pub has-without : (live : List (ℕ × ℕ × ℕ)) (c : ℕ) → has c (cells (without live x y)) ≡ true → (has c (cells live) ≡ true) × (is_other x y c ≡ true)

@@ -1,5 +1,5 @@
 -- The sum over all cells between two, at a vector.
-use Rattle.std.proofs.Common.{◌≡◌, ℕ, true, List, refl, sym, ap, ◌∙◌}
+use Rattle.std.proofs.Common.{◌≡◌, ℕ, true, List, sym, ap, ◌∙◌}
 use Rattle.dense_blocks.specs.Field.{Ops, IsField}
 use Rattle.dense_blocks.specs.Vectors.{zeros}
 use Rattle.dense_blocks.specs.Matrices.{applied, product, zero_matrix}

@@ -1,13 +1,13 @@
 -- A removal by what stands at each pair: a block is put at the corners where blocks from s to y and from x to t have stood, and
 -- nothing changes elsewhere.
-use Rattle.std.proofs.Common.{◌≡◌, ℕ, ◌+◌, Bool, true, false, cond, ◌&&◌, List, Option, Some, None, refl, sym, ap, ap₂, ◌∙◌, subst, arith}
+use Rattle.std.proofs.Common.{◌≡◌, ℕ, Bool, true, false, cond, ◌&&◌, List, Some, None, refl, sym, ap, ap₂, ◌∙◌, subst, arith}
 use Rattle.std.specs.Option.{is_some}
 use Rattle.std.proofs.lemmas.Bool.{eq-eqb}
 use Rattle.dense_blocks.specs.Field.{Ops, IsField}
 use Rattle.dense_blocks.specs.Matrices.{zero_matrix, IsInverse}
 use Rattle.dense_blocks.proofs.Shapes.{Matrix, to_matrix}
 use Rattle.rising_lists.specs.Rising.{has}
-use Rattle.block_sparse.specs.BlockComplexes.{BlockComplex, AreConsecutive, Standing, cells, degree_of, size_of, held, matrix, matrix_or, flag_of, is_zero}
+use Rattle.block_sparse.specs.BlockComplexes.{BlockComplex, AreConsecutive, cells, degree_of, size_of, held, matrix, matrix_or, flag_of, is_zero}
 use Rattle.block_sparse.specs.Grids.{placed}
 use Rattle.block_sparse.specs.Cochains.{IsOver}
 use Rattle.block_sparse.specs.Invariants.{IsSound}
@@ -30,7 +30,7 @@ module _ (K : Ops) (F : IsField K) (v : BlockComplex) (sound : IsSound v.live v.
     (x y : ℕ) (a : List (List ℕ)) (w : BlockComplex) (pair : AreConsecutive v.live x y) (square : size_of v.live y ≡ size_of v.live x)
     (inverse : IsInverse K (size_of v.live x) (matrix v x y) a) (live : w.live ≡ without v.live x y)
     (written : (s t : ℕ) → has s (cells w.live) ≡ true → has t (cells w.live) ≡ true
-        → held w s t ≡ cond (is_some (held v s y) && is_some (held v x t)) (placed (corner K v x y a s t)) (held v s t)) where
+    → held w s t ≡ cond (is_some (held v s y) && is_some (held v x t)) (placed (corner K v x y a s t)) (held v s t)) where
   abbrev size : ℕ → ℕ
   size c = size_of v.live c
 

@@ -13,7 +13,7 @@ use Rattle.block_sparse.specs.BlockComplexes.{BlockComplex, cells, size_of, held
 use Rattle.block_sparse.specs.Cochains.{IsOver}
 use Rattle.block_sparse.specs.Invariants.{IsSound}
 use Rattle.block_sparse.proofs.ScalarBlocks.{held-between, none-scalars, not-held}
-use Rattle.removals.specs.Differentials.{IsDifferential, matrix_sum_over, twice}
+use Rattle.removals.specs.Differentials.{IsDifferential, matrix_sum_over}
 use Rattle.removals.specs.Removals.{IsRemoval}
 use Rattle.removals.specs.Laws.{RemovalKeepsScalars, RemovalKeepsDifferential, RemovalKeepsCochainComplex, DifferentialIsCochainComplex}
 use Rattle.removals.proofs.Sums.{is_other, sum_over-equal, sum_over-negative, applied-sum_over, sum_over-apart}

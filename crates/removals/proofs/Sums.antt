@@ -1,13 +1,13 @@
 -- Sums over lists of cells, of vectors and of matrices.
-use Rattle.std.proofs.Common.{◌≡◌, ◌≢◌, ℕ, zero, suc, ◌<◌, Bool, true, false, cond, not, ◌||◌, refl, sym, ap, ap₂, ◌∙◌, ◌⊎◌, inl, inr, List, [], ◌∷◌, map, filter, eqb}
+use Rattle.std.proofs.Common.{◌≡◌, ℕ, Bool, true, false, cond, not, ◌||◌, refl, sym, ap, ap₂, ◌∙◌, ◌⊎◌, inl, inr, List, [], ◌∷◌, filter, eqb}
 use Rattle.std.proofs.lemmas.Bool.{eq-eqb, ne_eqb, cases_eq}
 use Rattle.dense_blocks.specs.Field.{Ops, IsField}
 use Rattle.dense_blocks.specs.Vectors.{zeros, plus, negative}
-use Rattle.dense_blocks.specs.Matrices.{applied, product, zero_matrix, matrix_sum}
+use Rattle.dense_blocks.specs.Matrices.{applied}
 use Rattle.dense_blocks.proofs.Shapes.{Vector, Matrix}
 use Rattle.dense_blocks.proofs.VectorLaws.{plus-left-comm, zeros-plus, negative-zeros, negative-of-plus}
 use Rattle.dense_blocks.proofs.MatrixLaws.{applied-plus, applied-zeros, zero_matrix-matrix, matrix_sum-matrix, matrix_sum-applied, zero_matrix-applied}
-use Rattle.cochain_vec.proofs.PathLaws.{sum_over, sum_over-vector, sum_over-zeros}
+use Rattle.cochain_vec.proofs.PathLaws.{sum_over, sum_over-vector}
 use Rattle.rising_lists.specs.Rising.{IsRising, has}
 use Rattle.rising_lists.proofs.Keyed.{rising_tail, head-absent}
 use Rattle.removals.specs.Differentials.{matrix_sum_over}
@@ -49,9 +49,6 @@ module _ (K : Ops) (F : IsField K) (n : ℕ) where
 
   -- x is listed once; y adds nothing
   module _ (f : ℕ → List ℕ) (shape : (t : ℕ) → Vector K n (f t)) (x y : ℕ) (none : f y ≡ zeros n) where
-    others : List ℕ → List ℕ
-    others ks = sum_over K n f (filter (is_other x y) ks)
-
     sum_over-absent : (ks : List ℕ) → has x ks ≡ false → sum_over K n f ks ≡ sum_over K n f (filter (is_other x y) ks)
     sum_over-absent [] h = refl
     sum_over-absent (k ∷ ks) h = go (eqb k x) (cases_eq k y) h (sum_over-absent ks)
