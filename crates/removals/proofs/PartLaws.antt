@@ -1,13 +1,19 @@
 -- The parts of a joined matrix after a removal: a part of C - c (a r) is the part of C, less what the parts of c and r give.
-use Rattle.std.proofs.Common.{◌≡◌, ℕ, zero, suc, ◌+◌, Bool, true, false, cond, eqb, List, [], ◌∷◌, ◌++◌, map, take, drop, refl, sym, ap, ap₂, ◌∙◌}
+use Rattle.std.proofs.Common.{◌≡◌, ℕ, zero, suc, ◌+◌, Bool, true, false, cond, ◌||◌, eqb, List, [], ◌∷◌, ◌++◌, length, map, take, drop, refl, sym, ap, ap₂, ◌∙◌, arith}
 use Rattle.std.specs.Prelude.{◌==◌, if◌then◌else◌}
-use Rattle.std.proofs.lemmas.List.{take-map, drop-map}
+use Rattle.std.proofs.lemmas.Bool.{eq-eqb, eqb-true}
+use Rattle.std.proofs.lemmas.List.{take-map, drop-map, take_all}
+use Rattle.std.proofs.lemmas.List.Elements.{All-head, All-tail}
 use Rattle.std.proofs.Math.Seq.{take-append_seam, drop-append_seam}
 use Rattle.dense_blocks.specs.Field.{Ops}
 use Rattle.dense_blocks.specs.Vectors.{zeros, plus, negative, scaled, combination}
 use Rattle.dense_blocks.specs.Matrices.{product, matrix_sum, matrix_negative}
 use Rattle.dense_blocks.proofs.VectorLaws.{nil-plus, plus-nil, zeros-append, zeros-size}
-use Rattle.block_sparse.specs.Grids.{width, segment, part, columns_of}
+use Rattle.dense_blocks.proofs.Cutting.{Sized, sized-size}
+use Rattle.rising_lists.specs.Rising.{has, keys}
+use Rattle.block_sparse.specs.BlockComplexes.{BlockComplex, cells, size_of, matrix}
+use Rattle.removals.specs.Removals.{corner}
+use Rattle.block_sparse.specs.Grids.{AreSized, width, segment, part, columns_of}
 
 -- how many coordinates a listed cell has
 abbrev pub listed_size : List (ℕ × ℕ) → ℕ → ℕ
@@ -115,3 +121,46 @@ module _ (K : Ops) where
       (ap (λ A. columns_of left A s) (segment-map (λ row. combination K n row (product K n a r)) below c t)
       ∙ columns-product left (segment below c t) (product K n a r) s
       ∙ ap (product K (listed_size left s) (segment below c t)) (columns-product left a r s)))
+
+-- with one cell alone below, or on the left
+pub part-below_one : (left : List (ℕ × ℕ)) (y m l : ℕ) (r : List (List ℕ)) (s : ℕ) → Sized m l r → part left ((y, m) ∷ []) r s y ≡ columns_of left r s
+part-below_one left y m l r s h =
+    ap (λ b. columns_of left (cond b (take m r) []) s) (eq-eqb y y refl)
+    ∙ ap (λ A. columns_of left A s) (take_all m r (omega (arith, sized-size m l r h)))
+
+pub part-left_one : (below : List (ℕ × ℕ)) (x n k : ℕ) (c : List (List ℕ)) (t : ℕ) → Sized k n c → part ((x, n) ∷ []) below c x t ≡ segment below c t
+part-left_one below x n k c t h =
+    ap (λ b. map (λ row. cond b (take n row) []) (segment below c t)) (eq-eqb x x refl)
+    ∙ sym (segment-map (take n) below c t) ∙ ap (λ A. segment below A t) (whole k c h)
+  where
+    whole : (k : ℕ) (B : List (List ℕ)) → Sized k n B → map (take n) B ≡ B
+    whole zero [] g = refl
+    whole zero (b ∷ B) g = absurd g
+    whole (suc k) [] g = absurd g
+    whole (suc k) (b ∷ B) g = ap₂ ◌∷◌ (take_all n b (omega (arith, g.0))) (whole k B g.1)
+
+pub listed_size-live : (live : List (ℕ × ℕ × ℕ)) (ls : List (ℕ × ℕ)) → AreSized live ls → (c : ℕ) → has c (keys ls) ≡ true → listed_size ls c ≡ size_of live c
+listed_size-live live [] h c m = cc
+listed_size-live live (l ∷ ls) h c m = go (eqb l.0 c) (eqb-true l.0 c) m (listed_size-live live ls (All-tail IsHere l ls h) c)
+  where
+    abbrev IsHere : ℕ × ℕ → Type 0
+    IsHere l = (has l.0 (cells live) ≡ true) × (size_of live l.0 ≡ l.1)
+
+    go : (b : Bool) → (b ≡ true → l.0 ≡ c) → (b || has c (keys ls)) ≡ true → (has c (keys ls) ≡ true → listed_size ls c ≡ size_of live c)
+        → cond b l.1 (listed_size ls c) ≡ size_of live c
+    go true e m later = sym (All-head IsHere l ls h).1 ∙ ap (size_of live) (e refl)
+    go false e m later = later m
+
+-- C, r and c join the matrices of v from the left to below, from the left to y, and from x to below; then C - c (a r) joins the corners
+pub joined-corners : (K : Ops) (v : BlockComplex) (x y m n k l : ℕ) (left below : List (ℕ × ℕ)) (C c a r : List (List ℕ)) → AreSized v.live left
+    → ((s t : ℕ) → has s (keys left) ≡ true → has t (keys below) ≡ true → part left below C s t ≡ matrix v s t)
+    → ((s : ℕ) → has s (keys left) ≡ true → part left ((y, m) ∷ []) r s y ≡ matrix v s y) → Sized m l r
+    → ((t : ℕ) → has t (keys below) ≡ true → part ((x, n) ∷ []) below c x t ≡ matrix v x t) → Sized k n c
+    → (s t : ℕ) → has s (keys left) ≡ true → has t (keys below) ≡ true
+    → part left below (matrix_sum K C (matrix_negative K (product K (width left) c (product K (width left) a r)))) s t ≡ corner K v x y a s t
+joined-corners K v x y m n k l left below C c a r sized C-is r-is r-sized c-is c-sized s t hs ht =
+    let column : segment below c t ≡ matrix v x t = sym (part-left_one below x n k c t c-sized) ∙ c-is t ht in
+    let row : columns_of left r s ≡ matrix v s y = sym (part-below_one left y m l r s r-sized) ∙ r-is s hs in
+    part-corners K left below C c a r s t
+    ∙ ap₂ (λ A p. matrix_sum K A (matrix_negative K (product K p (segment below c t) (product K p a (columns_of left r s))))) (C-is s t hs ht) (listed_size-live v.live left sized s hs)
+    ∙ ap₂ (λ A B. matrix_sum K (matrix v s t) (matrix_negative K (product K (size_of v.live s) A (product K (size_of v.live s) a B)))) column row
