@@ -1,5 +1,5 @@
 -- The parts of a joined matrix after a removal: a part of C - c (a r) is the part of C, less what the parts of c and r give.
-use Rattle.std.proofs.Common.{◌≡◌, ℕ, zero, suc, ◌+◌, Bool, true, false, cond, ◌||◌, eqb, List, [], ◌∷◌, ◌++◌, length, map, take, drop, refl, sym, ap, ap₂, ◌∙◌, arith}
+use Rattle.std.proofs.Common.{◌≡◌, ℕ, zero, suc, ◌+◌, Bool, true, false, cond, ◌||◌, eqb, List, [], ◌∷◌, ◌++◌, map, take, drop, refl, sym, ap, ap₂, ◌∙◌, arith}
 use Rattle.std.specs.Prelude.{◌==◌, if◌then◌else◌}
 use Rattle.std.proofs.lemmas.Bool.{eq-eqb, eqb-true}
 use Rattle.std.proofs.lemmas.List.{take-map, drop-map, take_all}
@@ -141,14 +141,11 @@ part-left_one below x n k c t h =
 
 pub listed_size-live : (live : List (ℕ × ℕ × ℕ)) (ls : List (ℕ × ℕ)) → AreSized live ls → (c : ℕ) → has c (keys ls) ≡ true → listed_size ls c ≡ size_of live c
 listed_size-live live [] h c m = cc
-listed_size-live live (l ∷ ls) h c m = go (eqb l.0 c) (eqb-true l.0 c) m (listed_size-live live ls (All-tail IsHere l ls h) c)
+listed_size-live live (l ∷ ls) h c m = go (eqb l.0 c) (eqb-true l.0 c) m (listed_size-live live ls (All-tail (λ (l : ℕ × ℕ). (has l.0 (cells live) ≡ true) × (size_of live l.0 ≡ l.1)) l ls h) c)
   where
-    abbrev IsHere : ℕ × ℕ → Type 0
-    IsHere l = (has l.0 (cells live) ≡ true) × (size_of live l.0 ≡ l.1)
-
     go : (b : Bool) → (b ≡ true → l.0 ≡ c) → (b || has c (keys ls)) ≡ true → (has c (keys ls) ≡ true → listed_size ls c ≡ size_of live c)
         → cond b l.1 (listed_size ls c) ≡ size_of live c
-    go true e m later = sym (All-head IsHere l ls h).1 ∙ ap (size_of live) (e refl)
+    go true e m later = sym (All-head (λ (l : ℕ × ℕ). (has l.0 (cells live) ≡ true) × (size_of live l.0 ≡ l.1)) l ls h).1 ∙ ap (size_of live) (e refl)
     go false e m later = later m
 
 -- C, r and c join the matrices of v from the left to below, from the left to y, and from x to below; then C - c (a r) joins the corners
