@@ -1,21 +1,24 @@
 -- Blocks of scalars, and what they make of a value.
-use Rattle.std.proofs.Common.{◌≡◌, ℕ, zero, suc, ◌<◌, true, false, List, [], ◌∷◌, length, Option, Some, None, All, refl, sym, ap, ◌∙◌, subst}
+use Rattle.std.proofs.Common.{◌≡◌, ℕ, zero, suc, ◌+◌, ◌<◌, Bool, true, false, List, [], ◌∷◌, ◌++◌, length, take, drop, get_or, Option, Some, None, All, refl, sym, ap, ap₂, ◌∙◌, subst, arith}
+use Rattle.std.specs.Prelude.{◌==◌}
+use Rattle.std.specs.List.{list_all}
 use Rattle.std.specs.Option.{is_some}
+use Rattle.std.proofs.lemmas.Bool.{eqb-true, and_parts}
 use Rattle.std.proofs.lemmas.List.Elements.{All-head, All-tail, All-append, All-nil}
 use Rattle.dense_blocks.specs.Field.{Ops, IsField}
-use Rattle.dense_blocks.specs.Vectors.{AllScalars, IsVector}
+use Rattle.dense_blocks.specs.Vectors.{AllScalars, IsVector, zeros}
 use Rattle.dense_blocks.specs.Matrices.{applied, zero_matrix}
 use Rattle.dense_blocks.specs.Blocks.{matrix_of}
 use Rattle.dense_blocks.specs.declared.block.Block.{Block}
 use Rattle.dense_blocks.proofs.Cutting.{flat}
-use Rattle.dense_blocks.proofs.Shapes.{matrix-rows, to_vector, vector-scalars}
+use Rattle.dense_blocks.proofs.Shapes.{Vector, Matrix, matrix-rows, matrix-size, to_vector, vector-scalars}
 use Rattle.dense_blocks.proofs.BlockLaws.{block-entries, block-matrix, block-size}
 use Rattle.dense_blocks.proofs.MatrixLaws.{zero_matrix-matrix, zero_matrix-applied}
 use Rattle.cochain_vec.specs.Complexes.{sum_into, value_at, total_size}
 use Rattle.cochain_vec.proofs.PathLaws.{sum_over}
 use Rattle.cochain_vec.specs.declared.cell.Cell.{Cell}
 use Rattle.cochain_vec.proofs.CoboundaryLaws.{size_at, value-vector}
-use Rattle.block_sparse.specs.BlockComplexes.{AreConsecutive, BlockComplex, Standing, StandsAt, cells, held, matrix, matrix_or, size_of, standing}
+use Rattle.block_sparse.specs.BlockComplexes.{AreConsecutive, BlockComplex, Standing, StandsAt, cells, held, is_zero, matrix, matrix_or, size_of, standing}
 use Rattle.block_sparse.specs.Cochains.{complex_of}
 use Rattle.block_sparse.specs.Invariants.{IsSound}
 use Rattle.block_sparse.proofs.SumLaws.{arriving-vector, sum_into-live, sum_over-some}
@@ -24,9 +27,26 @@ use Rattle.rising_lists.specs.Rising.{IsRising, entry_of, has}
 pub value-scalars : (K : Ops) (cs : List Cell) (z : List ℕ) (s : ℕ) → IsVector K (total_size cs) z → AllScalars K (value_at cs z s)
 value-scalars K cs z s h = vector-scalars K (size_at cs s) (value_at cs z s) (value-vector K cs z s (to_vector K (total_size cs) z h))
 
-flat-all : (K : Ops) (A : List (List ℕ)) → All (AllScalars K) A → AllScalars K (flat A)
+pub flat-all : (K : Ops) (A : List (List ℕ)) → All (AllScalars K) A → AllScalars K (flat A)
 flat-all K [] h = All-nil (λ a. a < K.order)
 flat-all K (r ∷ A) h = All-append (λ a. a < K.order) r (flat A) (All-head (AllScalars K) r A h) (flat-all K A (All-tail (AllScalars K) r A h))
+
+-- a matrix whose entries are all 0
+zero-list : (K : Ops) (n : ℕ) (v : List ℕ) → Vector K n v → list_all (λ a. a == 0) v ≡ true → v ≡ zeros n
+zero-list K zero [] h e = refl
+zero-list K zero (a ∷ v) h e = absurd h
+zero-list K (suc n) [] h e = absurd h
+zero-list K (suc n) (a ∷ v) h e =
+    let p = and_parts (a == 0) (list_all (λ a. a == 0) v) e in
+    ap₂ ◌∷◌ (eqb-true a 0 p.0) (zero-list K n v h.1 p.1)
+
+pub zero-is : (K : Ops) (m n : ℕ) (A : List (List ℕ)) → Matrix K m n A → is_zero A ≡ true → A ≡ zero_matrix m n
+zero-is K zero n [] h e = refl
+zero-is K zero n (r ∷ A) h e = absurd h
+zero-is K (suc m) n [] h e = absurd h
+zero-is K (suc m) n (r ∷ A) h e =
+    let p = and_parts (list_all (λ a. a == 0) r) (is_zero A) e in
+    ap₂ ◌∷◌ (zero-list K n r h.0 p.0) (zero-is K m n A h.1 p.1)
 
 module _ (K : Ops) (v : BlockComplex) (s t : ℕ) where
   -- a block that stands has scalars where the matrix has them

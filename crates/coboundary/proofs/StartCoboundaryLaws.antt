@@ -1,9 +1,9 @@
 -- The start complex of a sheaf has the coboundary of the sheaf: cells without a stalk and zero blocks change nothing.
 use Rattle.std.proofs.Common.{◌≡◌, ◌≢◌, ℕ, zero, suc, ◌+◌, ◌<◌, ◌≤◌, Bool, true, false, cond, ◌&&◌, not, eqb, List, [], ◌∷◌, ◌++◌, length, map, filter, find, get_or, slice_index, None, Some, All, refl, sym, ap, ap₂, ◌∙◌, subst, arith}
 use Rattle.std.specs.Prelude.{◌==◌}
-use Rattle.std.specs.List.{flat_map, list_all, list_any, range_with_len}
+use Rattle.std.specs.List.{flat_map, list_any, range_with_len}
 use Rattle.std.specs.Option.{option_map, option_and_then}
-use Rattle.std.proofs.lemmas.Bool.{eqb-true, and_parts, or_parts}
+use Rattle.std.proofs.lemmas.Bool.{or_parts}
 use Rattle.std.proofs.lemmas.List.{get_or-map, length-map}
 use Rattle.std.proofs.lemmas.List.Elements.{All-head, All-tail, All-map, All-filter, All-get_or, All-cons, All-nil}
 use Rattle.std.proofs.lemmas.List.FromFn.{length-range_with_len, get_or-range_with_len}
@@ -16,7 +16,7 @@ use Rattle.dense_blocks.specs.Matrices.{applied, zero_matrix}
 use Rattle.dense_blocks.specs.Blocks.{matrix_of}
 use Rattle.dense_blocks.specs.declared.block.Block.{Block}
 use Rattle.dense_blocks.proofs.VectorLaws.{dot-nil}
-use Rattle.dense_blocks.proofs.Shapes.{Vector, Matrix, matrix-size, matrix-rows}
+use Rattle.dense_blocks.proofs.Shapes.{Matrix, matrix-size, matrix-rows}
 use Rattle.dense_blocks.proofs.MatrixLaws.{zero_matrix-matrix, zero_matrix-applied}
 use Rattle.dense_blocks.proofs.BlockLaws.{block-matrix_at}
 use Rattle.square_check.specs.Squares.{restriction}
@@ -35,6 +35,7 @@ use Rattle.block_sparse.specs.Cochains.{cell_of, complex_of, of_degree}
 use Rattle.block_sparse.proofs.LiveLaws.{cell-at, length-cells, of_cell-at}
 use Rattle.block_sparse.proofs.SumLaws.{arriving, arriving-vector, sum_into-live, sum_over-some}
 use Rattle.block_sparse.proofs.DegreeLaws.{value-absent}
+use Rattle.block_sparse.proofs.ScalarBlocks.{zero-is}
 use Rattle.sheaf_data.specs.Sheaves.{IsSheaf}
 use Rattle.sheaf_data.specs.Betti.{numbered, signed, cochain_complex_of}
 use Rattle.coboundary.specs.Start.{IsStart, face_matrix, with_stalks}
@@ -54,23 +55,6 @@ joined-same : (f g : Cell → List ℕ) (cs : List Cell) → All (λ (u : Cell).
 joined-same f g [] h = refl
 joined-same f g (c ∷ cs) h =
     ap₂ ◌++◌ (All-head (λ (u : Cell). f u ≡ g u) c cs h) (joined-same f g cs (All-tail (λ (u : Cell). f u ≡ g u) c cs h))
-
--- a matrix whose entries are all 0
-zero-list : (K : Ops) (n : ℕ) (v : List ℕ) → Vector K n v → list_all (λ a. a == 0) v ≡ true → v ≡ zeros n
-zero-list K zero [] h e = refl
-zero-list K zero (a ∷ v) h e = absurd h
-zero-list K (suc n) [] h e = absurd h
-zero-list K (suc n) (a ∷ v) h e =
-    let p = and_parts (a == 0) (list_all (λ a. a == 0) v) e in
-    ap₂ ◌∷◌ (eqb-true a 0 p.0) (zero-list K n v h.1 p.1)
-
-zero-is : (K : Ops) (m n : ℕ) (A : List (List ℕ)) → Matrix K m n A → is_zero A ≡ true → A ≡ zero_matrix m n
-zero-is K zero n [] h e = refl
-zero-is K zero n (r ∷ A) h e = absurd h
-zero-is K (suc m) n [] h e = absurd h
-zero-is K (suc m) n (r ∷ A) h e =
-    let p = and_parts (list_all (λ a. a == 0) r) (is_zero A) e in
-    ap₂ ◌∷◌ (zero-list K n r h.0 p.0) (zero-is K m n A h.1 p.1)
 
 range-rising : (a n : ℕ) → IsRising (range_with_len a n)
 range-rising a n i j l m =
