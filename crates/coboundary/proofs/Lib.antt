@@ -1,3 +1,4 @@
+pub mod EmptyCells
 pub mod ArrowLaws
 pub mod MiddleLaws
 pub mod ClosedLaws

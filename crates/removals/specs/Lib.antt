@@ -1,3 +1,0 @@
-pub mod Differentials
-pub mod Removals
-pub mod Laws
