@@ -7,9 +7,9 @@ ghost use Rattle.open_columns.specs.Open.{FirstFrom, FirstPair};
 ghost use Rattle.block_sparse.specs.Candidates.{is_candidate};
 ghost use Rattle.block_sparse.specs.Lists.{with_block, with_blocks};
 
-use open_columns::Columns;
 use crate::fresh::{fresh_columns, fresh_rows};
 use dense_blocks::Block;
+use open_columns::Columns;
 use rising_lists::Lines;
 use std::alloc::{AllocError as NoMemory, Global};
 use std::marker::Model;

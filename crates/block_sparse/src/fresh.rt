@@ -4,10 +4,9 @@ ghost use Rattle.dense_blocks.specs.Blocks.{matrix_of};
 ghost use Rattle.block_sparse.specs.Grids.{width};
 ghost use Rattle.block_sparse.specs.Fresh.{IsFreshRow, IsFreshColumn, AreFreshRows, AreFreshColumns};
 
-use open_columns::Columns;
-use open_columns::Mark;
 use crate::parts::{column_marks, row_parts};
 use dense_blocks::Block;
+use open_columns::{Columns, Mark};
 use rising_lists::{Line, Lines};
 use std::alloc::{AllocError as NoMemory, Global};
 

@@ -5,8 +5,8 @@ ghost use Rattle.block_sparse.specs.BlockComplexes.{is_zero};
 ghost use Rattle.block_sparse.specs.Grids.{width, window, IsPart};
 ghost use Rattle.block_sparse.specs.Fresh.{mark_of};
 
-use open_columns::Mark;
 use dense_blocks::{Block, Entries};
+use open_columns::Mark;
 use std::alloc::{AllocError as NoMemory, Global};
 
 /// Adds entries at the end; without memory some may have been added.

@@ -8,6 +8,7 @@ mod start;
 mod tests;
 
 pub use laws::{
-    coboundaries_are_cocycles, dd_zero, start_has_the_coboundary, start_has_the_cohomology, start_is_cochain_complex, start_is_over_the_field,
+    coboundaries_are_cocycles, dd_zero, start_has_the_coboundary, start_has_the_cohomology,
+    start_is_cochain_complex, start_is_over_the_field,
 };
 pub use start::full;
