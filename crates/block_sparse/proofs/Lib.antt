@@ -7,3 +7,6 @@ pub mod CandidateLaws
 pub mod SumLaws
 pub mod DegreeLaws
 pub mod ScalarBlocks
+pub mod WalkLaws
+pub mod JoinLaws
+pub mod OtherLaws

@@ -1,5 +1,5 @@
 -- Blocks of scalars, and what they make of a value.
-use Rattle.std.proofs.Common.{◌≡◌, ℕ, zero, suc, ◌+◌, ◌<◌, Bool, true, false, List, [], ◌∷◌, ◌++◌, length, take, drop, get_or, Option, Some, None, All, refl, sym, ap, ap₂, ◌∙◌, subst, arith}
+use Rattle.std.proofs.Common.{◌≡◌, ℕ, zero, suc, ◌+◌, ◌<◌, Bool, true, false, List, [], ◌∷◌, ◌++◌, length, take, drop, get_or, Option, Some, None, option_map, All, refl, sym, ap, ap₂, ◌∙◌, subst, arith}
 use Rattle.std.specs.Prelude.{◌==◌}
 use Rattle.std.specs.List.{list_all}
 use Rattle.std.specs.Option.{is_some}
@@ -18,9 +18,10 @@ use Rattle.cochain_vec.specs.Complexes.{sum_into, value_at, total_size}
 use Rattle.cochain_vec.proofs.PathLaws.{sum_over}
 use Rattle.cochain_vec.specs.declared.cell.Cell.{Cell}
 use Rattle.cochain_vec.proofs.CoboundaryLaws.{size_at, value-vector}
-use Rattle.block_sparse.specs.BlockComplexes.{AreConsecutive, BlockComplex, Standing, StandsAt, cells, held, is_zero, matrix, matrix_or, size_of, standing}
+use Rattle.block_sparse.specs.BlockComplexes.{AreConsecutive, BlockComplex, IsBetween, Standing, StandsAt, cells, held, is_zero, matrix, matrix_or, size_of, standing}
 use Rattle.block_sparse.specs.Cochains.{complex_of}
-use Rattle.block_sparse.specs.Invariants.{IsSound}
+use Rattle.block_sparse.specs.Invariants.{IsSound, is_square}
+use Rattle.open_columns.specs.declared.mark.Mark.{Mark}
 use Rattle.block_sparse.proofs.SumLaws.{arriving-vector, sum_into-live, sum_over-some}
 use Rattle.rising_lists.specs.Rising.{IsRising, entry_of, has}
 
@@ -85,6 +86,26 @@ module _ (v : BlockComplex) (sound : IsSound v.live v.rows v.columns) (s t : ℕ
 
   pub held-between : is_some (held v s t) ≡ true → AreConsecutive v.live s t
   held-between h = between-live (entry_of v.rows t s) refl h
+
+  -- and is not zero
+  pub row-between : is_some (entry_of v.rows t s) ≡ true → IsBetween v s t
+  row-between h = go (entry_of v.rows t s) (entry_of v.columns s t) refl refl h
+    where
+      go : (o : Option Block) (m : Option Mark) → entry_of v.rows t s ≡ o → entry_of v.columns s t ≡ m → is_some o ≡ true → IsBetween v s t
+      go None m e f h = cc
+      go (Some b) m e f h = record {
+        between = (sound.blocks_fit s t b e).between;
+        nonzero =
+            ap₂ (λ o m. is_zero (matrix_or (standing o m) (zero_matrix (size_of v.live t) (size_of v.live s)))) e f ∙ sound.nonzero s t b e;
+      }
+
+  pub column-between : is_some (entry_of v.columns s t) ≡ true → IsBetween v s t
+  column-between h = row-between (go (entry_of v.columns s t) (entry_of v.rows t s) (sound.marks s t) h)
+    where
+      go : (m : Option Mark) (o : Option Block) → option_map (λ m. m.square) m ≡ option_map is_square o → is_some m ≡ true → is_some o ≡ true
+      go None o e h = cc
+      go (Some m) None e h = cc
+      go (Some m) (Some b) e h = refl
 
   pub matrix-size_of : length (matrix v s t) ≡ size_of v.live t
   matrix-size_of = go (entry_of v.rows t s) refl

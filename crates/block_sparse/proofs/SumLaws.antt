@@ -19,7 +19,7 @@ use Rattle.block_sparse.specs.BlockComplexes.{BlockComplex, cells, matrix, size_
 use Rattle.block_sparse.specs.Cochains.{cell_of, complex_of}
 use Rattle.block_sparse.proofs.LiveLaws.{of_cell-at}
 
-rising-filter : (p : ℕ → Bool) (ks : List ℕ) → IsRising ks → IsRising (filter p ks)
+pub rising-filter : (p : ℕ → Bool) (ks : List ℕ) → IsRising ks → IsRising (filter p ks)
 rising-filter p [] r = r
 rising-filter p (k ∷ ks) r =
     elim (p k) as (λ b. IsRising (cond b (k ∷ filter p ks) (filter p ks))) [
@@ -27,7 +27,7 @@ rising-filter p (k ∷ ks) r =
       | false ↦ rising-filter p ks (rising_tail k ks r)
     ]
 
-has-filter : (p : ℕ → Bool) (ks : List ℕ) (q : ℕ) → has q (filter p ks) ≡ (has q ks && p q)
+pub has-filter : (p : ℕ → Bool) (ks : List ℕ) (q : ℕ) → has q (filter p ks) ≡ (has q ks && p q)
 has-filter p [] q = refl
 has-filter p (k ∷ ks) q = go (p k) (eqb k q) refl refl (has-filter p ks q)
   where

@@ -96,3 +96,8 @@ pub record StandsAt (v : BlockComplex) (s t : ℕ) (b : Block) : Type 0 where
   pub is_held : is_some (held v s t) ≡ true
   pub is_matrix : matrix_of b ≡ matrix v s t
   pub nonzero : is_zero (matrix_of b) ≡ false
+
+-- a nonzero matrix goes between live cells of consecutive degree
+pub record IsBetween (v : BlockComplex) (s t : ℕ) : Type 0 where
+  pub between : AreConsecutive v.live s t
+  pub nonzero : is_zero (matrix v s t) ≡ false

@@ -5,3 +5,4 @@ pub mod Fresh
 pub mod Lists
 pub mod Candidates
 pub mod Cochains
+pub mod Joined

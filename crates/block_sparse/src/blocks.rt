@@ -1,7 +1,7 @@
 ghost use Rattle.std.specs.Prelude.{◌≡◌, ◌==◌, ◌||◌, ◌&&◌, ◌↔◌, ◌+◌, ◌<◌, ◌≤◌, ℕ, length, slice_index, slice_index_or, true, false, None, if◌then◌else◌, not, filter, is_some, All, MatchOption, IfOk, IfErr, OnOk, OnErr, IsTrue};
 ghost use Rattle.rising_lists.specs.Rising.{IsRising, has, keys, entry_of};
 ghost use Rattle.dense_blocks.specs.Blocks.{matrix_of};
-ghost use Rattle.block_sparse.specs.BlockComplexes.{AreLive, Fits, StandsAt, cells, degree_of, size_of, total_size, held, flag_of, with_flag};
+ghost use Rattle.block_sparse.specs.BlockComplexes.{AreLive, Fits, IsBetween, StandsAt, cells, degree_of, size_of, total_size, held, flag_of, with_flag};
 ghost use Rattle.block_sparse.specs.Grids.{width, part, placed, AreSized};
 ghost use Rattle.open_columns.specs.Open.{FirstFrom, FirstPair};
 ghost use Rattle.block_sparse.specs.Candidates.{is_candidate};
@@ -21,7 +21,7 @@ use std::marker::Model;
 #[derive(Debug, Drop)]
 pub struct Blocks {
     pub(crate) live: Vec<(u32, u8, u8)>,
-    rows: Lines<Block>,
+    pub(crate) rows: Lines<Block>,
     columns: Columns,
 }
 
@@ -37,6 +37,8 @@ impl Model for Blocks {
 }
 
 impl Blocks {
+    ghost use Rattle.block_sparse.specs.Invariants.{IsSound};
+
     /// The most coordinates of all cells together.
     pub const MOST: u32 = 4096;
 
@@ -79,6 +81,7 @@ impl Blocks {
     pub fn live(&self) -> &[(u32, u8, u8)]
         ensures live { result.now ≡ self.now.live }
         ensures live_cells { AreLive self.now.live }
+        ensures sound { IsSound self.now.live self.now.rows self.now.columns }
     {
         &self.live
     }
@@ -88,6 +91,13 @@ impl Blocks {
         ensures { result ≡ size_of self.now.live c }
     {
         u32::from(size_in(&self.live, c))
+    }
+
+    /// The cell with its size, as joined matrices list their cells; size 0 for a cell that is not live.
+    pub fn sized(&self, c: u32) -> (u32, u8)
+        ensures { result ≡ (c, size_of self.now.live c) }
+    {
+        (c, size_in(&self.live, c))
     }
 
     /// The block from `s` to `t`; none exactly where no nonzero block stands there.
@@ -111,6 +121,7 @@ impl Blocks {
     pub fn row(&self, y: u32) -> &[u32]
         ensures rising { IsRising result.now }
         ensures cells { (s : ℕ) → has s result.now ≡ is_some (held self.now s y) }
+        ensures blocks { (s : ℕ) → has s result.now ≡ true → IsBetween self.now s y }
     {
         self.rows.cells(y)
     }
@@ -119,6 +130,7 @@ impl Blocks {
     pub fn column(&self, x: u32) -> &[u32]
         ensures rising { IsRising result.now }
         ensures cells { (t : ℕ) → has t result.now ≡ is_some (held self.now x t) }
+        ensures blocks { (t : ℕ) → has t result.now ≡ true → IsBetween self.now x t }
     {
         self.columns.cells(x)
     }

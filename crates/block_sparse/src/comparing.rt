@@ -171,8 +171,8 @@ fn is_but_or_listed(cell: u32, but: u32, listed: &[(u32, u8)]) -> bool
     cell == but || is_listed(listed, cell)
 }
 
-/// Whether the cell is listed.
-fn is_listed(listed: &[(u32, u8)], c: u32) -> bool
+/// Whether a rising list of cells with sizes has the cell; one search.
+pub fn is_listed(listed: &[(u32, u8)], c: u32) -> bool
     requires { IsRising (keys listed.now) }
     ensures { result ≡ has c (keys listed.now) }
 {

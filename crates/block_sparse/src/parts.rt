@@ -10,7 +10,7 @@ use open_columns::Mark;
 use std::alloc::{AllocError as NoMemory, Global};
 
 /// Adds entries at the end; without memory some may have been added.
-fn push_all(entries: &mut Entries, more: &[u8]) -> Result<(), NoMemory>
+pub(crate) fn push_all(entries: &mut Entries, more: &[u8]) -> Result<(), NoMemory>
     ensures { OnOk result (entries.new ≡ entries.old ++ more.now) }
 {
     for entry in more {

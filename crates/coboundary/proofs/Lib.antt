@@ -1,4 +1,3 @@
-pub mod EmptyCells
 pub mod ArrowLaws
 pub mod MiddleLaws
 pub mod ClosedLaws

@@ -10,7 +10,7 @@ use Rattle.cell_complex.specs.Complexes as complexes
 use Rattle.dense_blocks.specs.declared.block.Block.{Block}
 use Rattle.cochain_vec.specs.declared.cell.Cell.{Cell}
 use Rattle.cochain_vec.specs.Stalkless as stalkless
-use Rattle.coboundary.proofs.EmptyCells.{has_coordinates, rising-filter}
+use Rattle.cochain_vec.proofs.StalklessLaws.{has_coordinates, rising-filter}
 use Rattle.sheaf_data.specs.Sheaves.{AreStalks}
 use Rattle.sheaf_data.specs.Betti.{numbered}
 use Rattle.coboundary.specs.Start.{with_stalks}

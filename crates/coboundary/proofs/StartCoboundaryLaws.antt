@@ -25,7 +25,7 @@ use Rattle.cochain_vec.specs.declared.cell.Cell.{Cell}
 use Rattle.cochain_vec.specs.Complexes.{Arrow, CellularComplex, cells_of, coboundary, coordinates, sum_into, value_at}
 use Rattle.cochain_vec.specs.Cohomology.{IsCochainComplex}
 use Rattle.cochain_vec.specs.Stalkless as stalkless
-use Rattle.coboundary.proofs.EmptyCells.{Agree, has_coordinates, coordinates-without_empty, coboundary-without_empty, basis_over, agree_back}
+use Rattle.cochain_vec.proofs.StalklessLaws.{Agree, has_coordinates, coordinates-without_empty, coboundary-without_empty, basis_over, agree_back}
 use Rattle.cochain_vec.proofs.PathLaws.{sum_over, sum_over-same, sum_into-by-source, arrows_from}
 use Rattle.rising_lists.specs.Rising.{IsRising, has}
 use Rattle.rising_lists.proofs.Keyed.{place_of, has-at}

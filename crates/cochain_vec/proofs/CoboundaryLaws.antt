@@ -109,7 +109,7 @@ module _ (K : Ops) (F : IsField K) where
       ]
 
   -- what is true of the part at each cell is true of the parts joined
-  joined-vector : (piece : Cell → List ℕ) (ts : List Cell) → All (λ (t : Cell). Vector K t.size (piece t)) ts → Vector K (total_size ts) (flat_map piece ts)
+  pub joined-vector : (piece : Cell → List ℕ) (ts : List Cell) → All (λ (t : Cell). Vector K t.size (piece t)) ts → Vector K (total_size ts) (flat_map piece ts)
   joined-vector piece [] h = tt
   joined-vector piece (t ∷ ts) h =
       append-vector K t.size (total_size ts) (piece t) (flat_map piece ts) (All-head (λ (t : Cell). Vector K t.size (piece t)) t ts h)

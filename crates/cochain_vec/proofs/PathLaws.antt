@@ -50,7 +50,7 @@ module _ (K : Ops) (F : IsField K) where
   sum_over-zeros n f [] e = refl
   sum_over-zeros n f (x ∷ xs) e = ap₂ (plus K) (e x) (sum_over-zeros n f xs e) ∙ zeros-plus-zeros K F n
 
-  sum_over-plus : (n : ℕ) (f g : ℕ → List ℕ) (xs : List ℕ) → sum_over K n (λ x. plus K (f x) (g x)) xs ≡ plus K (sum_over K n f xs) (sum_over K n g xs)
+  pub sum_over-plus : (n : ℕ) (f g : ℕ → List ℕ) (xs : List ℕ) → sum_over K n (λ x. plus K (f x) (g x)) xs ≡ plus K (sum_over K n f xs) (sum_over K n g xs)
   sum_over-plus n f g [] = sym (zeros-plus-zeros K F n)
   sum_over-plus n f g (x ∷ xs) =
       ap (plus K (plus K (f x) (g x))) (sum_over-plus n f g xs) ∙ plus-cross K F (f x) (g x) (sum_over K n f xs) (sum_over K n g xs)
@@ -174,7 +174,7 @@ module _ (K : Ops) (F : IsField K) where
       (λ s. sum_into-by-source cells arrows (after K arrows size value s) (size u) u (rows u) from)
 
   -- the value of a coboundary at a cell
-  value-joined : (arrows : List Arrow) (value : ℕ → List ℕ) (cs : List Cell) (s : ℕ) → All (λ (t : Cell). Vector K t.size (sum_into K arrows value t.size t.cell)) cs
+  pub value-joined : (arrows : List Arrow) (value : ℕ → List ℕ) (cs : List Cell) (s : ℕ) → All (λ (t : Cell). Vector K t.size (sum_into K arrows value t.size t.cell)) cs
       → value_at cs (flat_map (λ (t : Cell). sum_into K arrows value t.size t.cell) cs) s ≡ sum_into K arrows value (size_at cs s) s
   unfolding size_at
   value-joined arrows value [] s h = sym (sum_into-none K arrows value s)
@@ -219,7 +219,7 @@ pub record AreSizes (C : CellularComplex) (k : ℕ) (size : ℕ → ℕ) : Type 
   pub above : All (λ (u : Cell). u.size ≡ size u.cell) (cells_of C (suc (suc k)))
   pub between : All (λ (u : Cell). All (λ (a : Arrow). a.to ≡ u.cell → size_at (cells_of C (suc k)) a.from ≡ size a.from) C.arrows) (cells_of C (suc (suc k)))
 
-joined-zeros : (f : Cell → List ℕ) (cs : List Cell) → All (λ (u : Cell). f u ≡ zeros u.size) cs → flat_map f cs ≡ zeros (total_size cs)
+pub joined-zeros : (f : Cell → List ℕ) (cs : List Cell) → All (λ (u : Cell). f u ≡ zeros u.size) cs → flat_map f cs ≡ zeros (total_size cs)
 joined-zeros f [] h = refl
 joined-zeros f (c ∷ cs) h =
     ap₂ ◌++◌ (All-head (λ (u : Cell). f u ≡ zeros u.size) c cs h) (joined-zeros f cs (All-tail (λ (u : Cell). f u ≡ zeros u.size) c cs h))

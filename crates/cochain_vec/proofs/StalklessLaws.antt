@@ -14,7 +14,7 @@ use Rattle.cochain_vec.specs.Cohomology.{IsCocycle, IsCoboundary, IsRepresented,
 use Rattle.cochain_vec.specs.Stalkless.{IsRising, without_empty, EmptyCellsChangeNothing}
 
 -- what the lists of cells do
-abbrev has_coordinates : Cell → Bool
+abbrev pub has_coordinates : Cell → Bool
 has_coordinates c = not (c.size == 0)
 
 filter-swap : (p q : Cell → Bool) (cs : List Cell) → filter p (filter q cs) ≡ filter q (filter p cs)
@@ -28,7 +28,7 @@ filter-swap p q (c ∷ cs) = go (p c) (q c) refl refl (filter-swap p q cs)
     go false true e f r = rw (f, e) r
     go false false e f r = rw (f, e) r
 
-rising-filter : (p : Cell → Bool) (cs : List Cell) → IsRising cs → IsRising (filter p cs)
+pub rising-filter : (p : Cell → Bool) (cs : List Cell) → IsRising cs → IsRising (filter p cs)
 rising-filter p [] h = tt
 rising-filter p (c ∷ cs) h =
     elim (p c) as (λ b. IsRising (cond b (c ∷ filter p cs) (filter p cs))) [
@@ -111,10 +111,10 @@ module _ (K : Ops) where
     cells-without_empty : (k : ℕ) → cells_of (without_empty F) k ≡ filter has_coordinates (cells_of F k)
     cells-without_empty k = filter-swap (λ c. c.degree == k) has_coordinates F.cells
 
-    coordinates-without_empty : (k : ℕ) → coordinates (without_empty F) k ≡ coordinates F k
+    pub coordinates-without_empty : (k : ℕ) → coordinates (without_empty F) k ≡ coordinates F k
     coordinates-without_empty k = ap total_size (cells-without_empty k) ∙ total_size-filter (cells_of F k)
 
-    coboundary-without_empty : (k : ℕ) (z : List ℕ) → coboundary K (without_empty F) k z ≡ coboundary K F k z
+    pub coboundary-without_empty : (k : ℕ) (z : List ℕ) → coboundary K (without_empty F) k z ≡ coboundary K F k z
     coboundary-without_empty k z =
         let here : (cs : List Cell) → Cell → List ℕ = λ cs t. sum_into K F.arrows (value_at cs z) t.size t.cell in
         ap (λ cs. flat_map (here cs) (cells_of (without_empty F) (suc k))) (cells-without_empty k)
@@ -125,9 +125,9 @@ module _ (K : Ops) where
         (λ t e. ap (λ n. sum_into K F.arrows (value_at (cells_of F k) z) n t.cell) e ∙ sum_into-none F.arrows (value_at (cells_of F k) z) t.cell)
 
 -- two complexes with the same coordinates and the same coboundary have the same bases
-record Agree (K : Ops) (F G : CellularComplex) : Type 0 where
-  sizes : (k : ℕ) → coordinates F k ≡ coordinates G k
-  maps : (k : ℕ) (z : List ℕ) → coboundary K F k z ≡ coboundary K G k z
+pub record Agree (K : Ops) (F G : CellularComplex) : Type 0 where
+  pub sizes : (k : ℕ) → coordinates F k ≡ coordinates G k
+  pub maps : (k : ℕ) (z : List ℕ) → coboundary K F k z ≡ coboundary K G k z
 
 module _ (K : Ops) (F G : CellularComplex) (same : Agree K F G) where
   cocycle_over : (k : ℕ) (z : List ℕ) → IsCocycle K F k z → IsCocycle K G k z
@@ -149,10 +149,10 @@ module _ (K : Ops) (F G : CellularComplex) (same : Agree K F G) where
     sum = r.sum ∙ ap (λ n. plus K (combination K n r.coefficients B) r.rest) (same.sizes k);
   }
 
-agree_back : (K : Ops) (F G : CellularComplex) → Agree K F G → Agree K G F
+pub agree_back : (K : Ops) (F G : CellularComplex) → Agree K F G → Agree K G F
 agree_back K F G same = record { sizes = λ k. sym (same.sizes k); maps = λ k z. sym (same.maps k z) }
 
-basis_over : (K : Ops) (F G : CellularComplex) → Agree K F G → (k : ℕ) (B : List (List ℕ)) → IsBasis K F k B → IsBasis K G k B
+pub basis_over : (K : Ops) (F G : CellularComplex) → Agree K F G → (k : ℕ) (B : List (List ℕ)) → IsBasis K F k B → IsBasis K G k B
 basis_over K F G same k B b = record {
   cocycles = λ i d l. cocycle_over K F G same k (get_or B i d) (b.cocycles i d l);
   spans = λ z c. represented_over K F G same k B z (b.spans z (cocycle_over K G F (agree_back K F G same) k z c));

@@ -99,12 +99,13 @@ impl Scalars for Field {
     }
 
     fn add(&self, a: u8, b: u8) -> u8 {
-        (a + b) % self.modulus()
+        let order = self.modulus();
+        let sum = a + b;
+        if sum < order { sum } else { sum - order }
     }
 
     fn neg(&self, a: u8) -> u8 {
-        let order = self.modulus();
-        (order - a) % order
+        if a == 0 { 0 } else { self.modulus() - a }
     }
 
     fn mul(&self, a: u8, b: u8) -> u8 {

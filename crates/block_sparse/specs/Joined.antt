@@ -1,0 +1,45 @@
+-- What a joined matrix is made of, row by row.
+use Rattle.std.specs.Prelude.{◌≡◌, ◌<◌, ℕ, zero, suc, List, [], ◌++◌, Option, Some, None, take, slice_index_or, All}
+use Rattle.std.specs.List.{flat_map}
+use Rattle.dense_blocks.specs.Vectors.{zeros}
+use Rattle.dense_blocks.specs.Matrices.{zero_matrix}
+use Rattle.dense_blocks.specs.Blocks.{matrix_of}
+use Rattle.dense_blocks.specs.declared.block.Block.{Block}
+use Rattle.rising_lists.specs.Rising.{ByCell, entry, line_of}
+use Rattle.block_sparse.specs.Grids.{width, window}
+
+-- the matrix of a block, or h rows of w zeros where there is none
+abbrev pub corner : Option Block → ℕ → ℕ → List (List ℕ)
+corner None h w = zero_matrix h w
+corner (Some b) h w = matrix_of b
+
+-- the row at k of a block, or w zeros where there is none
+abbrev pub corner_row : Option Block → ℕ → ℕ → List ℕ
+corner_row None w k = zeros w
+corner_row (Some b) w k = slice_index_or (matrix_of b) k []
+
+-- the blocks at the listed cells have h rows and the widths of the cells
+abbrev pub AreShaped : ByCell Block → ℕ → List (ℕ × ℕ) → Type 0
+AreShaped line h left = All (λ l. (b : Block) → entry line l.0 ≡ Some b → (b.rows ≡ h) × (b.cols ≡ l.1)) left
+
+-- the blocks at the listed cells have a row at k
+abbrev pub HaveRow : ByCell Block → ℕ → List (ℕ × ℕ) → Type 0
+HaveRow line k left = All (λ l. (b : Block) → entry line l.0 ≡ Some b → k < b.rows) left
+
+-- the row at k of the joined matrix of a row of blocks
+abbrev pub joined_row : ByCell Block → List (ℕ × ℕ) → ℕ → List ℕ
+joined_row line left k = flat_map (λ l. corner_row (entry line l.0) l.1 k) left
+
+-- its first n rows, one after another
+abbrev pub joined_rows : ByCell Block → List (ℕ × ℕ) → ℕ → List ℕ
+joined_rows line left zero = []
+joined_rows line left (suc n) = joined_rows line left n ++ joined_row line left n
+
+-- the entries of the joined matrix, row after row
+abbrev pub joined_entries : ByCell (ByCell Block) → List (ℕ × ℕ) → List (ℕ × ℕ) → List ℕ
+joined_entries rows left below = flat_map (λ t. joined_rows (line_of rows t.0) left t.1) below
+
+-- the part of a matrix, h rows from one on, at the i-th listed cell is the block there
+abbrev pub IsSamePart : ByCell Block → List (ℕ × ℕ) → List (List ℕ) → ℕ → ℕ → ℕ → Type 0
+IsSamePart line left A row h i = window row h (width (take i left)) (slice_index_or left i (0, 0)).1 A
+    ≡ corner (entry line (slice_index_or left i (0, 0)).0) h (slice_index_or left i (0, 0)).1

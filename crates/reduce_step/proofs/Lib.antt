@@ -1,0 +1,6 @@
+pub mod ListLaws
+pub mod PartLaws
+pub mod CopyLaws
+pub mod FirstLaws
+pub mod DifferenceLaws
+pub mod ApplyLaws

@@ -1,0 +1,61 @@
+-- Cells with a block, but one, each with its size.
+use Rattle.std.proofs.Common.{◌≡◌, ℕ, zero, suc, ◌<◌, Bool, true, false, ◌&&◌, List, [], ◌∷◌, length, map, filter, get_or, All, refl, sym, ap, ◌∙◌, subst, arith}
+use Rattle.std.specs.Prelude.{◌==◌, not}
+use Rattle.std.proofs.lemmas.Bool.{and_parts, eq-eqb}
+use Rattle.std.proofs.lemmas.List.Elements.{All-from_get_or, All-map}
+use Rattle.rising_lists.specs.Rising.{IsRising, has, keys}
+use Rattle.rising_lists.proofs.Keyed.{has-at}
+use Rattle.block_sparse.specs.BlockComplexes.{cells, size_of}
+use Rattle.block_sparse.specs.Grids.{AreSized}
+use Rattle.reduce_step.specs.Parts.{sized_others}
+use Rattle.block_sparse.proofs.SumLaws.{has-filter, rising-filter}
+
+keys-sized : (size : ℕ → ℕ) (cs : List ℕ) → keys (map (λ c. (c, size c)) cs) ≡ cs
+keys-sized size [] = refl
+keys-sized size (c ∷ cs) = ap (λ ks. c ∷ ks) (keys-sized size cs)
+
+module _ (live : List (ℕ × ℕ × ℕ)) (there : List ℕ) (but : ℕ) (listed : List (ℕ × ℕ))
+    (are : listed ≡ sized_others live there but) where
+  abbrev others : List ℕ
+  others = filter (λ c. not (c == but)) there
+
+  keys-are : keys listed ≡ others
+  keys-are = ap keys are ∙ keys-sized (size_of live) others
+
+  pub others-rise : IsRising there → IsRising (keys listed)
+  others-rise r = subst IsRising (sym keys-are) (rising-filter (λ c. not (c == but)) there r)
+
+  pub others-has : (c : ℕ) → has c (keys listed) ≡ (has c there && not (c == but))
+  others-has c = ap (has c) keys-are ∙ has-filter (λ c. not (c == but)) there c
+
+  pub others-there : (c : ℕ) → has c (keys listed) ≡ true → has c there ≡ true
+  others-there c h = (and_parts (has c there) (not (c == but)) (sym (others-has c) ∙ h)).0
+
+  pub others-sized : ((c : ℕ) → has c there ≡ true → has c (cells live) ≡ true) → AreSized live listed
+  others-sized within =
+      let Sized : ℕ × ℕ → Type 0 = λ l. (has l.0 (cells live) ≡ true) × (size_of live l.0 ≡ l.1) in
+      let is_live : (c : ℕ) → has c others ≡ true → has c (cells live) ≡ true = λ c h. within c (others-there c (ap (has c) keys-are ∙ h)) in
+      subst (AreSized live) (sym are)
+      (All-map Sized (λ c. (c, size_of live c)) others
+      (All-from_get_or (λ c. Sized (c, size_of live c)) others 0 (λ i l. (is_live (get_or others i 0) (has-at others i l), refl))))
+
+  pub others-without : has but (keys listed) ≡ false
+  others-without = others-has but ∙ ap (λ b. has but there && not b) (eq-eqb but but refl) ∙ and_false (has but there)
+    where
+      and_false : (b : Bool) → (b && false) ≡ false
+      and_false true = refl
+      and_false false = refl
+
+-- a list of one cell
+pub one-rises : (c n : ℕ) (listed : List (ℕ × ℕ)) → listed ≡ (c, n) ∷ [] → IsRising (keys listed)
+one-rises c n listed are = subst (λ ls. IsRising (keys ls)) (sym are) rises
+  where
+    rises : IsRising (c ∷ [])
+    rises i j l m = absurd (omega arith)
+
+pub one-sized : (live : List (ℕ × ℕ × ℕ)) (c : ℕ) (listed : List (ℕ × ℕ)) → listed ≡ (c, size_of live c) ∷ [] → has c (cells live) ≡ true → AreSized live listed
+one-sized live c listed are h = subst (AreSized live) (sym are) sized
+  where
+    sized : AreSized live ((c, size_of live c) ∷ [])
+    sized zero d l = (h, refl)
+    sized (suc i) d l = absurd (omega arith)

@@ -1,0 +1,19 @@
+//! One step of a reduction of a block complex: what a pair of cells touches, and what its removal would make of that.
+#![tactic(auto)]
+
+mod applying;
+mod differing;
+mod finish;
+mod footprint;
+mod record;
+#[cfg(test)]
+mod apply_tests;
+#[cfg(test)]
+mod fits_tests;
+#[cfg(test)]
+mod tests;
+
+pub use differing::Differs;
+pub use finish::Finish;
+pub use footprint::Footprint;
+pub use record::{Record, Step};

@@ -1,0 +1,52 @@
+ghost use Rattle.reduce_step.specs.Parts.{AreParts};
+
+use crate::footprint::Footprint;
+use dense_blocks::{Block, Listed, Scalars};
+use std::marker::Model;
+
+/// What the removal of a pair of cells would make of its footprint: the inverse of the pivot, and the new corners.
+///
+/// All entries are scalars of the field, the inverse is two-sided, and the new corners are `corners - column * inverse * row`.
+#[derive(Debug, Drop)]
+pub struct Record<F: Scalars> {
+    /// The field.
+    pub f: F,
+    /// The footprint.
+    pub foot: Footprint,
+    /// The inverse of the pivot.
+    pub inverse: Block,
+    /// The joined matrix of what the corners become.
+    pub new_corners: Block,
+}
+
+impl<F: Scalars> Model for Record<F> {
+    ghost use Rattle.reduce_step.specs.Records.{RecordValue, IsRecord};
+
+    ghost Value = { RecordValue F };
+
+    ghost view = { λ r. record { f = r.f; foot = r.foot; inverse = r.inverse; new_corners = r.new_corners } };
+
+    ghost invariant = { λ r. IsRecord (F.ops r.f) r.foot r.inverse r.new_corners };
+}
+
+/// A removal that was made: the pair of cells, the cells and blocks around it as they stood before, and the inverse of the pivot.
+#[derive(Debug, Drop)]
+pub struct Step {
+    /// The cell that the pivot went from.
+    pub x: u32,
+    /// The cell that the pivot went to.
+    pub y: u32,
+    /// The cells other than `x` with a nonzero block to `y`, each with its size, rising.
+    pub left: Listed<(u32, u8)>,
+    /// The cells other than `y` with a nonzero block from `x`, each with its size, rising.
+    pub below: Listed<(u32, u8)>,
+    /// The square block from `x` to `y`.
+    pub pivot: Block,
+    /// Its inverse.
+    pub inverse: Block,
+    /// The joined matrix of the blocks from the cells on the left to `y`.
+    pub row: Block,
+    /// The joined matrix of the blocks from `x` to the cells below.
+    pub column: Block,
+    pub ghost parts: { AreParts x y left below pivot row column },
+}

@@ -1,0 +1,188 @@
+//! Footprints and records of small complexes, worked by hand.
+use crate::finish::Finish;
+use crate::footprint::Footprint;
+use crate::record::Record;
+use block_sparse::Blocks;
+use dense_blocks::{Block, Scalars, Two};
+use std::alloc::{AllocError as NoMemory, Global};
+use std::process::Abort;
+
+/// The circle: vertices 0 to 2, edges 3 to 5, one coordinate each.
+const CIRCLE: [(u32, u8, u8); 6] = [
+    (0, 0, 1),
+    (1, 0, 1),
+    (2, 0, 1),
+    (3, 1, 1),
+    (4, 1, 1),
+    (5, 1, 1),
+];
+
+/// Over the field of two elements its blocks are 1.
+const ENDS: [(u32, u32); 6] = [(0, 3), (1, 3), (1, 4), (2, 4), (0, 5), (2, 5)];
+
+/// Puts a block of so many rows and columns.
+pub(crate) fn put(
+    rt: &impl Abort,
+    alloc: Global,
+    blocks: &mut Blocks,
+    pair: (u32, u32),
+    shape: (u32, u32),
+    entries: &[u8],
+) -> Result<(), NoMemory> {
+    assert!(rt; Block::fits(shape.0, shape.1, entries.len()));
+    let b = Block::of(alloc, shape.0, shape.1, entries)?;
+    assert!(rt; blocks.fits(pair.0, pair.1, &b));
+    match blocks.set(pair.0, pair.1, b) {
+        Ok(()) => Ok(()),
+        Err((_, fault)) => Err(fault),
+    }
+}
+
+pub(crate) fn circle(rt: &impl Abort, alloc: Global) -> Result<Blocks, NoMemory> {
+    assert!(rt; Blocks::may_live(&CIRCLE));
+    let mut blocks = Blocks::of_cells(alloc, &CIRCLE)?;
+    for pair in ENDS {
+        put(rt, alloc, &mut blocks, pair, (1, 1), &[1])?;
+    }
+    Ok(blocks)
+}
+
+/// The footprint of a pair where a square block stands.
+pub(crate) fn copy(rt: &impl Abort, alloc: Global, b: &Blocks, x: u32, y: u32) -> Result<Footprint, NoMemory> {
+    assert!(rt; b.get(x, y).is_some() && b.size(x) == b.size(y));
+    Footprint::copy(alloc, b, x, y)
+}
+
+/// Whether the block has so many rows and columns, and these entries.
+fn has(b: &Block, rows: u32, cols: u32, entries: &[u8]) -> bool {
+    b.rows == rows && b.cols == cols && b.entries.as_slice() == entries
+}
+
+/// Whether the footprint has these lists.
+fn lists(foot: &Footprint, left: &[(u32, u8)], below: &[(u32, u8)]) -> bool {
+    foot.left.as_slice() == left && foot.below.as_slice() == below
+}
+
+/// What becomes of the footprint.
+fn finish<F: Scalars>(
+    rt: &impl Abort,
+    alloc: Global,
+    f: &F,
+    foot: Footprint,
+) -> Result<Finish<F>, NoMemory> {
+    assert!(rt; foot.is_over(f));
+    match foot.finish(alloc, f) {
+        Ok(finish) => Ok(finish),
+        Err((_, fault)) => Err(fault),
+    }
+}
+
+/// The record of a footprint, if its pivot has an inverse.
+pub(crate) fn record(
+    rt: &impl Abort,
+    alloc: Global,
+    foot: Footprint,
+) -> Result<Option<Record<Two>>, NoMemory> {
+    match finish(rt, alloc, &Two, foot)? {
+        Finish::Made(record) => Ok(Some(record)),
+        Finish::Singular { .. } => Ok(None),
+    }
+}
+
+/// Whether a record was made with this inverse and these new corners.
+fn is_made<F: Scalars>(finish: &Finish<F>, inverse: &[u8], corners: &[u8]) -> bool {
+    match finish {
+        Finish::Made(record) => {
+            record.inverse.entries.as_slice() == inverse
+                && record.new_corners.entries.as_slice() == corners
+        }
+        Finish::Singular { .. } => false,
+    }
+}
+
+/// Whether the pivot from `s` to `t` has no inverse and sends this vector to zero.
+fn is_singular<F: Scalars>(finish: &Finish<F>, s: u32, t: u32, vector: &[u8]) -> bool {
+    match finish {
+        Finish::Made(_) => false,
+        Finish::Singular { x, y, kernel, .. } => {
+            *x == s && *y == t && kernel.as_slice() == vector
+        }
+    }
+}
+
+#[test]
+fn copies_the_circle(rt: HostRuntime) -> Result<(), NoMemory> {
+    let alloc = rt.alloc();
+    let circle = circle(&rt, alloc)?;
+    let first = copy(&rt, alloc, &circle, 0, 3)?;
+    assert!(rt; first.x == 0 && first.y == 3);
+    assert!(rt; lists(&first, &[(1, 1)], &[(5, 1)]));
+    assert!(rt; has(&first.pivot, 1, 1, &[1]) && has(&first.corners, 1, 1, &[0]));
+    let second = copy(&rt, alloc, &circle, 1, 4)?;
+    assert!(rt; lists(&second, &[(2, 1)], &[(3, 1)]));
+    assert!(rt; has(&second.row, 1, 1, &[1]) && has(&second.column, 1, 1, &[1]));
+    assert!(rt; has(&second.corners, 1, 1, &[0]));
+    Ok(())
+}
+
+#[test]
+fn finishes_the_circle(rt: HostRuntime) -> Result<(), NoMemory> {
+    let alloc = rt.alloc();
+    let circle = circle(&rt, alloc)?;
+    let finished = finish(&rt, alloc, &Two, copy(&rt, alloc, &circle, 1, 4)?)?;
+    // From 2 to 3: 0 - 1 * 1 * 1, which is 1.
+    assert!(rt; is_made(&finished, &[1], &[1]));
+    Ok(())
+}
+
+/// Cells of two coordinates and of one: 0 and 1, and above them 2 and 3.
+const WIDE: [(u32, u8, u8); 4] = [(0, 0, 2), (1, 0, 1), (2, 1, 2), (3, 1, 1)];
+
+/// Blocks over the field of two elements: to 2 from 0 and 1, and to 3 from 0 and 1.
+fn wide(rt: &impl Abort, alloc: Global, pivot: &[u8]) -> Result<Blocks, NoMemory> {
+    assert!(rt; Blocks::may_live(&WIDE));
+    let mut blocks = Blocks::of_cells(alloc, &WIDE)?;
+    put(rt, alloc, &mut blocks, (0, 2), (2, 2), pivot)?;
+    put(rt, alloc, &mut blocks, (1, 2), (2, 1), &[1, 0])?;
+    put(rt, alloc, &mut blocks, (0, 3), (1, 2), &[1, 1])?;
+    put(rt, alloc, &mut blocks, (1, 3), (1, 1), &[1])?;
+    Ok(blocks)
+}
+
+#[test]
+fn finishes_a_pivot_of_two_rows(rt: HostRuntime) -> Result<(), NoMemory> {
+    let alloc = rt.alloc();
+    let wide = wide(&rt, alloc, &[0, 1, 1, 1])?;
+    let foot = copy(&rt, alloc, &wide, 0, 2)?;
+    assert!(rt; lists(&foot, &[(1, 1)], &[(3, 1)]));
+    assert!(rt; has(&foot.row, 2, 1, &[1, 0]) && has(&foot.column, 1, 2, &[1, 1]));
+    // The inverse has the rows 1 1 and 1 0; it sends (1, 0) to (1, 1), and the column sends that to 0: the corner stays.
+    let finished = finish(&rt, alloc, &Two, foot)?;
+    assert!(rt; is_made(&finished, &[1, 1, 1, 0], &[1]));
+    Ok(())
+}
+
+#[test]
+fn finds_a_singular_pivot(rt: HostRuntime) -> Result<(), NoMemory> {
+    let alloc = rt.alloc();
+    let wide = wide(&rt, alloc, &[1, 1, 1, 1])?;
+    let finished = finish(&rt, alloc, &Two, copy(&rt, alloc, &wide, 0, 2)?)?;
+    assert!(rt; is_singular(&finished, 0, 2, &[1, 1]));
+    Ok(())
+}
+
+#[test]
+fn finishes_with_an_inverse(rt: HostRuntime) -> Result<(), NoMemory> {
+    let alloc = rt.alloc();
+    // The cell 4 has no block but that from 3.
+    let live = [(3, 0, 1), (4, 1, 1)];
+    assert!(rt; Blocks::may_live(&live));
+    let mut blocks = Blocks::of_cells(alloc, &live)?;
+    put(&rt, alloc, &mut blocks, (3, 4), (1, 1), &[1])?;
+    let foot = copy(&rt, alloc, &blocks, 3, 4)?;
+    assert!(rt; lists(&foot, &[], &[]));
+    assert!(rt; has(&foot.row, 1, 0, &[]) && has(&foot.column, 0, 1, &[]) && has(&foot.corners, 0, 0, &[]));
+    let finished = finish(&rt, alloc, &Two, foot)?;
+    assert!(rt; is_made(&finished, &[1], &[]));
+    Ok(())
+}

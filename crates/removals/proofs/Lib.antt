@@ -1,0 +1,10 @@
+pub mod Sums
+pub mod CornerLaws
+pub mod DifferentialLaws
+pub mod ComplexLaws
+pub mod RemovalLaws
+pub mod PartLaws
+pub mod HeldLaws
+pub mod JoinedCorners
+pub mod JoinedScalars
+pub mod AppliedLaws

@@ -1,0 +1,3 @@
+pub mod Differentials
+pub mod Removals
+pub mod Laws
