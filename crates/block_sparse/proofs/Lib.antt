@@ -7,6 +7,3 @@ pub mod CandidateLaws
 pub mod SumLaws
 pub mod DegreeLaws
 pub mod ScalarBlocks
-pub mod WalkLaws
-pub mod JoinLaws
-pub mod OtherLaws

@@ -5,4 +5,3 @@ pub mod Fresh
 pub mod Lists
 pub mod Candidates
 pub mod Cochains
-pub mod Joined

@@ -1,5 +1,5 @@
 ghost use Rattle.std.specs.Prelude.{◌≡◌, ◌==◌, ◌||◌, ◌&&◌, ◌↔◌, ◌+◌, ◌<◌, ◌≤◌, ℕ, length, slice_index, slice_index_or, true, false, None, if◌then◌else◌, not, filter, is_some, All, MatchOption, IfOk, IfErr, OnOk, OnErr, IsTrue};
-ghost use Rattle.rising_lists.specs.Rising.{IsRising, has, keys, entry_of};
+ghost use Rattle.rising_lists.specs.Rising.{IsRising, has, keys, entry_of, line_of};
 ghost use Rattle.dense_blocks.specs.Blocks.{matrix_of};
 ghost use Rattle.block_sparse.specs.BlockComplexes.{AreLive, Fits, IsBetween, StandsAt, cells, degree_of, size_of, total_size, held, flag_of, with_flag};
 ghost use Rattle.block_sparse.specs.Grids.{width, part, placed, AreSized};
@@ -10,7 +10,7 @@ ghost use Rattle.block_sparse.specs.Lists.{with_block, with_blocks};
 use crate::fresh::{fresh_columns, fresh_rows};
 use dense_blocks::Block;
 use open_columns::Columns;
-use rising_lists::Lines;
+use rising_lists::{Line, Lines};
 use std::alloc::{AllocError as NoMemory, Global};
 use std::marker::Model;
 
@@ -21,7 +21,7 @@ use std::marker::Model;
 #[derive(Debug, Drop)]
 pub struct Blocks {
     pub(crate) live: Vec<(u32, u8, u8)>,
-    pub(crate) rows: Lines<Block>,
+    rows: Lines<Block>,
     columns: Columns,
 }
 
@@ -115,6 +115,14 @@ impl Blocks {
             Some(mark) => mark.flagged,
             None => false,
         }
+    }
+
+    /// The nonzero blocks that go to the live cell `y`, by the cells that they come from.
+    pub fn line(&self, y: u32) -> &Line<Block>
+        requires { has y (cells self.now.live) ≡ true }
+        ensures { result.now ≡ line_of self.now.rows y }
+    {
+        self.rows.line(y)
     }
 
     /// The cells from which a nonzero block goes to the cell `y`, rising; none if `y` is not live.

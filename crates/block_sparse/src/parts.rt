@@ -10,7 +10,7 @@ use open_columns::Mark;
 use std::alloc::{AllocError as NoMemory, Global};
 
 /// Adds entries at the end; without memory some may have been added.
-pub(crate) fn push_all(entries: &mut Entries, more: &[u8]) -> Result<(), NoMemory>
+pub fn push_all(entries: &mut Entries, more: &[u8]) -> Result<(), NoMemory>
     ensures { OnOk result (entries.new ≡ entries.old ++ more.now) }
 {
     for entry in more {
@@ -37,7 +37,7 @@ fn row_part(joined: &Block, i: u32, col: u32, width: u8) -> &[u8]
 }
 
 /// Whether a part of a matrix is zero: `height` rows from `row` on, and of each `width` entries from `col` on.
-pub(crate) fn is_zero_at(joined: &Block, row: u32, height: u8, col: u32, width: u8) -> bool
+pub fn is_zero_at(joined: &Block, row: u32, height: u8, col: u32, width: u8) -> bool
     requires rows { row + height ≤ joined.now.rows }
     requires cols { col + width ≤ joined.now.cols }
     ensures { result ≡ is_zero (window row height col width (matrix_of joined.now)) }
@@ -161,14 +161,7 @@ fn mark(joined: &Block, row: u32, height: u8, col: u32, width: u8) -> Option<Mar
 }
 
 /// Whether a block of so many rows and columns is the part of a matrix from `row` and `col` on.
-pub(crate) fn is_same_at(
-    b: &Block,
-    joined: &Block,
-    row: u32,
-    height: u8,
-    col: u32,
-    width: u8,
-) -> bool
+pub fn is_same_at(b: &Block, joined: &Block, row: u32, height: u8, col: u32, width: u8) -> bool
     requires height { b.now.rows ≡ height }
     requires width { b.now.cols ≡ width }
     requires rows { row + height ≤ joined.now.rows }

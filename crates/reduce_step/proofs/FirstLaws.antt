@@ -59,14 +59,20 @@ module _ (Same : ℕ → ℕ → Type 0) where
       go None None e f g = subst Either (sym e) (λ s t h. elim h [ inl c ↦ f s t c | inr d ↦ g s t d ])
       go None (Some b) e f g = subst Either (sym e) (g.0, λ s t h l. elim h [ inl c ↦ f s t c | inr d ↦ g.1 s t d l ])
       go (Some a) None e f g = subst Either (sym e) (f.0, λ s t h l. elim h [ inl c ↦ f.1 s t c l | inr d ↦ g s t d ])
-      go (Some a) (Some b) (inl e) f g = subst Either (sym e.1) (g.0, λ s t h l. elim h [
-        | inl c ↦ f.1 s t c (before-trans s t b.0 b.1 a.0 a.1 l e.0)
-        | inr d ↦ g.1 s t d l
-      ])
-      go (Some a) (Some b) (inr e) f g = subst Either (sym e.1) (f.0, λ s t h l. elim h [
-        | inl c ↦ f.1 s t c l
-        | inr d ↦ g.1 s t d (later-before s t b.0 b.1 a.0 a.1 e.0 l)
-      ])
+      go (Some a) (Some b) (inl e) f g = subst Either (sym e.1) (
+        g.0,
+        λ s t h l. elim h [
+          | inl c ↦ f.1 s t c (before-trans s t b.0 b.1 a.0 a.1 l e.0)
+          | inr d ↦ g.1 s t d l
+        ],
+      )
+      go (Some a) (Some b) (inr e) f g = subst Either (sym e.1) (
+        f.0,
+        λ s t h l. elim h [
+          | inl c ↦ f.1 s t c l
+          | inr d ↦ g.1 s t d (later-before s t b.0 b.1 a.0 a.1 e.0 l)
+        ],
+      )
 
   -- pairs of which each is the same if those before it are
   pub found-all : (C D : ℕ → ℕ → Type 0) (r : Option (ℕ × ℕ)) → Found Same C r

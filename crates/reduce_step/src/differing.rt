@@ -6,6 +6,7 @@ ghost use Rattle.reduce_step.specs.Differences.{Found, IsBefore, IsEarlier, IsFi
 
 use crate::footprint::Footprint;
 use crate::record::Record;
+use block_grids::first_other;
 use block_sparse::{Blocks, is_listed};
 use dense_blocks::Scalars;
 
@@ -42,7 +43,7 @@ fn first_difference(foot: &Footprint, b: &Blocks) -> Option<(u32, u32)>
     ensures { Found (IsSameAt b.now foot.now) (λ _ _. Unit {0}) result }
 {
     let resized = first_resized(foot, b);
-    let other = first_other(foot, b);
+    let other = first_changed(foot, b);
     let gained = first_gained(foot, b);
     earlier(earlier(resized, other), gained)
 }
@@ -62,7 +63,7 @@ fn first_resized(foot: &Footprint, b: &Blocks) -> Option<(u32, u32)>
 }
 
 /// The first pair that was copied and has another matrix, where its cells and those listed before them are live with their sizes.
-fn first_other(foot: &Footprint, b: &Blocks) -> Option<(u32, u32)>
+fn first_changed(foot: &Footprint, b: &Blocks) -> Option<(u32, u32)>
     ensures { Found (IsSameAt b.now foot.now) (IsReached b.now foot.now) result }
 {
     let left = foot.left.as_slice();
@@ -73,10 +74,10 @@ fn first_other(foot: &Footprint, b: &Blocks) -> Option<(u32, u32)>
     let to = [b.sized(foot.y)];
     let from = &from[..usize::from(is_live_as(b, foot.x, foot.pivot.cols))];
     let to = &to[..usize::from(is_live_as(b, foot.y, foot.pivot.rows))];
-    let pivot = b.first_other(from, to, &foot.pivot);
-    let column = b.first_other(from, below, &foot.column);
-    let row = b.first_other(left, to, &foot.row);
-    let corner = b.first_other(left, below, &foot.corners);
+    let pivot = first_other(b, from, to, &foot.pivot);
+    let column = first_other(b, from, below, &foot.column);
+    let row = first_other(b, left, to, &foot.row);
+    let corner = first_other(b, left, below, &foot.corners);
     earlier(earlier(pivot, column), earlier(row, corner))
 }
 

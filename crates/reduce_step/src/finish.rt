@@ -122,7 +122,12 @@ impl Footprint {
     {
         let _field = f;
         let Footprint { x, y, pivot, .. } = self;
-        Finish::Singular { x, y, pivot, kernel }
+        Finish::Singular {
+            x,
+            y,
+            pivot,
+            kernel,
+        }
     }
 }
 

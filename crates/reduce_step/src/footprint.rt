@@ -4,6 +4,7 @@ ghost use Rattle.block_sparse.specs.BlockComplexes.{StandsAt, held, size_of};
 ghost use Rattle.block_sparse.specs.Grids.{AreSized, width};
 ghost use Rattle.reduce_step.specs.Parts.{AreParts, IsJoinedBlock, sized_others};
 
+use block_grids::grid;
 use block_sparse::Blocks;
 use dense_blocks::{Block, Listed, Scalars, all_scalars};
 use std::alloc::{AllocError as NoMemory, Global};
@@ -84,12 +85,7 @@ impl Footprint {
 }
 
 /// The cells but one, each with its size.
-fn others(
-    alloc: Global,
-    b: &Blocks,
-    there: &[u32],
-    but: u32,
-) -> Result<Listed<(u32, u8)>, NoMemory>
+fn others(alloc: Global, b: &Blocks, there: &[u32], but: u32) -> Result<Listed<(u32, u8)>, NoMemory>
     ensures { IfOk result (λ l. l ≡ sized_others b.now.live there.now but) }
 {
     let listed = list(alloc, b, there, but)?;
@@ -138,6 +134,6 @@ fn joined(
     requires below_sized { AreSized b.now.live below.now }
     ensures { IfOk result (IsJoinedBlock b.now left.now below.now) }
 {
-    let block = b.grid(alloc, left.as_slice(), below.as_slice())?;
+    let block = grid(alloc, b, left.as_slice(), below.as_slice())?;
     Ok(block)
 }

@@ -1,15 +1,15 @@
 //! One step of a reduction of a block complex: what a pair of cells touches, and what its removal would make of that.
 #![tactic(auto)]
 
+#[cfg(test)]
+mod apply_tests;
 mod applying;
 mod differing;
 mod finish;
-mod footprint;
-mod record;
-#[cfg(test)]
-mod apply_tests;
 #[cfg(test)]
 mod fits_tests;
+mod footprint;
+mod record;
 #[cfg(test)]
 mod tests;
 

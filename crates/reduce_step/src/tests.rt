@@ -48,7 +48,13 @@ pub(crate) fn circle(rt: &impl Abort, alloc: Global) -> Result<Blocks, NoMemory>
 }
 
 /// The footprint of a pair where a square block stands.
-pub(crate) fn copy(rt: &impl Abort, alloc: Global, b: &Blocks, x: u32, y: u32) -> Result<Footprint, NoMemory> {
+pub(crate) fn copy(
+    rt: &impl Abort,
+    alloc: Global,
+    b: &Blocks,
+    x: u32,
+    y: u32,
+) -> Result<Footprint, NoMemory> {
     assert!(rt; b.get(x, y).is_some() && b.size(x) == b.size(y));
     Footprint::copy(alloc, b, x, y)
 }
@@ -181,7 +187,9 @@ fn finishes_with_an_inverse(rt: HostRuntime) -> Result<(), NoMemory> {
     put(&rt, alloc, &mut blocks, (3, 4), (1, 1), &[1])?;
     let foot = copy(&rt, alloc, &blocks, 3, 4)?;
     assert!(rt; lists(&foot, &[], &[]));
-    assert!(rt; has(&foot.row, 1, 0, &[]) && has(&foot.column, 0, 1, &[]) && has(&foot.corners, 0, 0, &[]));
+    assert!(rt;
+        has(&foot.row, 1, 0, &[]) && has(&foot.column, 0, 1, &[]) && has(&foot.corners, 0, 0, &[])
+    );
     let finished = finish(&rt, alloc, &Two, foot)?;
     assert!(rt; is_made(&finished, &[1], &[]));
     Ok(())

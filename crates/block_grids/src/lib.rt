@@ -1,0 +1,8 @@
+//! Joined matrices of the blocks of a block complex: to make one, and to find where one differs from the blocks that stand.
+#![tactic(auto)]
+
+mod grids;
+#[cfg(test)]
+mod tests;
+
+pub use grids::{first_other, grid};

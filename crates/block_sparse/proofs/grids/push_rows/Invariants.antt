@@ -1,6 +1,0 @@
-use Rattle.std.proofs.Common.{◌≡◌, ◌++◌}
-use Rattle.block_sparse.specs.Joined.{joined_rows}
-use Rattle.block_sparse.proofs.grids.push_rows.Given as goal
-
-abbrev pub invariant-loop-k : goal.invariant-loop-k
-invariant-loop-k l = l.entries ≡ l.initial.entries ++ joined_rows l.line l.left l.k
