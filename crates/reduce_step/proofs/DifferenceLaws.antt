@@ -2,6 +2,7 @@
 use Rattle.std.proofs.Common.{◌≡◌, ◌≢◌, ℕ, zero, suc, ◌+◌, ◌<◌, ◌≤◌, Bool, true, false, cond, ◌||◌, ◌&&◌, eqb, List, [], ◌∷◌, length, map, take, drop, get_or, Option, Some, None, option_map, MatchOption, All, refl, sym, ap, ap₂, ◌∙◌, subst, arith, ◌⊎◌, inl, inr}
 use Rattle.std.specs.Option.{is_some}
 use Rattle.std.proofs.lemmas.Bool.{cases_eq, cases_lt, cases_Bool, eq-eqb, ne_eqb, eqb-true, and_parts}
+use Rattle.std.proofs.lemmas.List.Elements.{All-get_or, All-from_get_or}
 use Rattle.std.proofs.lemmas.List.{get_or-map, get_or-take, length-map, length-take}
 use Rattle.dense_blocks.specs.Blocks.{matrix_of}
 use Rattle.rising_lists.specs.Rising.{IsRising, has, keys}
@@ -9,16 +10,28 @@ use Rattle.rising_lists.proofs.Keyed.{place_of, has-at, rising_tail, rising_le, 
 use Rattle.block_sparse.specs.BlockComplexes.{BlockComplex, AreLive, cells, held, matrix, size_of}
 use Rattle.block_sparse.specs.Grids.{AreSized, IsJoined, IsFirstOther, segment, part, columns_of}
 use Rattle.block_sparse.proofs.GridLaws.{key-listed, map-same}
+use Rattle.block_sparse.proofs.LiveLaws.{cell-at, length-cells, of_cell-at}
 use Rattle.reduce_step.proofs.PartLaws.{row-part, column-part, columns-one}
 use Rattle.reduce_step.specs.declared.footprint.Footprint.{Footprint}
 use Rattle.reduce_step.specs.Differences.{sources, targets, is_copied, kept, listed_size, IsSized, IsLiveAs, IsKept, IsBeside, IsSameAt, IsFirstResized, IsResized, IsReached, IsGained, IsBefore, Found}
 use Rattle.reduce_step.proofs.FirstLaws.{not-before, found-all}
 
+-- a live cell has a coordinate
+pub live-size : (live : List (ℕ × ℕ × ℕ)) (c : ℕ) → AreLive live → has c (cells live) ≡ true → 1 ≤ size_of live c
+live-size live c are h =
+    let p = place_of (cells live) c h in
+    let l : p.at < length live = omega (arith, p.inside, length-cells live) in
+    omega (
+      arith,
+      of_cell-at (λ l. l.2) live p.at c are.rising l (sym (cell-at live p.at l) ∙ p.is),
+      All-get_or (λ l. 1 ≤ l.2) live p.at (0, 0, 0) l are.sizes,
+    )
+
 -- the pair was not copied: nothing was to be kept
-not-both : {A : Type 0} (b : Bool) → b ≡ true → b ≡ false → A
+pub not-both : {A : Type 0} (b : Bool) → b ≡ true → b ≡ false → A
 not-both b e f = let g : true ≡ false = sym e ∙ f in cc
 
-and_false : (b : Bool) → (b && false) ≡ false
+pub and_false : (b : Bool) → (b && false) ≡ false
 and_false true = refl
 and_false false = refl
 
@@ -63,7 +76,7 @@ sized-take live (suc n) (l ∷ ls) c s h = go (cases_eq l.0 c) (λ m. sized-take
         subst (λ b. IsSized live c (cond b l.1 (listed_size ls c))) (sym (ne_eqb l.0 c d))
         (f (ap (λ b. b || has c (keys (take n ls))) (sym (ne_eqb l.0 c d)) ∙ m))
 
-size-at : (ls : List (ℕ × ℕ)) (i : ℕ) → IsRising (keys ls) → i < length ls → listed_size ls (get_or ls i (0, 0)).0 ≡ (get_or ls i (0, 0)).1
+pub size-at : (ls : List (ℕ × ℕ)) (i : ℕ) → IsRising (keys ls) → i < length ls → listed_size ls (get_or ls i (0, 0)).0 ≡ (get_or ls i (0, 0)).1
 size-at [] i r l = absurd (omega arith)
 size-at (x ∷ xs) zero r l = ap (λ b. cond b x.1 (listed_size xs x.0)) (eq-eqb x.0 x.0 refl)
 size-at (x ∷ xs) (suc i) r l =
@@ -73,12 +86,37 @@ size-at (x ∷ xs) (suc i) r l =
 cell-of : (x : ℕ) (ls : List (ℕ × ℕ)) (k : ℕ) → has k (x ∷ keys ls) ≡ true → (x ≡ k) ⊎ (has k (keys ls) ≡ true)
 cell-of x ls k h = elim (cases_eq x k) [ inl e ↦ inl e | inr d ↦ inr (ap (λ b. b || has k (keys ls)) (sym (ne_eqb x k d)) ∙ h) ]
 
+-- the least of a cell and a rising list of others
+pub least-first : (c m : ℕ) (ls : List (ℕ × ℕ)) → IsRising (keys ls) → m ≤ c → (0 < length ls → m ≤ (get_or ls 0 (0, 0)).0)
+    → (k : ℕ) → has k (c ∷ keys ls) ≡ true → m ≤ k
+least-first c m ls r low first k h = elim (cell-of c ls k h) [
+  | inl e ↦ omega arith
+  | inr i ↦
+      let p = place_of (keys ls) k i in
+      let l : p.at < length ls = omega (arith, p.inside, length-map ls (λ l. l.0)) in
+      let start : 0 < length ls = omega arith in
+      omega (arith, first start, get_or-map (λ l. l.0) ls 0 (0, 0) 0 start, rising_le (keys ls) r 0 p.at (omega arith) p.inside, p.is)
+]
+
+-- cells that are kept up to a place of a list
+pub each-kept : (there all : List ℕ) → ((i : ℕ) → i < length there → has (get_or there i 0) all ≡ true) → (c : ℕ) → has c there ≡ true → has c all ≡ true
+each-kept there all h c m = let p = place_of there c m in subst (λ k. has k all ≡ true) p.is (h p.at p.inside)
+
+pub before-kept : (there all : List ℕ) (i : ℕ) → IsRising there → ((j : ℕ) → j < i → has (get_or there j 0) all ≡ true)
+    → (c : ℕ) → has c there ≡ true → c < get_or there i 0 → has c all ≡ true
+before-kept there all i r h c m u =
+    let p = place_of there c m in
+    elim (cases_lt p.at i) [
+      | inl k ↦ subst (λ k. has k all ≡ true) p.is (h p.at k)
+      | inr k ↦ absurd (omega (arith, p.is, rising_le there r i p.at k p.inside))
+    ]
+
 -- one cell and a rising list of others
 module _ (live : List (ℕ × ℕ × ℕ)) (x n : ℕ) (ls : List (ℕ × ℕ)) (rises : IsRising (keys ls)) (apart : has x (keys ls) ≡ false) where
   abbrev all_cells : List (ℕ × ℕ)
   all_cells = (x, n) ∷ ls
 
-  other-cell : (c : ℕ) → has c (keys ls) ≡ true → eqb x c ≡ false
+  pub other-cell : (c : ℕ) → has c (keys ls) ≡ true → eqb x c ≡ false
   other-cell c h = elim (cases_eq x c) [
     | inl e ↦ not-both (has x (keys ls)) (ap (λ k. has k (keys ls)) e ∙ h) apart
     | inr d ↦ ne_eqb x c d
@@ -90,10 +128,10 @@ module _ (live : List (ℕ × ℕ × ℕ)) (x n : ℕ) (ls : List (ℕ × ℕ)) 
   pub listed-one : has x (keys all_cells) ≡ true
   listed-one = ap (λ b. b || has x (keys ls)) (eq-eqb x x refl)
 
-  live-too : (c : ℕ) → has c (keys ls) ≡ true → IsSized live c (listed_size ls c) → IsLiveAs live all_cells c
+  pub live-too : (c : ℕ) → has c (keys ls) ≡ true → IsSized live c (listed_size ls c) → IsLiveAs live all_cells c
   live-too c h s = subst (λ b. IsSized live c (cond b n (listed_size ls c))) (sym (other-cell c h)) s
 
-  sized-too : (c : ℕ) → has c (keys ls) ≡ true → IsLiveAs live all_cells c → IsSized live c (listed_size ls c)
+  pub sized-too : (c : ℕ) → has c (keys ls) ≡ true → IsLiveAs live all_cells c → IsSized live c (listed_size ls c)
   sized-too c h s = subst (λ b. IsSized live c (cond b n (listed_size ls c))) (other-cell c h) s
 
   pub live-one : IsSized live x n → IsLiveAs live all_cells x
@@ -104,6 +142,12 @@ module _ (live : List (ℕ × ℕ × ℕ)) (x n : ℕ) (ls : List (ℕ × ℕ)) 
 
   pub live-first : (m c : ℕ) → AreSized live (take m ls) → has c (keys (take m ls)) ≡ true → IsLiveAs live all_cells c
   live-first m c s h = live-too c (has-take m ls c h) (sized-take live m ls c s h)
+
+  pub all-sized : ((c : ℕ) → has c (keys ls) ≡ true → IsLiveAs live all_cells c) → AreSized live ls
+  all-sized h = All-from_get_or (λ l. IsSized live l.0 l.1) ls (0, 0) (λ i l.
+      let c : ℕ = (get_or ls i (0, 0)).0 in
+      let m = key-listed ls i l in
+      subst (IsSized live c) (size-at ls i rises l) (sized-too c m (h c m)))
 
   -- the cell after the first ones that are live with their sizes
   not-live : (m : ℕ) → m < length ls → (IsSized live (get_or ls m (0, 0)).0 (get_or ls m (0, 0)).1 → ⊥) → IsLiveAs live all_cells (get_or ls m (0, 0)).0 → ⊥
@@ -181,7 +225,7 @@ segments-take : {T : Type 0} (m : ℕ) (ls : List (ℕ × ℕ)) (A : List (List 
 segments-take m ls A c h = map-same (λ row. segment (take m ls) row c) (λ row. segment ls row c) (λ row. segment-take m ls row c h) A
 
 -- of a list of one cell nothing, or that cell
-one-of : (c q : ℕ) → has q (c ∷ []) ≡ true → c ≡ q
+pub one-of : (c q : ℕ) → has q (c ∷ []) ≡ true → c ≡ q
 one-of c q h = elim (cases_eq c q) [
   | inl e ↦ e
   | inr d ↦ let e : false ≡ true = sym (ap (λ b. b || false) (ne_eqb c q d)) ∙ h in cc
@@ -196,20 +240,20 @@ module _ (v : BlockComplex) (foot : Footprint) where
   abbrev Same : ℕ → ℕ → Type 0
   Same = IsSameAt v foot
 
-  kept-at : (s t : ℕ) (a b : Bool) → eqb s foot.x ≡ a → eqb t foot.y ≡ b
+  pub kept-at : (s t : ℕ) (a b : Bool) → eqb s foot.x ≡ a → eqb t foot.y ≡ b
       → kept foot s t ≡ cond a (cond b (matrix_of foot.pivot) (segment foot.below (matrix_of foot.column) t))
       (cond b (columns_of foot.left (matrix_of foot.row) s) (part foot.left foot.below (matrix_of foot.corners) s t))
   kept-at s t a b e f =
       ap₂ (λ a b. cond a (cond b (matrix_of foot.pivot) (segment foot.below (matrix_of foot.column) t))
       (cond b (columns_of foot.left (matrix_of foot.row) s) (part foot.left foot.below (matrix_of foot.corners) s t))) e f
 
-  not_x : (s : ℕ) → has s (keys foot.left) ≡ true → eqb s foot.x ≡ false
+  pub not_x : (s : ℕ) → has s (keys foot.left) ≡ true → eqb s foot.x ≡ false
   not_x s h = elim (cases_eq s foot.x) [
     | inl e ↦ not-both (has s (keys foot.left)) h (ap (λ k. has k (keys foot.left)) e ∙ foot.parts.without_x)
     | inr d ↦ ne_eqb s foot.x d
   ]
 
-  not_y : (t : ℕ) → has t (keys foot.below) ≡ true → eqb t foot.y ≡ false
+  pub not_y : (t : ℕ) → has t (keys foot.below) ≡ true → eqb t foot.y ≡ false
   not_y t h = elim (cases_eq t foot.y) [
     | inl e ↦ not-both (has t (keys foot.below)) h (ap (λ k. has k (keys foot.below)) e ∙ foot.parts.without_y)
     | inr d ↦ ne_eqb t foot.y d
@@ -225,7 +269,7 @@ module _ (v : BlockComplex) (foot : Footprint) where
   abbrev Within : List (ℕ × ℕ) → List (ℕ × ℕ) → ℕ → ℕ → Type 0
   Within ls bs s t = (has s (keys ls) ≡ true) × (has t (keys bs) ≡ true)
 
-  found-joined : (ls bs : List (ℕ × ℕ)) (A : List (List ℕ)) (o : Option (ℕ × ℕ)) → MatchOption o (IsJoined v ls bs A) (λ p. IsFirstOther v ls bs A p.0 p.1)
+  pub found-joined : (ls bs : List (ℕ × ℕ)) (A : List (List ℕ)) (o : Option (ℕ × ℕ)) → MatchOption o (IsJoined v ls bs A) (λ p. IsFirstOther v ls bs A p.0 p.1)
       → ((s t : ℕ) → has s (keys ls) ≡ true → has t (keys bs) ≡ true → Lies ls bs A s t) → Found Same (Within ls bs) o
   found-joined ls bs A o found lies = go o found
     where
@@ -441,7 +485,7 @@ module _ (v : BlockComplex) (foot : Footprint) where
         → r ≡ option_map (λ s. (s, foot.y)) o → Found Same (λ s t. (is_copied foot s t ≡ false) × (t ≡ foot.y)) r
     found-gained_from there o r are f e = subst (Found Same Here) (sym e) (go o f)
       where
-        abbrev Here : ℕ → ℕ → Type 0
+        Here : ℕ → ℕ → Type 0
         Here s t = (is_copied foot s t ≡ false) × (t ≡ foot.y)
 
         same : (s t : ℕ) → Here s t → (has s there ≡ true → has s (keys (sources foot)) ≡ true) → Same s t
@@ -462,7 +506,7 @@ module _ (v : BlockComplex) (foot : Footprint) where
         → r ≡ option_map (λ t. (foot.x, t)) o → Found Same (λ s t. (is_copied foot s t ≡ false) × (s ≡ foot.x)) r
     found-gained_to there o r are f e = subst (Found Same Here) (sym e) (go o f)
       where
-        abbrev Here : ℕ → ℕ → Type 0
+        Here : ℕ → ℕ → Type 0
         Here s t = (is_copied foot s t ≡ false) × (s ≡ foot.x)
 
         same : (s t : ℕ) → Here s t → (has t there ≡ true → has t (keys (targets foot)) ≡ true) → Same s t

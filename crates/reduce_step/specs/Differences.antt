@@ -53,6 +53,10 @@ pub record IsSameAt (v : BlockComplex) (foot : Footprint) (s t : ℕ) : Type 0 w
   pub copied : is_copied foot s t ≡ true → IsKept v foot s t
   pub others : is_copied foot s t ≡ false → IsBeside v foot s t → is_some (held v s t) ≡ false
 
+-- nothing differs from what was kept
+abbrev pub Fits : BlockComplex → Footprint → Type 0
+Fits v foot = (s t : ℕ) → IsSameAt v foot s t
+
 -- the first listed cell that is not live with its size
 pub record IsFirstResized (live : List (ℕ × ℕ × ℕ)) (listed : List (ℕ × ℕ)) (c : ℕ) : Type 0 where
   pub is_listed : has c (keys listed) ≡ true

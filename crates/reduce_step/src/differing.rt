@@ -20,7 +20,7 @@ pub struct Differs {
 }
 
 impl<F: Scalars> Record<F> {
-    ghost use Rattle.reduce_step.specs.Differences.{IsFirstDifference};
+    ghost use Rattle.reduce_step.specs.Differences.{Fits, IsFirstDifference};
 
     /// Whether the blocks are still those that were kept; else the first pair at which something differs, by `s` and then by `t`.
     ///
@@ -29,7 +29,7 @@ impl<F: Scalars> Record<F> {
     /// stands that was not copied. Takes no memory; one search for each cell of the two lists, and of row `y` and column `x`; and one step
     /// for each block in the rows of the cells below, for each pair copied, and for each entry.
     pub fn fits(&self, b: &Blocks) -> Result<(), Differs>
-        ensures { MatchResult result (λ _. (s t : ℕ) → IsSameAt b.now self.now.foot s t) (λ d. IsFirstDifference b.now self.now.foot d.s d.t) }
+        ensures { MatchResult result (λ _. Fits b.now self.now.foot) (λ d. IsFirstDifference b.now self.now.foot d.s d.t) }
     {
         match first_difference(&self.foot, b) {
             None => Ok(()),
