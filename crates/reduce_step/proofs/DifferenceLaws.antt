@@ -3,18 +3,21 @@ use Rattle.std.proofs.Common.{◌≡◌, ◌≢◌, ℕ, zero, suc, ◌+◌, ◌
 use Rattle.std.specs.Option.{is_some}
 use Rattle.std.proofs.lemmas.Bool.{cases_eq, cases_lt, cases_Bool, eq-eqb, ne_eqb, eqb-true, and_parts}
 use Rattle.std.proofs.lemmas.List.Elements.{All-get_or, All-from_get_or}
-use Rattle.std.proofs.lemmas.List.{get_or-map, get_or-take, length-map, length-take}
+use Rattle.std.proofs.lemmas.List.{get_or-map, get_or-take, length-map, length-take, take-map}
 use Rattle.dense_blocks.specs.Blocks.{matrix_of}
+use Rattle.dense_blocks.specs.declared.block.Block.{Block}
 use Rattle.rising_lists.specs.Rising.{IsRising, has, keys}
 use Rattle.rising_lists.proofs.Keyed.{place_of, has-at, rising_tail, rising_le, head-absent}
 use Rattle.block_sparse.specs.BlockComplexes.{BlockComplex, AreLive, cells, held, matrix, size_of}
-use Rattle.block_sparse.specs.Grids.{AreSized, IsJoined, IsFirstOther, segment, part, columns_of}
+use Rattle.block_sparse.specs.Grids.{width, AreSized, IsJoined, IsFirstOther, segment, part, columns_of}
 use Rattle.block_sparse.proofs.GridLaws.{key-listed, map-same}
 use Rattle.block_sparse.proofs.LiveLaws.{cell-at, length-cells, of_cell-at}
+use Rattle.block_sparse.proofs.Windows.{width-take}
 use Rattle.reduce_step.proofs.PartLaws.{row-part, column-part, columns-one}
 use Rattle.reduce_step.specs.declared.footprint.Footprint.{Footprint}
-use Rattle.reduce_step.specs.Differences.{sources, targets, is_copied, kept, listed_size, IsSized, IsLiveAs, IsKept, IsBeside, IsSameAt, IsFirstResized, IsResized, IsReached, IsGained, IsBefore, Found}
-use Rattle.reduce_step.proofs.FirstLaws.{not-before, found-all}
+use Rattle.reduce_step.specs.Differences.{sources, targets, is_copied, kept, listed_size, IsSized, IsLiveAs, IsKept, IsBeside, IsSameAt, IsFirstResized, IsResized, IsReached, IsGained, IsBefore, IsEarlier, Found}
+use Rattle.reduce_step.proofs.FirstLaws.{not-before, found-either, found-within}
+use Rattle.reduce_step.proofs.ListLaws.{one-rises}
 
 -- a live cell has a coordinate
 pub live-size : (live : List (ℕ × ℕ × ℕ)) (c : ℕ) → AreLive live → has c (cells live) ≡ true → 1 ≤ size_of live c
@@ -236,6 +239,34 @@ taken-one zero c n q h = let e : false ≡ true = h in cc
 taken-one (suc zero) c n q h = (omega arith, refl, one-of c q h)
 taken-one (suc (suc k)) c n q h = (omega arith, refl, one-of c q h)
 
+-- the first of the listed cells rise
+pub rising-take : (n : ℕ) (ls : List (ℕ × ℕ)) → IsRising (keys ls) → IsRising (keys (take n ls))
+rising-take n ls r = subst IsRising (take-map (λ l. l.0) n ls) (λ i j u l.
+    let inside : (j < n) × (j < length (keys ls)) = (omega (arith, length-take n (keys ls)), omega (arith, length-take n (keys ls))) in
+    omega (arith, r i j u inside.1, get_or-take n (keys ls) i 0 (omega (arith, inside.0)), get_or-take n (keys ls) j 0 inside.0))
+
+-- a list of one cell, as far as that is live with a size
+module _ (live : List (ℕ × ℕ × ℕ)) (k c n : ℕ) where
+  pub taken-rises : IsRising (keys (take k ((c, n) ∷ [])))
+  taken-rises = rising-take k ((c, n) ∷ []) (one-rises c n ((c, n) ∷ []) refl)
+
+  pub taken-width : width (take k ((c, n) ∷ [])) ≤ n
+  taken-width = omega (arith, width-take ((c, n) ∷ []) k)
+
+  pub taken-sized : (0 < k → IsSized live c n) → AreSized live (take k ((c, n) ∷ []))
+  taken-sized h = All-from_get_or (λ l. IsSized live l.0 l.1) (take k ((c, n) ∷ [])) (0, 0) (λ i l.
+      let at : (0 < k) × (i ≡ 0) = (omega (arith, length-take k ((c, n) ∷ [])), omega (arith, length-take k ((c, n) ∷ []))) in
+      subst (λ l. IsSized live l.0 l.1)
+      (sym (ap (λ i. get_or (take k ((c, n) ∷ [])) i (0, 0)) at.1 ∙ get_or-take k ((c, n) ∷ []) 0 (0, 0) at.0)) (h at.0))
+
+  pub taken-same : (0 < k → IsSized live c n) → take k ((c, size_of live c) ∷ []) ≡ take k ((c, n) ∷ [])
+  taken-same h = elim (cases_lt 0 k) [
+    | inl l ↦ ap (λ m. take k ((c, m) ∷ [])) (h l).1
+    | inr l ↦
+        let none : k ≡ 0 = omega arith in
+        ap (λ k. take k ((c, size_of live c) ∷ [])) none ∙ sym (ap (λ k. take k ((c, n) ∷ [])) none)
+  ]
+
 module _ (v : BlockComplex) (foot : Footprint) where
   abbrev Same : ℕ → ℕ → Type 0
   Same = IsSameAt v foot
@@ -396,6 +427,42 @@ module _ (v : BlockComplex) (foot : Footprint) where
         | inl a ↦ elim to [ inl c ↦ inl (inl (a, c)) | inr c ↦ inl (inr (a, c)) ]
         | inr a ↦ elim to [ inl c ↦ inr (inl (a, c)) | inr c ↦ inr (inr (a, c)) ]
       ]
+
+  -- what the search for another part of a joined matrix gives
+  abbrev pub Searched : List (ℕ × ℕ) → List (ℕ × ℕ) → Block → Option (ℕ × ℕ) → Type 0
+  Searched ls bs b o = MatchOption o (IsJoined v ls bs (matrix_of b)) (λ p. IsFirstOther v ls bs (matrix_of b) p.0 p.1)
+
+  -- how many of the cells of each list, and of x and y, are live with their sizes
+  pub record AreCounted (j k m n : ℕ) : Type 0 where
+    pub x_in : 0 < j → IsSized v.live foot.x foot.pivot.cols
+    pub x_out : IsSized v.live foot.x foot.pivot.cols → 0 < j
+    pub y_in : 0 < k → IsSized v.live foot.y foot.pivot.rows
+    pub y_out : IsSized v.live foot.y foot.pivot.rows → 0 < k
+    pub left_in : AreSized v.live (take m foot.left)
+    pub left_out : m < length foot.left → IsSized v.live (get_or foot.left m (0, 0)).0 (get_or foot.left m (0, 0)).1 → ⊥
+    pub below_in : AreSized v.live (take n foot.below)
+    pub below_out : n < length foot.below → IsSized v.live (get_or foot.below n (0, 0)).0 (get_or foot.below n (0, 0)).1 → ⊥
+
+  -- the first of the other parts of the four joined matrices
+  pub found-changed : (j k m n : ℕ) → AreCounted j k m n → (pivot column row corner one two all : Option (ℕ × ℕ))
+      → Searched (take j ((foot.x, foot.pivot.cols) ∷ [])) (take k ((foot.y, foot.pivot.rows) ∷ [])) foot.pivot pivot
+      → Searched (take j ((foot.x, foot.pivot.cols) ∷ [])) (take n foot.below) foot.column column
+      → Searched (take m foot.left) (take k ((foot.y, foot.pivot.rows) ∷ [])) foot.row row
+      → Searched (take m foot.left) (take n foot.below) foot.corners corner
+      → IsEarlier pivot column one → IsEarlier row corner two → IsEarlier one two all → Found Same (IsReached v foot) all
+  found-changed j k m n are pivot column row corner one two all in_pivot in_column in_row in_corner e f g =
+      let xs : List (ℕ × ℕ) = take j ((foot.x, foot.pivot.cols) ∷ []) in
+      let ys : List (ℕ × ℕ) = take k ((foot.y, foot.pivot.rows) ∷ []) in
+      let ls : List (ℕ × ℕ) = take m foot.left in
+      let bs : List (ℕ × ℕ) = take n foot.below in
+      found-within Same (Four j k m n) (IsReached v foot) all (reach-four j k m n are.x_out are.y_out are.left_out are.below_out)
+      (found-either Same (λ s t. Within xs ys s t ⊎ Within xs bs s t) (λ s t. Within ls ys s t ⊎ Within ls bs s t) one two all g
+      (found-either Same (Within xs ys) (Within xs bs) pivot column one e
+      (found-joined xs ys (matrix_of foot.pivot) pivot in_pivot (lies-pivot m n are.left_in are.below_in j k are.x_in are.y_in))
+      (found-joined xs bs (matrix_of foot.column) column in_column (lies-column m n are.left_in are.below_in j are.x_in)))
+      (found-either Same (Within ls ys) (Within ls bs) row corner two f
+      (found-joined ls ys (matrix_of foot.row) row in_row (lies-row m n are.left_in are.below_in k are.y_in))
+      (found-joined ls bs (matrix_of foot.corners) corner in_corner (lies-corner m n are.left_in are.below_in))))
 
   -- pairs with a cell that is not live with its size
   pub found-resized_from : (o : Option ℕ) (t : ℕ) (r : Option (ℕ × ℕ)) → MatchOption o ((k : ℕ) → has k (keys (sources foot)) ≡ true → IsLiveAs v.live (sources foot) k) (IsFirstResized v.live (sources foot))
