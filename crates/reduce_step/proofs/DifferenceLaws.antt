@@ -15,7 +15,7 @@ use Rattle.block_sparse.proofs.LiveLaws.{cell-at, length-cells, of_cell-at}
 use Rattle.block_sparse.proofs.Windows.{width-take}
 use Rattle.reduce_step.proofs.PartLaws.{row-part, column-part, columns-one}
 use Rattle.reduce_step.specs.declared.footprint.Footprint.{Footprint}
-use Rattle.reduce_step.specs.Differences.{sources, targets, is_copied, kept, listed_size, IsSized, IsLiveAs, IsKept, IsBeside, IsSameAt, IsFirstResized, IsResized, IsReached, IsGained, IsBefore, IsEarlier, Found}
+use Rattle.reduce_step.specs.Differences.{sources, targets, is_copied, kept, listed_size, IsSized, IsLiveAs, IsKept, IsBeside, IsSameAt, IsFirstResized, IsResized, IsReached, IsGained, IsBefore, IsEarlier, Found, FoundResized, FoundUnlisted}
 use Rattle.reduce_step.proofs.FirstLaws.{not-before, found-either, found-within}
 use Rattle.reduce_step.proofs.ListLaws.{one-rises}
 
@@ -89,6 +89,12 @@ size-at (x ∷ xs) (suc i) r l =
 cell-of : (x : ℕ) (ls : List (ℕ × ℕ)) (k : ℕ) → has k (x ∷ keys ls) ≡ true → (x ≡ k) ⊎ (has k (keys ls) ≡ true)
 cell-of x ls k h = elim (cases_eq x k) [ inl e ↦ inl e | inr d ↦ inr (ap (λ b. b || has k (keys ls)) (sym (ne_eqb x k d)) ∙ h) ]
 
+pub has-first : (x : ℕ) (ks : List ℕ) → has x (x ∷ ks) ≡ true
+has-first x ks = ap (λ b. b || has x ks) (eq-eqb x x refl)
+
+pub has-more : (x k : ℕ) (ks : List ℕ) → has k ks ≡ true → has k (x ∷ ks) ≡ true
+has-more x k ks h = elim (eqb x k) as (λ b. (b || has k ks) ≡ true) [ true ↦ refl | false ↦ h ]
+
 -- the least of a cell and a rising list of others
 pub least-first : (c m : ℕ) (ls : List (ℕ × ℕ)) → IsRising (keys ls) → m ≤ c → (0 < length ls → m ≤ (get_or ls 0 (0, 0)).0)
     → (k : ℕ) → has k (c ∷ keys ls) ≡ true → m ≤ k
@@ -126,10 +132,10 @@ module _ (live : List (ℕ × ℕ × ℕ)) (x n : ℕ) (ls : List (ℕ × ℕ)) 
   ]
 
   pub listed-too : (c : ℕ) → has c (keys ls) ≡ true → has c (keys all_cells) ≡ true
-  listed-too c h = ap (λ b. b || has c (keys ls)) (other-cell c h) ∙ h
+  listed-too c h = has-more x c (keys ls) h
 
   pub listed-one : has x (keys all_cells) ≡ true
-  listed-one = ap (λ b. b || has x (keys ls)) (eq-eqb x x refl)
+  listed-one = has-first x (keys ls)
 
   pub live-too : (c : ℕ) → has c (keys ls) ≡ true → IsSized live c (listed_size ls c) → IsLiveAs live all_cells c
   live-too c h s = subst (λ b. IsSized live c (cond b n (listed_size ls c))) (sym (other-cell c h)) s
@@ -465,12 +471,12 @@ module _ (v : BlockComplex) (foot : Footprint) where
       (found-joined ls bs (matrix_of foot.corners) corner in_corner (lies-corner m n are.left_in are.below_in))))
 
   -- pairs with a cell that is not live with its size
-  pub found-resized_from : (o : Option ℕ) (t : ℕ) (r : Option (ℕ × ℕ)) → MatchOption o ((k : ℕ) → has k (keys (sources foot)) ≡ true → IsLiveAs v.live (sources foot) k) (IsFirstResized v.live (sources foot))
+  found-resized_from : (o : Option ℕ) (t : ℕ) (r : Option (ℕ × ℕ)) → FoundResized v.live (sources foot) o
       → has t (keys (targets foot)) ≡ true → ((k : ℕ) → has k (keys (targets foot)) ≡ true → t ≤ k) → r ≡ option_map (λ s. (s, t)) o
       → Found Same (λ s t. (is_copied foot s t ≡ true) × (IsLiveAs v.live (sources foot) s → ⊥)) r
   found-resized_from o t r f ht low e = subst (Found Same (λ s t. (is_copied foot s t ≡ true) × (IsLiveAs v.live (sources foot) s → ⊥))) (sym e) (go o f)
     where
-      go : (o : Option ℕ) → MatchOption o ((k : ℕ) → has k (keys (sources foot)) ≡ true → IsLiveAs v.live (sources foot) k) (IsFirstResized v.live (sources foot))
+      go : (o : Option ℕ) → FoundResized v.live (sources foot) o
           → Found Same (λ s t. (is_copied foot s t ≡ true) × (IsLiveAs v.live (sources foot) s → ⊥)) (option_map (λ s. (s, t)) o)
       go None all = λ p q h. absurd (h.1 (all p (split p q h.0).0))
       go (Some s) first = (
@@ -481,12 +487,12 @@ module _ (v : BlockComplex) (foot : Footprint) where
         ],
       )
 
-  pub found-resized_to : (o : Option ℕ) (s : ℕ) (r : Option (ℕ × ℕ)) → MatchOption o ((k : ℕ) → has k (keys (targets foot)) ≡ true → IsLiveAs v.live (targets foot) k) (IsFirstResized v.live (targets foot))
+  found-resized_to : (o : Option ℕ) (s : ℕ) (r : Option (ℕ × ℕ)) → FoundResized v.live (targets foot) o
       → has s (keys (sources foot)) ≡ true → ((k : ℕ) → has k (keys (sources foot)) ≡ true → s ≤ k) → r ≡ option_map (λ t. (s, t)) o
       → Found Same (λ s t. (is_copied foot s t ≡ true) × (IsLiveAs v.live (targets foot) t → ⊥)) r
   found-resized_to o s r f hs low e = subst (Found Same (λ s t. (is_copied foot s t ≡ true) × (IsLiveAs v.live (targets foot) t → ⊥))) (sym e) (go o f)
     where
-      go : (o : Option ℕ) → MatchOption o ((k : ℕ) → has k (keys (targets foot)) ≡ true → IsLiveAs v.live (targets foot) k) (IsFirstResized v.live (targets foot))
+      go : (o : Option ℕ) → FoundResized v.live (targets foot) o
           → Found Same (λ s t. (is_copied foot s t ≡ true) × (IsLiveAs v.live (targets foot) t → ⊥)) (option_map (λ t. (s, t)) o)
       go None all = λ p q h. absurd (h.1 (all q (split p q h.0).1))
       go (Some t) first = (
@@ -496,6 +502,21 @@ module _ (v : BlockComplex) (foot : Footprint) where
           | inr u ↦ absurd (not-before p q s t (low p (split p q h.0).0) u l)
         ],
       )
+
+  -- the first pair that was copied and has a cell that is not live with its size
+  pub found-resized : (left below : List (ℕ × ℕ)) → left ≡ foot.left → below ≡ foot.below → (from to : Option ℕ) → FoundResized v.live ((foot.x, foot.pivot.cols) ∷ left) from
+      → FoundResized v.live ((foot.y, foot.pivot.rows) ∷ below) to → (s t : ℕ) → has s (foot.x ∷ keys left) ≡ true → ((k : ℕ) → has k (foot.x ∷ keys left) ≡ true → s ≤ k)
+      → has t (foot.y ∷ keys below) ≡ true → ((k : ℕ) → has k (foot.y ∷ keys below) ≡ true → t ≤ k) → (p q r : Option (ℕ × ℕ))
+      → p ≡ option_map (λ s. (s, t)) from → q ≡ option_map (λ t. (s, t)) to → IsEarlier p q r → Found Same (IsResized v foot) r
+  found-resized left below is_left is_below from to f g s t hs low ht high p q r e h i =
+      let From : ℕ → ℕ → Type 0 = λ s t. (is_copied foot s t ≡ true) × (IsLiveAs v.live (sources foot) s → ⊥) in
+      let To : ℕ → ℕ → Type 0 = λ s t. (is_copied foot s t ≡ true) × (IsLiveAs v.live (targets foot) t → ⊥) in
+      found-within Same (λ s t. From s t ⊎ To s t) (IsResized v foot) r (λ s t h. elim h.1 [ inl a ↦ inl (h.0, a) | inr b ↦ inr (h.0, b) ])
+      (found-either Same From To p q r i
+      (found-resized_from from t p (subst (λ ls. FoundResized v.live ((foot.x, foot.pivot.cols) ∷ ls) from) is_left f)
+      (ap (λ ls. has t (foot.y ∷ keys ls)) (sym is_below) ∙ ht) (λ k m. high k (ap (λ ls. has k (foot.y ∷ keys ls)) is_below ∙ m)) e)
+      (found-resized_to to s q (subst (λ ls. FoundResized v.live ((foot.y, foot.pivot.rows) ∷ ls) to) is_below g)
+      (ap (λ ls. has s (foot.x ∷ keys ls)) (sym is_left) ∙ hs) (λ k m. low k (ap (λ ls. has k (foot.x ∷ keys ls)) is_left ∙ m)) h))
 
   cases_sized : (c n : ℕ) → IsSized v.live c n ⊎ (IsSized v.live c n → ⊥)
   cases_sized c n = elim (cases_Bool (has c (cells v.live))) [
@@ -507,9 +528,9 @@ module _ (v : BlockComplex) (foot : Footprint) where
   pub all-pairs : (s t : ℕ) → ((p q : ℕ) → (IsResized v foot p q ⊎ IsReached v foot p q) ⊎ IsGained v foot p q → (IsBefore s t p q → ⊥) → Same p q) → Same s t
   all-pairs s t h = elim (cases_Bool (is_copied foot s t)) [
     | inr e ↦ record {
-        copied = λ f. not-both (is_copied foot s t) f e;
-        others = λ _ beside. (h s t (inr (e, beside)) (not-before s t s t (omega arith) (omega arith))).others e beside;
-      }
+      copied = λ f. not-both (is_copied foot s t) f e;
+      others = λ _ beside. (h s t (inr (e, beside)) (not-before s t s t (omega arith) (omega arith))).others e beside;
+    }
     | inl e ↦
         let both = split s t e in
         h s t (inl (inr (record {
@@ -542,50 +563,58 @@ module _ (v : BlockComplex) (foot : Footprint) where
   gained : (s t : ℕ) → is_copied foot s t ≡ false → IsBeside v foot s t → is_some (held v s t) ≡ true → Same s t → ⊥
   gained s t e beside h same = not-both (is_some (held v s t)) h (same.others e beside)
 
+  -- pairs with y, and pairs with x, that were not copied
+  abbrev pub Beside_y : ℕ → ℕ → Type 0
+  Beside_y s t = (is_copied foot s t ≡ false) × (t ≡ foot.y)
+
+  abbrev pub Beside_x : ℕ → ℕ → Type 0
+  Beside_x s t = (is_copied foot s t ≡ false) × (s ≡ foot.x)
+
   -- blocks beside x and y that were not copied
   module _ (x_live : has foot.x (cells v.live) ≡ true) (y_live : has foot.y (cells v.live) ≡ true) where
-    abbrev NotListed : List ℕ → List ℕ → ℕ → Type 0
-    NotListed there listed c = (has c there ≡ true) × (has c listed ≡ false) × ((k : ℕ) → has k there ≡ true → k < c → has k listed ≡ true)
-
-    pub found-gained_from : (there : List ℕ) (o : Option ℕ) (r : Option (ℕ × ℕ)) → ((s : ℕ) → has s there ≡ is_some (held v s foot.y))
-        → MatchOption o ((k : ℕ) → has k there ≡ true → has k (keys (sources foot)) ≡ true) (NotListed there (keys (sources foot)))
-        → r ≡ option_map (λ s. (s, foot.y)) o → Found Same (λ s t. (is_copied foot s t ≡ false) × (t ≡ foot.y)) r
-    found-gained_from there o r are f e = subst (Found Same Here) (sym e) (go o f)
+    found-gained_from : (there : List ℕ) (o : Option ℕ) (r : Option (ℕ × ℕ)) → ((s : ℕ) → has s there ≡ is_some (held v s foot.y))
+        → FoundUnlisted there (keys (sources foot)) o
+        → r ≡ option_map (λ s. (s, foot.y)) o → Found Same Beside_y r
+    found-gained_from there o r are f e = subst (Found Same Beside_y) (sym e) (go o f)
       where
-        Here : ℕ → ℕ → Type 0
-        Here s t = (is_copied foot s t ≡ false) × (t ≡ foot.y)
-
-        same : (s t : ℕ) → Here s t → (has s there ≡ true → has s (keys (sources foot)) ≡ true) → Same s t
+        same : (s t : ℕ) → Beside_y s t → (has s there ≡ true → has s (keys (sources foot)) ≡ true) → Same s t
         same s t h listed = not-gained s t h.0 (λ f.
             both-listed foot s t (listed (are s ∙ ap (λ t. is_some (held v s t)) (sym h.1) ∙ f))
             (ap (λ t. has t (keys (targets foot))) h.1 ∙ listed-one v.live foot.y foot.pivot.rows foot.below foot.parts.below_rises foot.parts.without_y))
 
-        go : (o : Option ℕ) → MatchOption o ((k : ℕ) → has k there ≡ true → has k (keys (sources foot)) ≡ true) (NotListed there (keys (sources foot)))
-            → Found Same Here (option_map (λ s. (s, foot.y)) o)
+        go : (o : Option ℕ) → FoundUnlisted there (keys (sources foot)) o
+            → Found Same Beside_y (option_map (λ s. (s, foot.y)) o)
         go None all = λ s t h. same s t h (all s)
         go (Some c) first = (
           gained c foot.y (ap (λ b. b && has foot.y (keys (targets foot))) first.1) (record { from = x_live; to = y_live; beside = inr refl }) (sym (are c) ∙ first.0),
           λ s t h l. same s t h (λ m. first.2 s m (elim l [ inl u ↦ u | inr u ↦ absurd (omega (arith, u.1, h.1)) ])),
         )
 
-    pub found-gained_to : (there : List ℕ) (o : Option ℕ) (r : Option (ℕ × ℕ)) → ((t : ℕ) → has t there ≡ is_some (held v foot.x t))
-        → MatchOption o ((k : ℕ) → has k there ≡ true → has k (keys (targets foot)) ≡ true) (NotListed there (keys (targets foot)))
-        → r ≡ option_map (λ t. (foot.x, t)) o → Found Same (λ s t. (is_copied foot s t ≡ false) × (s ≡ foot.x)) r
-    found-gained_to there o r are f e = subst (Found Same Here) (sym e) (go o f)
+    found-gained_to : (there : List ℕ) (o : Option ℕ) (r : Option (ℕ × ℕ)) → ((t : ℕ) → has t there ≡ is_some (held v foot.x t))
+        → FoundUnlisted there (keys (targets foot)) o
+        → r ≡ option_map (λ t. (foot.x, t)) o → Found Same Beside_x r
+    found-gained_to there o r are f e = subst (Found Same Beside_x) (sym e) (go o f)
       where
-        Here : ℕ → ℕ → Type 0
-        Here s t = (is_copied foot s t ≡ false) × (s ≡ foot.x)
-
-        same : (s t : ℕ) → Here s t → (has t there ≡ true → has t (keys (targets foot)) ≡ true) → Same s t
+        same : (s t : ℕ) → Beside_x s t → (has t there ≡ true → has t (keys (targets foot)) ≡ true) → Same s t
         same s t h listed = not-gained s t h.0 (λ f.
             both-listed foot s t
             (ap (λ s. has s (keys (sources foot))) h.1 ∙ listed-one v.live foot.x foot.pivot.cols foot.left foot.parts.left_rises foot.parts.without_x)
             (listed (are t ∙ ap (λ s. is_some (held v s t)) (sym h.1) ∙ f)))
 
-        go : (o : Option ℕ) → MatchOption o ((k : ℕ) → has k there ≡ true → has k (keys (targets foot)) ≡ true) (NotListed there (keys (targets foot)))
-            → Found Same Here (option_map (λ t. (foot.x, t)) o)
+        go : (o : Option ℕ) → FoundUnlisted there (keys (targets foot)) o
+            → Found Same Beside_x (option_map (λ t. (foot.x, t)) o)
         go None all = λ s t h. same s t h (all t)
         go (Some c) first = (
           gained foot.x c (ap (λ b. has foot.x (keys (sources foot)) && b) first.1 ∙ and_false (has foot.x (keys (sources foot)))) (record { from = x_live; to = y_live; beside = inl refl }) (sym (are c) ∙ first.0),
           λ s t h l. same s t h (λ m. first.2 t m (elim l [ inl u ↦ absurd (omega (arith, u, h.1)) | inr u ↦ u.1 ])),
         )
+
+    -- the first of them
+    pub found-gained : (left below : List (ℕ × ℕ)) → left ≡ foot.left → below ≡ foot.below → (row column : List ℕ) → ((s : ℕ) → has s row ≡ is_some (held v s foot.y))
+        → ((t : ℕ) → has t column ≡ is_some (held v foot.x t)) → (from to : Option ℕ) → FoundUnlisted row (foot.x ∷ keys left) from → FoundUnlisted column (foot.y ∷ keys below) to
+        → (p q r : Option (ℕ × ℕ)) → p ≡ option_map (λ s. (s, foot.y)) from → q ≡ option_map (λ t. (foot.x, t)) to → IsEarlier p q r → Found Same (IsGained v foot) r
+    found-gained left below is_left is_below row column in_row in_column from to f g p q r e h i =
+        found-within Same (λ s t. Beside_y s t ⊎ Beside_x s t) (IsGained v foot) r (λ s t h. elim h.1.beside [ inl a ↦ inr (h.0, a) | inr b ↦ inl (h.0, b) ])
+        (found-either Same Beside_y Beside_x p q r i
+        (found-gained_from row from p in_row (subst (λ ls. FoundUnlisted row (foot.x ∷ keys ls) from) is_left f) e)
+        (found-gained_to column to q in_column (subst (λ ls. FoundUnlisted column (foot.y ∷ keys ls) to) is_below g) h))

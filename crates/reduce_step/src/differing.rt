@@ -1,8 +1,8 @@
-ghost use Rattle.std.specs.Prelude.{◌≡◌, ◌+◌, ◌<◌, ◌≤◌, ◌↔◌, ◌∷◌, ◌⊎◌, ℕ, true, false, length, option_map, slice_index_or, take, IsTrue, MatchOption, MatchResult};
+ghost use Rattle.std.specs.Prelude.{◌≡◌, ◌<◌, ◌≤◌, ◌↔◌, ◌∷◌, ◌⊎◌, ℕ, true, false, length, option_map, slice_index_or, take, IsTrue, MatchResult};
 ghost use Rattle.rising_lists.specs.Rising.{IsRising, has, keys};
-ghost use Rattle.block_sparse.specs.BlockComplexes.{cells, size_of};
+ghost use Rattle.block_sparse.specs.BlockComplexes.{cells};
 ghost use Rattle.block_sparse.specs.Grids.{AreSized};
-ghost use Rattle.reduce_step.specs.Differences.{Found, IsBefore, IsEarlier, IsFirstResized, IsGained, IsLiveAs, IsReached, IsResized, IsSized, IsSameAt};
+ghost use Rattle.reduce_step.specs.Differences.{Found, FoundResized, FoundUnlisted, IsBefore, IsEarlier, IsGained, IsReached, IsResized, IsSized, IsSameAt};
 
 use crate::footprint::Footprint;
 use crate::record::Record;
@@ -99,9 +99,7 @@ fn first_gained(foot: &Footprint, b: &Blocks) -> Option<(u32, u32)>
 fn resized_cell(b: &Blocks, c: u32, size: u32, listed: &[(u32, u8)]) -> Option<u32>
     requires rising { IsRising (keys listed.now) }
     requires apart { has c (keys listed.now) ≡ false }
-    ensures { MatchOption result
-        ((k : ℕ) → has k (c ∷ keys listed.now) ≡ true → IsLiveAs b.now.live ((c, size) ∷ listed.now) k)
-        (λ r. IsFirstResized b.now.live ((c, size) ∷ listed.now) r) }
+    ensures { FoundResized b.now.live ((c, size) ∷ listed.now) result }
 {
     let at = count_live(b, listed);
     let is_live = is_live_as(b, c, size);
@@ -161,9 +159,7 @@ fn least(c: u32, listed: &[(u32, u8)]) -> u32
 fn unlisted(cells: &[u32], but: u32, listed: &[(u32, u8)]) -> Option<u32>
     requires rising { IsRising cells.now }
     requires listed_rises { IsRising (keys listed.now) }
-    ensures { MatchOption result
-        ((k : ℕ) → has k cells.now ≡ true → has k (but ∷ keys listed.now) ≡ true)
-        (λ r. (has r cells.now ≡ true) × (has r (but ∷ keys listed.now) ≡ false) × ((k : ℕ) → has k cells.now ≡ true → k < r → has k (but ∷ keys listed.now) ≡ true)) }
+    ensures { FoundUnlisted cells.now (but ∷ keys listed.now) result }
 {
     for c in cells {
         if !is_kept(*c, but, listed) {
