@@ -5,3 +5,4 @@ pub mod FinishLaws
 pub mod FirstLaws
 pub mod DifferenceLaws
 pub mod ApplyLaws
+pub mod FitLaws
