@@ -1,14 +1,14 @@
 -- Where a block complex differs from a footprint, by kinds of pairs.
 use mir.Val.{bool_byte}
-use Rattle.std.proofs.Common.{◌≡◌, ◌≢◌, ℕ, zero, suc, ◌+◌, ◌<◌, ◌≤◌, Bool, true, false, cond, ◌||◌, ◌&&◌, eqb, List, [], ◌∷◌, length, map, take, drop, get_or, Option, Some, None, option_map, MatchOption, All, refl, sym, ap, ap₂, ◌∙◌, subst, arith, ◌⊎◌, inl, inr}
+use Rattle.std.proofs.Common.{◌≡◌, ◌≢◌, ℕ, zero, suc, ◌<◌, ◌≤◌, Bool, true, false, cond, ◌||◌, ◌&&◌, eqb, List, [], ◌∷◌, length, map, take, drop, get_or, Option, Some, None, option_map, MatchOption, refl, sym, ap, ap₂, ◌∙◌, subst, arith, ◌⊎◌, inl, inr}
 use Rattle.std.specs.Option.{is_some}
-use Rattle.std.proofs.lemmas.Bool.{cases_eq, cases_lt, cases_Bool, eq-eqb, ne_eqb, eqb-true, and_parts}
+use Rattle.std.proofs.lemmas.Bool.{cases_eq, cases_lt, cases_Bool, eq-eqb, ne_eqb, and_parts}
 use Rattle.std.proofs.lemmas.List.Elements.{All-get_or, All-from_get_or}
 use Rattle.std.proofs.lemmas.List.{get_or-map, get_or-take, length-map, length-take, take-map}
 use Rattle.dense_blocks.specs.Blocks.{matrix_of}
 use Rattle.dense_blocks.specs.declared.block.Block.{Block}
 use Rattle.rising_lists.specs.Rising.{IsRising, has, keys}
-use Rattle.rising_lists.proofs.Keyed.{place_of, has-at, rising_tail, rising_le, head-absent}
+use Rattle.rising_lists.proofs.Keyed.{place_of, rising_tail, rising_le, head-absent}
 use Rattle.block_sparse.specs.BlockComplexes.{BlockComplex, AreLive, cells, held, matrix, size_of}
 use Rattle.block_sparse.specs.Grids.{width, AreSized, IsJoined, IsFirstOther, segment, part, columns_of}
 use Rattle.block_sparse.proofs.GridLaws.{key-listed, map-same}
@@ -263,6 +263,11 @@ taken-rises_as n ls all e r = subst (λ ls. IsRising (keys (take n ls))) (sym e)
 pub taken-width_as : (n m : ℕ) (ls all : List (ℕ × ℕ)) → ls ≡ all → m ≡ width all → width (take n ls) ≤ m
 taken-width_as n m ls all e w = subst (λ ls. width (take n ls) ≤ m) (sym e) (omega (arith, width-take all n))
 
+taken-first : {T : Type 0} (k i : ℕ) (x d : T) → i < length (take k (x ∷ [])) → get_or (take k (x ∷ [])) i d ≡ x
+taken-first zero i x d l = absurd (omega arith)
+taken-first (suc k) zero x d l = refl
+taken-first {T} (suc k) (suc i) x d l = absurd (omega (arith, length-take {A = T} k []))
+
 -- a list of one cell, as far as that is live with a size
 module _ (live : List (ℕ × ℕ × ℕ)) (k c n : ℕ) where
   pub taken-rises : IsRising (keys (take k ((c, n) ∷ [])))
@@ -273,10 +278,7 @@ module _ (live : List (ℕ × ℕ × ℕ)) (k c n : ℕ) where
 
   pub taken-sized : (0 < k → IsSized live c n) → AreSized live (take k ((c, n) ∷ []))
   taken-sized h = All-from_get_or (λ l. IsSized live l.0 l.1) (take k ((c, n) ∷ [])) (0, 0) (λ i l.
-      let size = length-take {A = ℕ × ℕ} k ((c, n) ∷ []) in
-      let at : (0 < k) × (i ≡ 0) = (omega (arith, size), omega (arith, size)) in
-      subst (λ (l : ℕ × ℕ). IsSized live l.0 l.1)
-      (sym (ap (λ i. get_or (take k ((c, n) ∷ [])) i (0, 0)) at.1 ∙ get_or-take k ((c, n) ∷ []) 0 (0, 0) at.0)) (h at.0))
+      subst (λ (l : ℕ × ℕ). IsSized live l.0 l.1) (sym (taken-first k i (c, n) (0, 0) l)) (h (omega (arith, length-take {A = ℕ × ℕ} k ((c, n) ∷ [])))))
 
   pub taken-same : (0 < k → IsSized live c n) → take {A = ℕ × ℕ} k ((c, size_of live c) ∷ []) ≡ take k ((c, n) ∷ [])
   taken-same h = elim (cases_lt 0 k) [

@@ -1,4 +1,4 @@
-use Rattle.std.proofs.Common.{◌≡◌, ◌<◌, ◌≤◌, ◌⊎◌, ℕ, true, false, get_or, length, arith, inl, inr}
+use Rattle.std.proofs.Common.{◌<◌, ◌≤◌, ◌⊎◌, ℕ, get_or, length, arith, inl, inr}
 use Rattle.std.proofs.lemmas.Bool.Decides.{nat_tests}
 use Rattle.reduce_step.specs.Differences.{IsSized}
 use Rattle.reduce_step.proofs.DifferenceLaws.{not-both, first-later, first-none, first-one}

@@ -1,4 +1,4 @@
-use Rattle.std.proofs.Common.{◌≡◌, ◌∷◌, ◌∙◌, ℕ, List, false, sym, arith, rules}
+use Rattle.std.proofs.Common.{◌≡◌, ◌∷◌, ◌∙◌, ℕ, false, sym, arith, rules}
 use Rattle.rising_lists.specs.Rising.{keys}
 use Rattle.rising_lists.proofs.Keyed.{has-at}
 use Rattle.reduce_step.proofs.DifferenceLaws.{each-kept, before-kept}
