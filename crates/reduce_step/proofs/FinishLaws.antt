@@ -1,7 +1,7 @@
 -- The new corners, as they are computed.
 use Rattle.std.proofs.Common.{◌≡◌, ℕ, List, ap, ap₂, ◌∙◌}
 use Rattle.dense_blocks.specs.Field.{Ops, IsField}
-use Rattle.dense_blocks.specs.Matrices.{product, matrix_sum, matrix_negative}
+use Rattle.dense_blocks.specs.Matrices.{product, matrix_negative}
 use Rattle.dense_blocks.specs.Blocks.{matrix_of, IsBlock}
 use Rattle.dense_blocks.specs.declared.block.Block.{Block}
 use Rattle.dense_blocks.proofs.MatrixLaws.{product-matrix_negative}

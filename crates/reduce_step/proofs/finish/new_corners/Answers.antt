@@ -1,4 +1,4 @@
-use Rattle.std.proofs.Common.{◌≡◌, ap, ◌∙◌, sym}
+use Rattle.std.proofs.Common.{ap, ◌∙◌, sym}
 use Rattle.dense_blocks.specs.Matrices.{matrix_sum}
 use Rattle.dense_blocks.specs.Blocks.{matrix_of}
 use Rattle.reduce_step.proofs.FinishLaws.{change-negative}

@@ -1,8 +1,6 @@
-use Rattle.std.proofs.Common.{◌≡◌, sym, subst}
-use Rattle.dense_blocks.specs.Blocks.{matrix_of}
+use Rattle.std.proofs.Common.{sym, subst}
 use Rattle.rising_lists.specs.Rising.{IsRising, keys}
-use Rattle.block_sparse.specs.Grids.{AreSized, IsJoined}
-use Rattle.reduce_step.specs.Parts.{IsJoinedBlock}
+use Rattle.block_sparse.specs.Grids.{AreSized}
 use Rattle.reduce_step.proofs.footprint.joined.Goals as goal
 
 pub grid-requires : goal.grid-requires

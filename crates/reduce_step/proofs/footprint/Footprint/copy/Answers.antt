@@ -1,5 +1,4 @@
-use Rattle.std.proofs.Common.{◌≡◌, ℕ, List, [], ◌∷◌, subst}
-use Rattle.block_sparse.specs.BlockComplexes.{size_of}
+use Rattle.std.proofs.Common.{subst}
 use Rattle.reduce_step.specs.Parts.{IsJoinedBlock}
 use Rattle.reduce_step.proofs.ListLaws.{AreListed, others-listed, one-listed}
 use Rattle.reduce_step.proofs.CopyLaws.{IsCopy, copy-parts, copy-footprint, copy-over}
