@@ -1,24 +1,14 @@
 //! Removals from small complexes, worked by hand.
 use crate::finish::Finish;
-use crate::footprint::Footprint;
-use crate::record::Step;
+use crate::record::{Record, Step};
+use crate::samples::{CIRCLE, copy, finish};
 use block_sparse::Blocks;
 use dense_blocks::{Block, Scalars, Two};
 use field_table::Field;
 use std::alloc::{AllocError as NoMemory, Global};
 use std::process::Abort;
 
-/// The circle: vertices 0 to 2, edges 3 to 5, one coordinate each.
-const CIRCLE: [(u32, u8, u8); 6] = [
-    (0, 0, 1),
-    (1, 0, 1),
-    (2, 0, 1),
-    (3, 1, 1),
-    (4, 1, 1),
-    (5, 1, 1),
-];
-
-/// Its blocks over the field of two elements.
+/// The blocks of the circle over the field of two elements.
 const PLAIN: [(u32, u32, u8); 6] = [
     (0, 3, 1),
     (1, 3, 1),
@@ -113,6 +103,34 @@ fn put(
     }
 }
 
+/// The record of a pair where a block stands that has an inverse.
+fn record<F: Scalars>(
+    rt: &impl Abort,
+    alloc: Global,
+    f: &F,
+    b: &Blocks,
+    x: u32,
+    y: u32,
+) -> Result<Record<F>, NoMemory> {
+    let foot = copy(rt, alloc, b, x, y)?;
+    match finish(rt, alloc, f, foot)? {
+        Finish::Made(record) => Ok(record),
+        Finish::Singular { .. } => panic!(rt; "no inverse"),
+    }
+}
+
+/// Applies a record that fits.
+fn apply<F: Scalars>(rt: &impl Abort, b: &mut Blocks, record: Record<F>) -> Result<Step, NoMemory> {
+    assert!(rt; b.is_over(&record.f));
+    match record.fits(b) {
+        Ok(()) => match record.apply(b) {
+            Ok(step) => Ok(step),
+            Err((_, fault)) => Err(fault),
+        },
+        Err(_) => panic!(rt; "another block"),
+    }
+}
+
 /// Removes a pair where a block stands that has an inverse.
 fn remove<F: Scalars>(
     rt: &impl Abort,
@@ -122,20 +140,8 @@ fn remove<F: Scalars>(
     x: u32,
     y: u32,
 ) -> Result<Step, NoMemory> {
-    assert!(rt; b.get(x, y).is_some() && b.size(x) == b.size(y));
-    let foot = Footprint::copy(alloc, b, x, y)?;
-    assert!(rt; foot.is_over(f));
-    match foot.finish(alloc, f) {
-        Ok(Finish::Made(record)) => {
-            assert!(rt; record.fits(b).is_ok() && b.is_over(&record.f));
-            match record.apply(b) {
-                Ok(step) => Ok(step),
-                Err((_, fault)) => Err(fault),
-            }
-        }
-        Ok(Finish::Singular { .. }) => panic!(rt; "no inverse"),
-        Err((_, fault)) => Err(fault),
-    }
+    let record = record(rt, alloc, f, b, x, y)?;
+    apply(rt, b, record)
 }
 
 fn remove_all<F: Scalars>(
@@ -159,39 +165,59 @@ fn has(b: &Blocks, s: u32, t: u32, entry: u8) -> bool {
     }
 }
 
-#[test]
-fn removes_from_the_circle(rt: HostRuntime) -> Result<(), NoMemory> {
-    let alloc = rt.alloc();
-    let mut b = complex(&rt, alloc, &CIRCLE, &PLAIN)?;
+/// The circle over the field of two elements, with a flag at (2, 4).
+fn flagged_circle(rt: &impl Abort, alloc: Global) -> Result<Blocks, NoMemory> {
+    let mut b = complex(rt, alloc, &CIRCLE, &PLAIN)?;
     assert!(rt; b.get(2, 4).is_some());
     b.flag(2, 4);
-    let step = remove(&rt, alloc, &Two, &mut b, 0, 3)?;
-    assert!(rt; step.x == 0 && step.y == 3);
-    assert!(rt;
-        step.left.as_slice() == [(1, 1)].as_slice() && step.below.as_slice() == [(5, 1)].as_slice()
-    );
-    assert!(rt; step.inverse.entries.as_slice() == [1].as_slice());
-    assert!(rt; b.live() == [(1, 0, 1), (2, 0, 1), (4, 1, 1), (5, 1, 1)].as_slice());
-    // From 1 to 5: 0 - 1 * 1 * 1, which is 1.
-    assert!(rt;
-        b.column(1) == [4, 5].as_slice() && b.column(2) == [4, 5].as_slice() && has(&b, 1, 5, 1)
-    );
+    Ok(b)
+}
+
+/// Whether the step is that of (0, 3).
+fn is_first_step(step: &Step) -> bool {
+    step.x == 0
+        && step.y == 3
+        && step.left.as_slice() == [(1, 1)].as_slice()
+        && step.below.as_slice() == [(5, 1)].as_slice()
+        && step.inverse.entries.as_slice() == [1].as_slice()
+}
+
+/// Whether these are the blocks that (0, 3) leaves: from 1 to 5 stands 0 - 1 * 1 * 1, which is 1.
+fn are_left(b: &Blocks) -> bool {
+    b.live() == [(1, 0, 1), (2, 0, 1), (4, 1, 1), (5, 1, 1)].as_slice()
+        && b.column(1) == [4, 5].as_slice()
+        && b.column(2) == [4, 5].as_slice()
+        && has(b, 1, 5, 1)
+}
+
+#[test]
+fn removes_from_the_circle(rt: HostRuntime) -> Result<(), NoMemory> {
+    let mut b = flagged_circle(&rt, rt.alloc())?;
+    let step = remove(&rt, rt.alloc(), &Two, &mut b, 0, 3)?;
+    assert!(rt; is_first_step(&step) && are_left(&b));
     assert!(rt; b.flagged(2, 4) && !b.flagged(1, 5));
     Ok(())
 }
 
+/// Removes a pair; whether this block stands then.
+fn leaves(
+    rt: &impl Abort,
+    alloc: Global,
+    b: &mut Blocks,
+    pair: (u32, u32),
+    block: (u32, u32, u8),
+) -> Result<bool, NoMemory> {
+    remove(rt, alloc, &Field::Three, b, pair.0, pair.1)?;
+    Ok(has(b, block.0, block.1, block.2))
+}
+
 #[test]
 fn removes_all_of_the_circle(rt: HostRuntime) -> Result<(), NoMemory> {
-    let alloc = rt.alloc();
-    let field = Field::Three;
-    let mut b = complex(&rt, alloc, &CIRCLE, &TWISTED)?;
-    remove(&rt, alloc, &field, &mut b, 0, 3)?;
-    // From 1 to 5: 0 - 2 * 2 * 1, which is 2.
-    assert!(rt; has(&b, 1, 5, 2));
-    remove(&rt, alloc, &field, &mut b, 1, 4)?;
-    // From 2 to 5: 2 - 2 * 2 * 1, which is 1.
-    assert!(rt; has(&b, 2, 5, 1));
-    remove(&rt, alloc, &field, &mut b, 2, 5)?;
+    let mut b = complex(&rt, rt.alloc(), &CIRCLE, &TWISTED)?;
+    // From 1 to 5: 0 - 2 * 2 * 1, which is 2; then from 2 to 5: 2 - 2 * 2 * 1, which is 1.
+    assert!(rt; leaves(&rt, rt.alloc(), &mut b, (0, 3), (1, 5, 2))?);
+    assert!(rt; leaves(&rt, rt.alloc(), &mut b, (1, 4), (2, 5, 1))?);
+    assert!(rt; !leaves(&rt, rt.alloc(), &mut b, (2, 5), (2, 5, 1))?);
     assert!(rt; b.live().is_empty());
     Ok(())
 }

@@ -26,8 +26,10 @@ fn answers(record: &Option<Record<Two>>, b: &Blocks, pair: Option<(u32, u32)>) -
     }
 }
 
-// An entry put at a pair, and the first pair that differs then.
-const CHANGES: [((u32, u32), u8, Option<(u32, u32)>); 8] = [
+/// An entry put at a pair, and the first pair that differs then.
+type Change = ((u32, u32), u8, Option<(u32, u32)>);
+
+const CHANGES: [Change; 8] = [
     ((0, 3), 0, None),
     ((1, 4), 0, Some((1, 4))),
     ((2, 4), 0, Some((2, 4))),
@@ -39,16 +41,30 @@ const CHANGES: [((u32, u32), u8, Option<(u32, u32)>); 8] = [
     ((0, 5), 0, None),
 ];
 
-#[test]
-fn finds_the_block_that_changed(rt: HostRuntime) -> Result<(), NoMemory> {
-    let alloc = rt.alloc();
-    for (pair, entry, first) in CHANGES {
-        let (mut circle, record) = start(&rt, alloc)?;
-        assert!(rt; answers(&record, &circle, None));
-        put(&rt, alloc, &mut circle, pair, (1, 1), &[entry])?;
-        assert!(rt; answers(&record, &circle, first));
+fn change(
+    rt: &impl Abort,
+    alloc: Global,
+    pair: (u32, u32),
+    entry: u8,
+    first: Option<(u32, u32)>,
+) -> Result<(), NoMemory> {
+    let (mut circle, record) = start(rt, alloc)?;
+    assert!(rt; answers(&record, &circle, None));
+    put(rt, alloc, &mut circle, pair, (1, 1), &[entry])?;
+    assert!(rt; answers(&record, &circle, first));
+    Ok(())
+}
+
+fn change_all(rt: &impl Abort, alloc: Global, changes: &[Change]) -> Result<(), NoMemory> {
+    for c in changes {
+        change(rt, alloc, c.0, c.1, c.2)?;
     }
     Ok(())
+}
+
+#[test]
+fn finds_the_block_that_changed(rt: HostRuntime) -> Result<(), NoMemory> {
+    change_all(&rt, rt.alloc(), &CHANGES)
 }
 
 // A cell that goes, and the first pair that differs then.
@@ -61,15 +77,32 @@ const GONE: [(u32, Option<(u32, u32)>); 6] = [
     (5, None),
 ];
 
-#[test]
-fn finds_the_cell_that_is_gone(rt: HostRuntime) -> Result<(), NoMemory> {
-    let alloc = rt.alloc();
-    for (cell, first) in GONE {
-        let (mut circle, record) = start(&rt, alloc)?;
-        circle.remove_cell(cell);
-        assert!(rt; answers(&record, &circle, first));
+fn take(
+    rt: &impl Abort,
+    alloc: Global,
+    cell: u32,
+    first: Option<(u32, u32)>,
+) -> Result<(), NoMemory> {
+    let (mut circle, record) = start(rt, alloc)?;
+    circle.remove_cell(cell);
+    assert!(rt; answers(&record, &circle, first));
+    Ok(())
+}
+
+fn take_all(
+    rt: &impl Abort,
+    alloc: Global,
+    cells: &[(u32, Option<(u32, u32)>)],
+) -> Result<(), NoMemory> {
+    for c in cells {
+        take(rt, alloc, c.0, c.1)?;
     }
     Ok(())
+}
+
+#[test]
+fn finds_the_cell_that_is_gone(rt: HostRuntime) -> Result<(), NoMemory> {
+    take_all(&rt, rt.alloc(), &GONE)
 }
 
 #[test]

@@ -8,7 +8,7 @@ use std::alloc::{AllocError as NoMemory, Global};
 use std::process::Abort;
 
 /// The circle: vertices 0 to 2, edges 3 to 5, one coordinate each.
-const CIRCLE: [(u32, u8, u8); 6] = [
+pub(crate) const CIRCLE: [(u32, u8, u8); 6] = [
     (0, 0, 1),
     (1, 0, 1),
     (2, 0, 1),

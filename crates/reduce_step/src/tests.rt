@@ -38,18 +38,30 @@ fn is_singular<F: Scalars>(finish: &Finish<F>, s: u32, t: u32, vector: &[u8]) ->
     }
 }
 
+/// Whether this is the footprint of (0, 3).
+fn is_first(foot: &Footprint) -> bool {
+    foot.x == 0
+        && foot.y == 3
+        && lists(foot, &[(1, 1)], &[(5, 1)])
+        && has(&foot.pivot, 1, 1, &[1])
+        && has(&foot.corners, 1, 1, &[0])
+}
+
+/// Whether this is the footprint of (1, 4).
+fn is_second(foot: &Footprint) -> bool {
+    lists(foot, &[(2, 1)], &[(3, 1)])
+        && has(&foot.row, 1, 1, &[1])
+        && has(&foot.column, 1, 1, &[1])
+        && has(&foot.corners, 1, 1, &[0])
+}
+
 #[test]
 fn copies_the_circle(rt: HostRuntime) -> Result<(), NoMemory> {
-    let alloc = rt.alloc();
-    let circle = circle(&rt, alloc)?;
-    let first = copy(&rt, alloc, &circle, 0, 3)?;
-    assert!(rt; first.x == 0 && first.y == 3);
-    assert!(rt; lists(&first, &[(1, 1)], &[(5, 1)]));
-    assert!(rt; has(&first.pivot, 1, 1, &[1]) && has(&first.corners, 1, 1, &[0]));
-    let second = copy(&rt, alloc, &circle, 1, 4)?;
-    assert!(rt; lists(&second, &[(2, 1)], &[(3, 1)]));
-    assert!(rt; has(&second.row, 1, 1, &[1]) && has(&second.column, 1, 1, &[1]));
-    assert!(rt; has(&second.corners, 1, 1, &[0]));
+    let circle = circle(&rt, rt.alloc())?;
+    let first = copy(&rt, rt.alloc(), &circle, 0, 3)?;
+    assert!(rt; is_first(&first));
+    let second = copy(&rt, rt.alloc(), &circle, 1, 4)?;
+    assert!(rt; is_second(&second));
     Ok(())
 }
 
@@ -77,13 +89,19 @@ fn wide(rt: &impl Abort, alloc: Global, pivot: &[u8]) -> Result<Blocks, NoMemory
     Ok(blocks)
 }
 
+/// Whether this is the footprint of (0, 2) there.
+fn is_wide(foot: &Footprint) -> bool {
+    lists(foot, &[(1, 1)], &[(3, 1)])
+        && has(&foot.row, 2, 1, &[1, 0])
+        && has(&foot.column, 1, 2, &[1, 1])
+}
+
 #[test]
 fn finishes_a_pivot_of_two_rows(rt: HostRuntime) -> Result<(), NoMemory> {
     let alloc = rt.alloc();
     let wide = wide(&rt, alloc, &[0, 1, 1, 1])?;
     let foot = copy(&rt, alloc, &wide, 0, 2)?;
-    assert!(rt; lists(&foot, &[(1, 1)], &[(3, 1)]));
-    assert!(rt; has(&foot.row, 2, 1, &[1, 0]) && has(&foot.column, 1, 2, &[1, 1]));
+    assert!(rt; is_wide(&foot));
     // The inverse has the rows 1 1 and 1 0; it sends (1, 0) to (1, 1), and the column sends that to 0: the corner stays.
     let finished = finish(&rt, alloc, &Two, foot)?;
     assert!(rt; is_made(&finished, &[1, 1, 1, 0], &[1]));
@@ -99,20 +117,29 @@ fn finds_a_singular_pivot(rt: HostRuntime) -> Result<(), NoMemory> {
     Ok(())
 }
 
-#[test]
-fn finishes_with_an_inverse(rt: HostRuntime) -> Result<(), NoMemory> {
-    let alloc = rt.alloc();
-    // The cell 4 has no block but that from 3.
+/// A block of the entry 1 from 3 to 4, and no other cells.
+fn alone(rt: &impl Abort, alloc: Global) -> Result<Blocks, NoMemory> {
     let live = [(3, 0, 1), (4, 1, 1)];
     assert!(rt; Blocks::may_live(&live));
     let mut blocks = Blocks::of_cells(alloc, &live)?;
-    put(&rt, alloc, &mut blocks, (3, 4), (1, 1), &[1])?;
-    let foot = copy(&rt, alloc, &blocks, 3, 4)?;
-    assert!(rt; lists(&foot, &[], &[]));
-    assert!(rt;
-        has(&foot.row, 1, 0, &[]) && has(&foot.column, 0, 1, &[]) && has(&foot.corners, 0, 0, &[])
-    );
-    let finished = finish(&rt, alloc, &Two, foot)?;
+    put(rt, alloc, &mut blocks, (3, 4), (1, 1), &[1])?;
+    Ok(blocks)
+}
+
+/// Whether the footprint has no cells but those of its pair.
+fn is_alone(foot: &Footprint) -> bool {
+    lists(foot, &[], &[])
+        && has(&foot.row, 1, 0, &[])
+        && has(&foot.column, 0, 1, &[])
+        && has(&foot.corners, 0, 0, &[])
+}
+
+#[test]
+fn finishes_a_pivot_alone(rt: HostRuntime) -> Result<(), NoMemory> {
+    let blocks = alone(&rt, rt.alloc())?;
+    let foot = copy(&rt, rt.alloc(), &blocks, 3, 4)?;
+    assert!(rt; is_alone(&foot));
+    let finished = finish(&rt, rt.alloc(), &Two, foot)?;
     assert!(rt; is_made(&finished, &[1], &[]));
     Ok(())
 }
