@@ -2,23 +2,39 @@
 use Rattle.std.proofs.Common.{◌≡◌, ◌≢◌, ℕ, zero, suc, ◌+◌, ◌<◌, ◌≤◌, Bool, true, false, cond, ◌||◌, ◌&&◌, eqb, List, [], ◌∷◌, length, map, take, drop, get_or, Option, Some, None, option_map, MatchOption, All, refl, sym, ap, ap₂, ◌∙◌, subst, arith, ◌⊎◌, inl, inr}
 use Rattle.std.specs.Option.{is_some}
 use Rattle.std.proofs.lemmas.Bool.{cases_eq, cases_lt, cases_Bool, eq-eqb, ne_eqb, eqb-true, and_parts}
-use Rattle.std.proofs.lemmas.List.{get_or-map, get_or-take, length-map, length-take}
+use Rattle.std.proofs.lemmas.List.Elements.{All-get_or, All-from_get_or}
+use Rattle.std.proofs.lemmas.List.{get_or-map, get_or-take, length-map, length-take, take-map}
 use Rattle.dense_blocks.specs.Blocks.{matrix_of}
+use Rattle.dense_blocks.specs.declared.block.Block.{Block}
 use Rattle.rising_lists.specs.Rising.{IsRising, has, keys}
 use Rattle.rising_lists.proofs.Keyed.{place_of, has-at, rising_tail, rising_le, head-absent}
 use Rattle.block_sparse.specs.BlockComplexes.{BlockComplex, AreLive, cells, held, matrix, size_of}
-use Rattle.block_sparse.specs.Grids.{AreSized, IsJoined, IsFirstOther, segment, part, columns_of}
+use Rattle.block_sparse.specs.Grids.{width, AreSized, IsJoined, IsFirstOther, segment, part, columns_of}
 use Rattle.block_sparse.proofs.GridLaws.{key-listed, map-same}
+use Rattle.block_sparse.proofs.LiveLaws.{cell-at, length-cells, of_cell-at}
+use Rattle.block_sparse.proofs.Windows.{width-take}
 use Rattle.reduce_step.proofs.PartLaws.{row-part, column-part, columns-one}
 use Rattle.reduce_step.specs.declared.footprint.Footprint.{Footprint}
-use Rattle.reduce_step.specs.Differences.{sources, targets, is_copied, kept, listed_size, IsSized, IsLiveAs, IsKept, IsBeside, IsSameAt, IsFirstResized, IsResized, IsReached, IsGained, IsBefore, Found}
-use Rattle.reduce_step.proofs.FirstLaws.{not-before, found-all}
+use Rattle.reduce_step.specs.Differences.{sources, targets, is_copied, kept, listed_size, IsSized, IsLiveAs, IsKept, IsBeside, IsSameAt, IsFirstResized, IsResized, IsReached, IsGained, IsBefore, IsEarlier, Found, FoundResized, FoundUnlisted}
+use Rattle.reduce_step.proofs.FirstLaws.{not-before, found-either, found-within}
+use Rattle.reduce_step.proofs.ListLaws.{one-rises}
+
+-- a live cell has a coordinate
+pub live-size : (live : List (ℕ × ℕ × ℕ)) (c : ℕ) → AreLive live → has c (cells live) ≡ true → 1 ≤ size_of live c
+live-size live c are h =
+    let p = place_of (cells live) c h in
+    let l : p.at < length live = omega (arith, p.inside, length-cells live) in
+    omega (
+      arith,
+      of_cell-at (λ l. l.2) live p.at c are.rising l (sym (cell-at live p.at l) ∙ p.is),
+      All-get_or (λ l. 1 ≤ l.2) live p.at (0, 0, 0) l are.sizes,
+    )
 
 -- the pair was not copied: nothing was to be kept
-not-both : {A : Type 0} (b : Bool) → b ≡ true → b ≡ false → A
+pub not-both : {A : Type 0} (b : Bool) → b ≡ true → b ≡ false → A
 not-both b e f = let g : true ≡ false = sym e ∙ f in cc
 
-and_false : (b : Bool) → (b && false) ≡ false
+pub and_false : (b : Bool) → (b && false) ≡ false
 and_false true = refl
 and_false false = refl
 
@@ -63,7 +79,7 @@ sized-take live (suc n) (l ∷ ls) c s h = go (cases_eq l.0 c) (λ m. sized-take
         subst (λ b. IsSized live c (cond b l.1 (listed_size ls c))) (sym (ne_eqb l.0 c d))
         (f (ap (λ b. b || has c (keys (take n ls))) (sym (ne_eqb l.0 c d)) ∙ m))
 
-size-at : (ls : List (ℕ × ℕ)) (i : ℕ) → IsRising (keys ls) → i < length ls → listed_size ls (get_or ls i (0, 0)).0 ≡ (get_or ls i (0, 0)).1
+pub size-at : (ls : List (ℕ × ℕ)) (i : ℕ) → IsRising (keys ls) → i < length ls → listed_size ls (get_or ls i (0, 0)).0 ≡ (get_or ls i (0, 0)).1
 size-at [] i r l = absurd (omega arith)
 size-at (x ∷ xs) zero r l = ap (λ b. cond b x.1 (listed_size xs x.0)) (eq-eqb x.0 x.0 refl)
 size-at (x ∷ xs) (suc i) r l =
@@ -73,27 +89,58 @@ size-at (x ∷ xs) (suc i) r l =
 cell-of : (x : ℕ) (ls : List (ℕ × ℕ)) (k : ℕ) → has k (x ∷ keys ls) ≡ true → (x ≡ k) ⊎ (has k (keys ls) ≡ true)
 cell-of x ls k h = elim (cases_eq x k) [ inl e ↦ inl e | inr d ↦ inr (ap (λ b. b || has k (keys ls)) (sym (ne_eqb x k d)) ∙ h) ]
 
+pub has-first : (x : ℕ) (ks : List ℕ) → has x (x ∷ ks) ≡ true
+has-first x ks = ap (λ b. b || has x ks) (eq-eqb x x refl)
+
+pub has-more : (x k : ℕ) (ks : List ℕ) → has k ks ≡ true → has k (x ∷ ks) ≡ true
+has-more x k ks h = elim (eqb x k) as (λ b. (b || has k ks) ≡ true) [ true ↦ refl | false ↦ h ]
+
+-- the least of a cell and a rising list of others
+pub least-first : (c m : ℕ) (ls : List (ℕ × ℕ)) → IsRising (keys ls) → m ≤ c → (0 < length ls → m ≤ (get_or ls 0 (0, 0)).0)
+    → (k : ℕ) → has k (c ∷ keys ls) ≡ true → m ≤ k
+least-first c m ls r low first k h = elim (cell-of c ls k h) [
+  | inl e ↦ omega arith
+  | inr i ↦
+      let p = place_of (keys ls) k i in
+      let l : p.at < length ls = omega (arith, p.inside, length-map ls (λ l. l.0)) in
+      let start : 0 < length ls = omega arith in
+      omega (arith, first start, get_or-map (λ l. l.0) ls 0 (0, 0) 0 start, rising_le (keys ls) r 0 p.at (omega arith) p.inside, p.is)
+]
+
+-- cells that are kept up to a place of a list
+pub each-kept : (there all : List ℕ) → ((i : ℕ) → i < length there → has (get_or there i 0) all ≡ true) → (c : ℕ) → has c there ≡ true → has c all ≡ true
+each-kept there all h c m = let p = place_of there c m in subst (λ k. has k all ≡ true) p.is (h p.at p.inside)
+
+pub before-kept : (there all : List ℕ) (i : ℕ) → IsRising there → ((j : ℕ) → j < i → has (get_or there j 0) all ≡ true)
+    → (c : ℕ) → has c there ≡ true → c < get_or there i 0 → has c all ≡ true
+before-kept there all i r h c m u =
+    let p = place_of there c m in
+    elim (cases_lt p.at i) [
+      | inl k ↦ subst (λ k. has k all ≡ true) p.is (h p.at k)
+      | inr k ↦ absurd (omega (arith, p.is, rising_le there r i p.at k p.inside))
+    ]
+
 -- one cell and a rising list of others
 module _ (live : List (ℕ × ℕ × ℕ)) (x n : ℕ) (ls : List (ℕ × ℕ)) (rises : IsRising (keys ls)) (apart : has x (keys ls) ≡ false) where
   abbrev all_cells : List (ℕ × ℕ)
   all_cells = (x, n) ∷ ls
 
-  other-cell : (c : ℕ) → has c (keys ls) ≡ true → eqb x c ≡ false
+  pub other-cell : (c : ℕ) → has c (keys ls) ≡ true → eqb x c ≡ false
   other-cell c h = elim (cases_eq x c) [
     | inl e ↦ not-both (has x (keys ls)) (ap (λ k. has k (keys ls)) e ∙ h) apart
     | inr d ↦ ne_eqb x c d
   ]
 
   pub listed-too : (c : ℕ) → has c (keys ls) ≡ true → has c (keys all_cells) ≡ true
-  listed-too c h = ap (λ b. b || has c (keys ls)) (other-cell c h) ∙ h
+  listed-too c h = has-more x c (keys ls) h
 
   pub listed-one : has x (keys all_cells) ≡ true
-  listed-one = ap (λ b. b || has x (keys ls)) (eq-eqb x x refl)
+  listed-one = has-first x (keys ls)
 
-  live-too : (c : ℕ) → has c (keys ls) ≡ true → IsSized live c (listed_size ls c) → IsLiveAs live all_cells c
+  pub live-too : (c : ℕ) → has c (keys ls) ≡ true → IsSized live c (listed_size ls c) → IsLiveAs live all_cells c
   live-too c h s = subst (λ b. IsSized live c (cond b n (listed_size ls c))) (sym (other-cell c h)) s
 
-  sized-too : (c : ℕ) → has c (keys ls) ≡ true → IsLiveAs live all_cells c → IsSized live c (listed_size ls c)
+  pub sized-too : (c : ℕ) → has c (keys ls) ≡ true → IsLiveAs live all_cells c → IsSized live c (listed_size ls c)
   sized-too c h s = subst (λ b. IsSized live c (cond b n (listed_size ls c))) (other-cell c h) s
 
   pub live-one : IsSized live x n → IsLiveAs live all_cells x
@@ -104,6 +151,12 @@ module _ (live : List (ℕ × ℕ × ℕ)) (x n : ℕ) (ls : List (ℕ × ℕ)) 
 
   pub live-first : (m c : ℕ) → AreSized live (take m ls) → has c (keys (take m ls)) ≡ true → IsLiveAs live all_cells c
   live-first m c s h = live-too c (has-take m ls c h) (sized-take live m ls c s h)
+
+  pub all-sized : ((c : ℕ) → has c (keys ls) ≡ true → IsLiveAs live all_cells c) → AreSized live ls
+  all-sized h = All-from_get_or (λ l. IsSized live l.0 l.1) ls (0, 0) (λ i l.
+      let c : ℕ = (get_or ls i (0, 0)).0 in
+      let m = key-listed ls i l in
+      subst (IsSized live c) (size-at ls i rises l) (sized-too c m (h c m)))
 
   -- the cell after the first ones that are live with their sizes
   not-live : (m : ℕ) → m < length ls → (IsSized live (get_or ls m (0, 0)).0 (get_or ls m (0, 0)).1 → ⊥) → IsLiveAs live all_cells (get_or ls m (0, 0)).0 → ⊥
@@ -181,7 +234,7 @@ segments-take : {T : Type 0} (m : ℕ) (ls : List (ℕ × ℕ)) (A : List (List 
 segments-take m ls A c h = map-same (λ row. segment (take m ls) row c) (λ row. segment ls row c) (λ row. segment-take m ls row c h) A
 
 -- of a list of one cell nothing, or that cell
-one-of : (c q : ℕ) → has q (c ∷ []) ≡ true → c ≡ q
+pub one-of : (c q : ℕ) → has q (c ∷ []) ≡ true → c ≡ q
 one-of c q h = elim (cases_eq c q) [
   | inl e ↦ e
   | inr d ↦ let e : false ≡ true = sym (ap (λ b. b || false) (ne_eqb c q d)) ∙ h in cc
@@ -192,24 +245,52 @@ taken-one zero c n q h = let e : false ≡ true = h in cc
 taken-one (suc zero) c n q h = (omega arith, refl, one-of c q h)
 taken-one (suc (suc k)) c n q h = (omega arith, refl, one-of c q h)
 
+-- the first of the listed cells rise
+pub rising-take : (n : ℕ) (ls : List (ℕ × ℕ)) → IsRising (keys ls) → IsRising (keys (take n ls))
+rising-take n ls r = subst IsRising (take-map (λ l. l.0) n ls) (λ i j u l.
+    let inside : (j < n) × (j < length (keys ls)) = (omega (arith, length-take n (keys ls)), omega (arith, length-take n (keys ls))) in
+    omega (arith, r i j u inside.1, get_or-take n (keys ls) i 0 (omega (arith, inside.0)), get_or-take n (keys ls) j 0 inside.0))
+
+-- a list of one cell, as far as that is live with a size
+module _ (live : List (ℕ × ℕ × ℕ)) (k c n : ℕ) where
+  pub taken-rises : IsRising (keys (take k ((c, n) ∷ [])))
+  taken-rises = rising-take k ((c, n) ∷ []) (one-rises c n ((c, n) ∷ []) refl)
+
+  pub taken-width : width (take k ((c, n) ∷ [])) ≤ n
+  taken-width = omega (arith, width-take ((c, n) ∷ []) k)
+
+  pub taken-sized : (0 < k → IsSized live c n) → AreSized live (take k ((c, n) ∷ []))
+  taken-sized h = All-from_get_or (λ l. IsSized live l.0 l.1) (take k ((c, n) ∷ [])) (0, 0) (λ i l.
+      let at : (0 < k) × (i ≡ 0) = (omega (arith, length-take k ((c, n) ∷ [])), omega (arith, length-take k ((c, n) ∷ []))) in
+      subst (λ l. IsSized live l.0 l.1)
+      (sym (ap (λ i. get_or (take k ((c, n) ∷ [])) i (0, 0)) at.1 ∙ get_or-take k ((c, n) ∷ []) 0 (0, 0) at.0)) (h at.0))
+
+  pub taken-same : (0 < k → IsSized live c n) → take k ((c, size_of live c) ∷ []) ≡ take k ((c, n) ∷ [])
+  taken-same h = elim (cases_lt 0 k) [
+    | inl l ↦ ap (λ m. take k ((c, m) ∷ [])) (h l).1
+    | inr l ↦
+        let none : k ≡ 0 = omega arith in
+        ap (λ k. take k ((c, size_of live c) ∷ [])) none ∙ sym (ap (λ k. take k ((c, n) ∷ [])) none)
+  ]
+
 module _ (v : BlockComplex) (foot : Footprint) where
   abbrev Same : ℕ → ℕ → Type 0
   Same = IsSameAt v foot
 
-  kept-at : (s t : ℕ) (a b : Bool) → eqb s foot.x ≡ a → eqb t foot.y ≡ b
+  pub kept-at : (s t : ℕ) (a b : Bool) → eqb s foot.x ≡ a → eqb t foot.y ≡ b
       → kept foot s t ≡ cond a (cond b (matrix_of foot.pivot) (segment foot.below (matrix_of foot.column) t))
       (cond b (columns_of foot.left (matrix_of foot.row) s) (part foot.left foot.below (matrix_of foot.corners) s t))
   kept-at s t a b e f =
       ap₂ (λ a b. cond a (cond b (matrix_of foot.pivot) (segment foot.below (matrix_of foot.column) t))
       (cond b (columns_of foot.left (matrix_of foot.row) s) (part foot.left foot.below (matrix_of foot.corners) s t))) e f
 
-  not_x : (s : ℕ) → has s (keys foot.left) ≡ true → eqb s foot.x ≡ false
+  pub not_x : (s : ℕ) → has s (keys foot.left) ≡ true → eqb s foot.x ≡ false
   not_x s h = elim (cases_eq s foot.x) [
     | inl e ↦ not-both (has s (keys foot.left)) h (ap (λ k. has k (keys foot.left)) e ∙ foot.parts.without_x)
     | inr d ↦ ne_eqb s foot.x d
   ]
 
-  not_y : (t : ℕ) → has t (keys foot.below) ≡ true → eqb t foot.y ≡ false
+  pub not_y : (t : ℕ) → has t (keys foot.below) ≡ true → eqb t foot.y ≡ false
   not_y t h = elim (cases_eq t foot.y) [
     | inl e ↦ not-both (has t (keys foot.below)) h (ap (λ k. has k (keys foot.below)) e ∙ foot.parts.without_y)
     | inr d ↦ ne_eqb t foot.y d
@@ -225,7 +306,7 @@ module _ (v : BlockComplex) (foot : Footprint) where
   abbrev Within : List (ℕ × ℕ) → List (ℕ × ℕ) → ℕ → ℕ → Type 0
   Within ls bs s t = (has s (keys ls) ≡ true) × (has t (keys bs) ≡ true)
 
-  found-joined : (ls bs : List (ℕ × ℕ)) (A : List (List ℕ)) (o : Option (ℕ × ℕ)) → MatchOption o (IsJoined v ls bs A) (λ p. IsFirstOther v ls bs A p.0 p.1)
+  pub found-joined : (ls bs : List (ℕ × ℕ)) (A : List (List ℕ)) (o : Option (ℕ × ℕ)) → MatchOption o (IsJoined v ls bs A) (λ p. IsFirstOther v ls bs A p.0 p.1)
       → ((s t : ℕ) → has s (keys ls) ≡ true → has t (keys bs) ≡ true → Lies ls bs A s t) → Found Same (Within ls bs) o
   found-joined ls bs A o found lies = go o found
     where
@@ -353,13 +434,49 @@ module _ (v : BlockComplex) (foot : Footprint) where
         | inr a ↦ elim to [ inl c ↦ inr (inl (a, c)) | inr c ↦ inr (inr (a, c)) ]
       ]
 
+  -- what the search for another part of a joined matrix gives
+  abbrev pub Searched : List (ℕ × ℕ) → List (ℕ × ℕ) → Block → Option (ℕ × ℕ) → Type 0
+  Searched ls bs b o = MatchOption o (IsJoined v ls bs (matrix_of b)) (λ p. IsFirstOther v ls bs (matrix_of b) p.0 p.1)
+
+  -- how many of the cells of each list, and of x and y, are live with their sizes
+  pub record AreCounted (j k m n : ℕ) : Type 0 where
+    pub x_in : 0 < j → IsSized v.live foot.x foot.pivot.cols
+    pub x_out : IsSized v.live foot.x foot.pivot.cols → 0 < j
+    pub y_in : 0 < k → IsSized v.live foot.y foot.pivot.rows
+    pub y_out : IsSized v.live foot.y foot.pivot.rows → 0 < k
+    pub left_in : AreSized v.live (take m foot.left)
+    pub left_out : m < length foot.left → IsSized v.live (get_or foot.left m (0, 0)).0 (get_or foot.left m (0, 0)).1 → ⊥
+    pub below_in : AreSized v.live (take n foot.below)
+    pub below_out : n < length foot.below → IsSized v.live (get_or foot.below n (0, 0)).0 (get_or foot.below n (0, 0)).1 → ⊥
+
+  -- the first of the other parts of the four joined matrices
+  pub found-changed : (j k m n : ℕ) → AreCounted j k m n → (pivot column row corner one two all : Option (ℕ × ℕ))
+      → Searched (take j ((foot.x, foot.pivot.cols) ∷ [])) (take k ((foot.y, foot.pivot.rows) ∷ [])) foot.pivot pivot
+      → Searched (take j ((foot.x, foot.pivot.cols) ∷ [])) (take n foot.below) foot.column column
+      → Searched (take m foot.left) (take k ((foot.y, foot.pivot.rows) ∷ [])) foot.row row
+      → Searched (take m foot.left) (take n foot.below) foot.corners corner
+      → IsEarlier pivot column one → IsEarlier row corner two → IsEarlier one two all → Found Same (IsReached v foot) all
+  found-changed j k m n are pivot column row corner one two all in_pivot in_column in_row in_corner e f g =
+      let xs : List (ℕ × ℕ) = take j ((foot.x, foot.pivot.cols) ∷ []) in
+      let ys : List (ℕ × ℕ) = take k ((foot.y, foot.pivot.rows) ∷ []) in
+      let ls : List (ℕ × ℕ) = take m foot.left in
+      let bs : List (ℕ × ℕ) = take n foot.below in
+      found-within Same (Four j k m n) (IsReached v foot) all (reach-four j k m n are.x_out are.y_out are.left_out are.below_out)
+      (found-either Same (λ s t. Within xs ys s t ⊎ Within xs bs s t) (λ s t. Within ls ys s t ⊎ Within ls bs s t) one two all g
+      (found-either Same (Within xs ys) (Within xs bs) pivot column one e
+      (found-joined xs ys (matrix_of foot.pivot) pivot in_pivot (lies-pivot m n are.left_in are.below_in j k are.x_in are.y_in))
+      (found-joined xs bs (matrix_of foot.column) column in_column (lies-column m n are.left_in are.below_in j are.x_in)))
+      (found-either Same (Within ls ys) (Within ls bs) row corner two f
+      (found-joined ls ys (matrix_of foot.row) row in_row (lies-row m n are.left_in are.below_in k are.y_in))
+      (found-joined ls bs (matrix_of foot.corners) corner in_corner (lies-corner m n are.left_in are.below_in))))
+
   -- pairs with a cell that is not live with its size
-  pub found-resized_from : (o : Option ℕ) (t : ℕ) (r : Option (ℕ × ℕ)) → MatchOption o ((k : ℕ) → has k (keys (sources foot)) ≡ true → IsLiveAs v.live (sources foot) k) (IsFirstResized v.live (sources foot))
+  found-resized_from : (o : Option ℕ) (t : ℕ) (r : Option (ℕ × ℕ)) → FoundResized v.live (sources foot) o
       → has t (keys (targets foot)) ≡ true → ((k : ℕ) → has k (keys (targets foot)) ≡ true → t ≤ k) → r ≡ option_map (λ s. (s, t)) o
       → Found Same (λ s t. (is_copied foot s t ≡ true) × (IsLiveAs v.live (sources foot) s → ⊥)) r
   found-resized_from o t r f ht low e = subst (Found Same (λ s t. (is_copied foot s t ≡ true) × (IsLiveAs v.live (sources foot) s → ⊥))) (sym e) (go o f)
     where
-      go : (o : Option ℕ) → MatchOption o ((k : ℕ) → has k (keys (sources foot)) ≡ true → IsLiveAs v.live (sources foot) k) (IsFirstResized v.live (sources foot))
+      go : (o : Option ℕ) → FoundResized v.live (sources foot) o
           → Found Same (λ s t. (is_copied foot s t ≡ true) × (IsLiveAs v.live (sources foot) s → ⊥)) (option_map (λ s. (s, t)) o)
       go None all = λ p q h. absurd (h.1 (all p (split p q h.0).0))
       go (Some s) first = (
@@ -370,12 +487,12 @@ module _ (v : BlockComplex) (foot : Footprint) where
         ],
       )
 
-  pub found-resized_to : (o : Option ℕ) (s : ℕ) (r : Option (ℕ × ℕ)) → MatchOption o ((k : ℕ) → has k (keys (targets foot)) ≡ true → IsLiveAs v.live (targets foot) k) (IsFirstResized v.live (targets foot))
+  found-resized_to : (o : Option ℕ) (s : ℕ) (r : Option (ℕ × ℕ)) → FoundResized v.live (targets foot) o
       → has s (keys (sources foot)) ≡ true → ((k : ℕ) → has k (keys (sources foot)) ≡ true → s ≤ k) → r ≡ option_map (λ t. (s, t)) o
       → Found Same (λ s t. (is_copied foot s t ≡ true) × (IsLiveAs v.live (targets foot) t → ⊥)) r
   found-resized_to o s r f hs low e = subst (Found Same (λ s t. (is_copied foot s t ≡ true) × (IsLiveAs v.live (targets foot) t → ⊥))) (sym e) (go o f)
     where
-      go : (o : Option ℕ) → MatchOption o ((k : ℕ) → has k (keys (targets foot)) ≡ true → IsLiveAs v.live (targets foot) k) (IsFirstResized v.live (targets foot))
+      go : (o : Option ℕ) → FoundResized v.live (targets foot) o
           → Found Same (λ s t. (is_copied foot s t ≡ true) × (IsLiveAs v.live (targets foot) t → ⊥)) (option_map (λ t. (s, t)) o)
       go None all = λ p q h. absurd (h.1 (all q (split p q h.0).1))
       go (Some t) first = (
@@ -385,6 +502,21 @@ module _ (v : BlockComplex) (foot : Footprint) where
           | inr u ↦ absurd (not-before p q s t (low p (split p q h.0).0) u l)
         ],
       )
+
+  -- the first pair that was copied and has a cell that is not live with its size
+  pub found-resized : (left below : List (ℕ × ℕ)) → left ≡ foot.left → below ≡ foot.below → (from to : Option ℕ) → FoundResized v.live ((foot.x, foot.pivot.cols) ∷ left) from
+      → FoundResized v.live ((foot.y, foot.pivot.rows) ∷ below) to → (s t : ℕ) → has s (foot.x ∷ keys left) ≡ true → ((k : ℕ) → has k (foot.x ∷ keys left) ≡ true → s ≤ k)
+      → has t (foot.y ∷ keys below) ≡ true → ((k : ℕ) → has k (foot.y ∷ keys below) ≡ true → t ≤ k) → (p q r : Option (ℕ × ℕ))
+      → p ≡ option_map (λ s. (s, t)) from → q ≡ option_map (λ t. (s, t)) to → IsEarlier p q r → Found Same (IsResized v foot) r
+  found-resized left below is_left is_below from to f g s t hs low ht high p q r e h i =
+      let From : ℕ → ℕ → Type 0 = λ s t. (is_copied foot s t ≡ true) × (IsLiveAs v.live (sources foot) s → ⊥) in
+      let To : ℕ → ℕ → Type 0 = λ s t. (is_copied foot s t ≡ true) × (IsLiveAs v.live (targets foot) t → ⊥) in
+      found-within Same (λ s t. From s t ⊎ To s t) (IsResized v foot) r (λ s t h. elim h.1 [ inl a ↦ inl (h.0, a) | inr b ↦ inr (h.0, b) ])
+      (found-either Same From To p q r i
+      (found-resized_from from t p (subst (λ ls. FoundResized v.live ((foot.x, foot.pivot.cols) ∷ ls) from) is_left f)
+      (ap (λ ls. has t (foot.y ∷ keys ls)) (sym is_below) ∙ ht) (λ k m. high k (ap (λ ls. has k (foot.y ∷ keys ls)) is_below ∙ m)) e)
+      (found-resized_to to s q (subst (λ ls. FoundResized v.live ((foot.y, foot.pivot.rows) ∷ ls) to) is_below g)
+      (ap (λ ls. has s (foot.x ∷ keys ls)) (sym is_left) ∙ hs) (λ k m. low k (ap (λ ls. has k (foot.x ∷ keys ls)) is_left ∙ m)) h))
 
   cases_sized : (c n : ℕ) → IsSized v.live c n ⊎ (IsSized v.live c n → ⊥)
   cases_sized c n = elim (cases_Bool (has c (cells v.live))) [
@@ -396,9 +528,9 @@ module _ (v : BlockComplex) (foot : Footprint) where
   pub all-pairs : (s t : ℕ) → ((p q : ℕ) → (IsResized v foot p q ⊎ IsReached v foot p q) ⊎ IsGained v foot p q → (IsBefore s t p q → ⊥) → Same p q) → Same s t
   all-pairs s t h = elim (cases_Bool (is_copied foot s t)) [
     | inr e ↦ record {
-        copied = λ f. not-both (is_copied foot s t) f e;
-        others = λ _ beside. (h s t (inr (e, beside)) (not-before s t s t (omega arith) (omega arith))).others e beside;
-      }
+      copied = λ f. not-both (is_copied foot s t) f e;
+      others = λ _ beside. (h s t (inr (e, beside)) (not-before s t s t (omega arith) (omega arith))).others e beside;
+    }
     | inl e ↦
         let both = split s t e in
         h s t (inl (inr (record {
@@ -431,50 +563,58 @@ module _ (v : BlockComplex) (foot : Footprint) where
   gained : (s t : ℕ) → is_copied foot s t ≡ false → IsBeside v foot s t → is_some (held v s t) ≡ true → Same s t → ⊥
   gained s t e beside h same = not-both (is_some (held v s t)) h (same.others e beside)
 
+  -- pairs with y, and pairs with x, that were not copied
+  abbrev pub Beside_y : ℕ → ℕ → Type 0
+  Beside_y s t = (is_copied foot s t ≡ false) × (t ≡ foot.y)
+
+  abbrev pub Beside_x : ℕ → ℕ → Type 0
+  Beside_x s t = (is_copied foot s t ≡ false) × (s ≡ foot.x)
+
   -- blocks beside x and y that were not copied
   module _ (x_live : has foot.x (cells v.live) ≡ true) (y_live : has foot.y (cells v.live) ≡ true) where
-    abbrev NotListed : List ℕ → List ℕ → ℕ → Type 0
-    NotListed there listed c = (has c there ≡ true) × (has c listed ≡ false) × ((k : ℕ) → has k there ≡ true → k < c → has k listed ≡ true)
-
-    pub found-gained_from : (there : List ℕ) (o : Option ℕ) (r : Option (ℕ × ℕ)) → ((s : ℕ) → has s there ≡ is_some (held v s foot.y))
-        → MatchOption o ((k : ℕ) → has k there ≡ true → has k (keys (sources foot)) ≡ true) (NotListed there (keys (sources foot)))
-        → r ≡ option_map (λ s. (s, foot.y)) o → Found Same (λ s t. (is_copied foot s t ≡ false) × (t ≡ foot.y)) r
-    found-gained_from there o r are f e = subst (Found Same Here) (sym e) (go o f)
+    found-gained_from : (there : List ℕ) (o : Option ℕ) (r : Option (ℕ × ℕ)) → ((s : ℕ) → has s there ≡ is_some (held v s foot.y))
+        → FoundUnlisted there (keys (sources foot)) o
+        → r ≡ option_map (λ s. (s, foot.y)) o → Found Same Beside_y r
+    found-gained_from there o r are f e = subst (Found Same Beside_y) (sym e) (go o f)
       where
-        abbrev Here : ℕ → ℕ → Type 0
-        Here s t = (is_copied foot s t ≡ false) × (t ≡ foot.y)
-
-        same : (s t : ℕ) → Here s t → (has s there ≡ true → has s (keys (sources foot)) ≡ true) → Same s t
+        same : (s t : ℕ) → Beside_y s t → (has s there ≡ true → has s (keys (sources foot)) ≡ true) → Same s t
         same s t h listed = not-gained s t h.0 (λ f.
             both-listed foot s t (listed (are s ∙ ap (λ t. is_some (held v s t)) (sym h.1) ∙ f))
             (ap (λ t. has t (keys (targets foot))) h.1 ∙ listed-one v.live foot.y foot.pivot.rows foot.below foot.parts.below_rises foot.parts.without_y))
 
-        go : (o : Option ℕ) → MatchOption o ((k : ℕ) → has k there ≡ true → has k (keys (sources foot)) ≡ true) (NotListed there (keys (sources foot)))
-            → Found Same Here (option_map (λ s. (s, foot.y)) o)
+        go : (o : Option ℕ) → FoundUnlisted there (keys (sources foot)) o
+            → Found Same Beside_y (option_map (λ s. (s, foot.y)) o)
         go None all = λ s t h. same s t h (all s)
         go (Some c) first = (
           gained c foot.y (ap (λ b. b && has foot.y (keys (targets foot))) first.1) (record { from = x_live; to = y_live; beside = inr refl }) (sym (are c) ∙ first.0),
           λ s t h l. same s t h (λ m. first.2 s m (elim l [ inl u ↦ u | inr u ↦ absurd (omega (arith, u.1, h.1)) ])),
         )
 
-    pub found-gained_to : (there : List ℕ) (o : Option ℕ) (r : Option (ℕ × ℕ)) → ((t : ℕ) → has t there ≡ is_some (held v foot.x t))
-        → MatchOption o ((k : ℕ) → has k there ≡ true → has k (keys (targets foot)) ≡ true) (NotListed there (keys (targets foot)))
-        → r ≡ option_map (λ t. (foot.x, t)) o → Found Same (λ s t. (is_copied foot s t ≡ false) × (s ≡ foot.x)) r
-    found-gained_to there o r are f e = subst (Found Same Here) (sym e) (go o f)
+    found-gained_to : (there : List ℕ) (o : Option ℕ) (r : Option (ℕ × ℕ)) → ((t : ℕ) → has t there ≡ is_some (held v foot.x t))
+        → FoundUnlisted there (keys (targets foot)) o
+        → r ≡ option_map (λ t. (foot.x, t)) o → Found Same Beside_x r
+    found-gained_to there o r are f e = subst (Found Same Beside_x) (sym e) (go o f)
       where
-        abbrev Here : ℕ → ℕ → Type 0
-        Here s t = (is_copied foot s t ≡ false) × (s ≡ foot.x)
-
-        same : (s t : ℕ) → Here s t → (has t there ≡ true → has t (keys (targets foot)) ≡ true) → Same s t
+        same : (s t : ℕ) → Beside_x s t → (has t there ≡ true → has t (keys (targets foot)) ≡ true) → Same s t
         same s t h listed = not-gained s t h.0 (λ f.
             both-listed foot s t
             (ap (λ s. has s (keys (sources foot))) h.1 ∙ listed-one v.live foot.x foot.pivot.cols foot.left foot.parts.left_rises foot.parts.without_x)
             (listed (are t ∙ ap (λ s. is_some (held v s t)) (sym h.1) ∙ f)))
 
-        go : (o : Option ℕ) → MatchOption o ((k : ℕ) → has k there ≡ true → has k (keys (targets foot)) ≡ true) (NotListed there (keys (targets foot)))
-            → Found Same Here (option_map (λ t. (foot.x, t)) o)
+        go : (o : Option ℕ) → FoundUnlisted there (keys (targets foot)) o
+            → Found Same Beside_x (option_map (λ t. (foot.x, t)) o)
         go None all = λ s t h. same s t h (all t)
         go (Some c) first = (
           gained foot.x c (ap (λ b. has foot.x (keys (sources foot)) && b) first.1 ∙ and_false (has foot.x (keys (sources foot)))) (record { from = x_live; to = y_live; beside = inl refl }) (sym (are c) ∙ first.0),
           λ s t h l. same s t h (λ m. first.2 t m (elim l [ inl u ↦ absurd (omega (arith, u, h.1)) | inr u ↦ u.1 ])),
         )
+
+    -- the first of them
+    pub found-gained : (left below : List (ℕ × ℕ)) → left ≡ foot.left → below ≡ foot.below → (row column : List ℕ) → ((s : ℕ) → has s row ≡ is_some (held v s foot.y))
+        → ((t : ℕ) → has t column ≡ is_some (held v foot.x t)) → (from to : Option ℕ) → FoundUnlisted row (foot.x ∷ keys left) from → FoundUnlisted column (foot.y ∷ keys below) to
+        → (p q r : Option (ℕ × ℕ)) → p ≡ option_map (λ s. (s, foot.y)) from → q ≡ option_map (λ t. (foot.x, t)) to → IsEarlier p q r → Found Same (IsGained v foot) r
+    found-gained left below is_left is_below row column in_row in_column from to f g p q r e h i =
+        found-within Same (λ s t. Beside_y s t ⊎ Beside_x s t) (IsGained v foot) r (λ s t h. elim h.1.beside [ inl a ↦ inr (h.0, a) | inr b ↦ inl (h.0, b) ])
+        (found-either Same Beside_y Beside_x p q r i
+        (found-gained_from row from p in_row (subst (λ ls. FoundUnlisted row (foot.x ∷ keys ls) from) is_left f) e)
+        (found-gained_to column to q in_column (subst (λ ls. FoundUnlisted column (foot.y ∷ keys ls) to) is_below g) h))

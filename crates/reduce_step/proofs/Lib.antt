@@ -4,3 +4,4 @@ pub mod CopyLaws
 pub mod FirstLaws
 pub mod DifferenceLaws
 pub mod ApplyLaws
+pub mod FitLaws

@@ -53,11 +53,24 @@ pub record IsSameAt (v : BlockComplex) (foot : Footprint) (s t : ℕ) : Type 0 w
   pub copied : is_copied foot s t ≡ true → IsKept v foot s t
   pub others : is_copied foot s t ≡ false → IsBeside v foot s t → is_some (held v s t) ≡ false
 
+-- nothing differs from what was kept
+abbrev pub Fits : BlockComplex → Footprint → Type 0
+Fits v foot = (s t : ℕ) → IsSameAt v foot s t
+
 -- the first listed cell that is not live with its size
 pub record IsFirstResized (live : List (ℕ × ℕ × ℕ)) (listed : List (ℕ × ℕ)) (c : ℕ) : Type 0 where
   pub is_listed : has c (keys listed) ≡ true
   pub is_not : IsLiveAs live listed c → ⊥
   pub first : (k : ℕ) → has k (keys listed) ≡ true → k < c → IsLiveAs live listed k
+
+-- the first listed cell that is not live with its size, if there is one
+abbrev pub FoundResized : List (ℕ × ℕ × ℕ) → List (ℕ × ℕ) → Option ℕ → Type 0
+FoundResized live listed o = MatchOption o ((k : ℕ) → has k (keys listed) ≡ true → IsLiveAs live listed k) (IsFirstResized live listed)
+
+-- the first cell of a list that is not among some others, if there is one
+abbrev pub FoundUnlisted : List ℕ → List ℕ → Option ℕ → Type 0
+FoundUnlisted there listed o = MatchOption o ((k : ℕ) → has k there ≡ true → has k listed ≡ true)
+    (λ c. (has c there ≡ true) × (has c listed ≡ false) × ((k : ℕ) → has k there ≡ true → k < c → has k listed ≡ true))
 
 -- the pair was copied, and one of the cells is not live with its size
 abbrev pub IsResized : BlockComplex → Footprint → ℕ → ℕ → Type 0

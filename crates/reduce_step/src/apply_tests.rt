@@ -127,7 +127,7 @@ fn remove<F: Scalars>(
     assert!(rt; foot.is_over(f));
     match foot.finish(alloc, f) {
         Ok(Finish::Made(record)) => {
-            assert!(rt; b.is_over(&record.f));
+            assert!(rt; record.fits(b).is_ok() && b.is_over(&record.f));
             match record.apply(b) {
                 Ok(step) => Ok(step),
                 Err((_, fault)) => Err(fault),

@@ -1,9 +1,8 @@
-ghost use Rattle.std.specs.Prelude.{◌≡◌, true, is_some, IfOk, IfErr, OnOk, OnErr};
+ghost use Rattle.std.specs.Prelude.{◌≡◌, IfOk, IfErr, OnOk, OnErr};
 ghost use Rattle.dense_blocks.specs.Blocks.{matrix_of};
-ghost use Rattle.block_sparse.specs.BlockComplexes.{held};
 ghost use Rattle.block_sparse.specs.Cochains.{IsOver};
 ghost use Rattle.removals.specs.Removals.{IsRemoval, KeepsFlags};
-ghost use Rattle.reduce_step.specs.Footprints.{IsFootprint};
+ghost use Rattle.reduce_step.specs.Differences.{Fits};
 ghost use Rattle.reduce_step.specs.Steps.{IsStepOf};
 
 use crate::footprint::Footprint;
@@ -15,12 +14,11 @@ use std::alloc::AllocError as NoMemory;
 impl<F: Scalars> Record<F> {
     /// Removes the pair: puts the new corners, without flags, and takes `x` and `y` away; every other block stays with its flag.
     ///
-    /// The footprint is that of the pair as its blocks stand, and all blocks have scalars of the field. Takes what
+    /// The record still [`fits`](Record::fits), and all blocks have scalars of the field. Takes what
     /// [`Blocks::set_grid`] and [`Blocks::remove_cell`] take. Fails only where memory does: then nothing has changed, and the record
     /// comes back.
     pub fn apply(self, b: &mut Blocks) -> Result<Step, (Record<F>, NoMemory)>
-        requires stands { is_some (held b.old self.foot.x self.foot.y) ≡ true }
-        requires footprint { IsFootprint b.old self.foot.x self.foot.y self.foot }
+        requires fits { Fits b.old self.foot }
         requires over { IsOver (F.ops self.f) b.old }
         ensures removal { OnOk result (IsRemoval (F.ops self.f) b.old self.foot.x self.foot.y (matrix_of self.inverse) b.new) }
         ensures flags { OnOk result (KeepsFlags b.old self.foot.x self.foot.y b.new) }
@@ -36,8 +34,7 @@ impl<F: Scalars> Record<F> {
 
     /// Makes the removal; without memory nothing has changed.
     fn remove(&self, b: &mut Blocks) -> Result<(), NoMemory>
-        requires stands { is_some (held b.old self.now.foot.x self.now.foot.y) ≡ true }
-        requires footprint { IsFootprint b.old self.now.foot.x self.now.foot.y self.now.foot }
+        requires fits { Fits b.old self.now.foot }
         requires over { IsOver (F.ops self.now.f) b.old }
         ensures removed { OnOk result (IsRemoval (F.ops self.now.f) b.old self.now.foot.x self.now.foot.y (matrix_of self.now.inverse) b.new
             × KeepsFlags b.old self.now.foot.x self.now.foot.y b.new) }

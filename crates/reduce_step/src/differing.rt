@@ -1,8 +1,8 @@
-ghost use Rattle.std.specs.Prelude.{◌≡◌, ◌+◌, ◌<◌, ◌≤◌, ◌↔◌, ◌∷◌, ◌⊎◌, ℕ, true, false, length, option_map, slice_index_or, take, IsTrue, MatchOption, MatchResult};
+ghost use Rattle.std.specs.Prelude.{◌≡◌, ◌<◌, ◌≤◌, ◌↔◌, ◌∷◌, ◌⊎◌, ℕ, true, false, length, option_map, slice_index_or, take, IsTrue, MatchResult};
 ghost use Rattle.rising_lists.specs.Rising.{IsRising, has, keys};
-ghost use Rattle.block_sparse.specs.BlockComplexes.{cells, size_of};
+ghost use Rattle.block_sparse.specs.BlockComplexes.{cells};
 ghost use Rattle.block_sparse.specs.Grids.{AreSized};
-ghost use Rattle.reduce_step.specs.Differences.{Found, IsBefore, IsEarlier, IsFirstResized, IsGained, IsLiveAs, IsReached, IsResized, IsSized, IsSameAt};
+ghost use Rattle.reduce_step.specs.Differences.{Found, FoundResized, FoundUnlisted, IsBefore, IsEarlier, IsGained, IsReached, IsResized, IsSized, IsSameAt};
 
 use crate::footprint::Footprint;
 use crate::record::Record;
@@ -20,7 +20,7 @@ pub struct Differs {
 }
 
 impl<F: Scalars> Record<F> {
-    ghost use Rattle.reduce_step.specs.Differences.{IsFirstDifference};
+    ghost use Rattle.reduce_step.specs.Differences.{Fits, IsFirstDifference};
 
     /// Whether the blocks are still those that were kept; else the first pair at which something differs, by `s` and then by `t`.
     ///
@@ -29,7 +29,7 @@ impl<F: Scalars> Record<F> {
     /// stands that was not copied. Takes no memory; one search for each cell of the two lists, and of row `y` and column `x`; and one step
     /// for each block in the rows of the cells below, for each pair copied, and for each entry.
     pub fn fits(&self, b: &Blocks) -> Result<(), Differs>
-        ensures { MatchResult result (λ _. (s t : ℕ) → IsSameAt b.now self.now.foot s t) (λ d. IsFirstDifference b.now self.now.foot d.s d.t) }
+        ensures { MatchResult result (λ _. Fits b.now self.now.foot) (λ d. IsFirstDifference b.now self.now.foot d.s d.t) }
     {
         match first_difference(&self.foot, b) {
             None => Ok(()),
@@ -99,9 +99,7 @@ fn first_gained(foot: &Footprint, b: &Blocks) -> Option<(u32, u32)>
 fn resized_cell(b: &Blocks, c: u32, size: u32, listed: &[(u32, u8)]) -> Option<u32>
     requires rising { IsRising (keys listed.now) }
     requires apart { has c (keys listed.now) ≡ false }
-    ensures { MatchOption result
-        ((k : ℕ) → has k (c ∷ keys listed.now) ≡ true → IsLiveAs b.now.live ((c, size) ∷ listed.now) k)
-        (λ r. IsFirstResized b.now.live ((c, size) ∷ listed.now) r) }
+    ensures { FoundResized b.now.live ((c, size) ∷ listed.now) result }
 {
     let at = count_live(b, listed);
     let is_live = is_live_as(b, c, size);
@@ -161,9 +159,7 @@ fn least(c: u32, listed: &[(u32, u8)]) -> u32
 fn unlisted(cells: &[u32], but: u32, listed: &[(u32, u8)]) -> Option<u32>
     requires rising { IsRising cells.now }
     requires listed_rises { IsRising (keys listed.now) }
-    ensures { MatchOption result
-        ((k : ℕ) → has k cells.now ≡ true → has k (but ∷ keys listed.now) ≡ true)
-        (λ r. (has r cells.now ≡ true) × (has r (but ∷ keys listed.now) ≡ false) × ((k : ℕ) → has k cells.now ≡ true → k < r → has k (but ∷ keys listed.now) ≡ true)) }
+    ensures { FoundUnlisted cells.now (but ∷ keys listed.now) result }
 {
     for c in cells {
         if !is_kept(*c, but, listed) {

@@ -11,6 +11,18 @@ use Rattle.block_grids.proofs.OtherLaws.{IsEarliest, SameAt, earliest-less, earl
 use Rattle.block_grids.proofs.grids.first_other.Goals as goal
 use Rattle.block_grids.proofs.grids.first_other.Goals.{then-same-end, else-same-end}
 
+pub line-requires : goal.line-requires
+line-requires c = (c.requires.below_sized c.loop-j.j (0, 0) (omega arith)).0
+
+pub count_same-same-requires-clause-shaped : goal.count_same-same-requires-clause-shaped
+count_same-same-requires-clause-shaped c =
+    let below = c.args.below.now in
+    let left = c.args.left.now in
+    let j : ℕ = c.loop-j.j in
+    let inside : j < length below = omega arith in
+    subst (λ l. AreShaped l (get_or below j (0, 0)).1 left) (sym c.line.ensures)
+    (rows-shaped c.args.b.now left below c.live-cells.ensures.sound c.requires.left_sized c.requires.below_sized j (0, 0) inside)
+
 pub count_same-same-requires-clause-rows : goal.count_same-same-requires-clause-rows
 count_same-same-requires-clause-rows c =
     let below = c.args.below.now in
@@ -27,7 +39,7 @@ overflow_add-row c =
 
 pub loop-j-preserved : goal.loop-j-preserved
 loop-j-preserved c =
-    let v = c.args.self.now in
+    let v = c.args.b.now in
     let below = c.args.below.now in
     let left = c.args.left.now in
     let A = matrix_of c.args.joined.now in
@@ -36,7 +48,7 @@ loop-j-preserved c =
     let x = get_or below j (0, 0) in
     let Same : ℕ → ℕ → Type 0 = SameAt v.rows left below A in
     let same : ℕ = c.count_same-same.result in
-    let line_is = c.line.ensures ∙ ap (λ v. line_of v.rows x.0) c.self.view_is in
+    let line_is = c.line.ensures in
     let row_is = c.loop-j.invariant.row in
     let are : (i : ℕ) → i < same → Same i j = λ i l.
     subst (λ r. IsSamePart (line_of v.rows x.0) left A r x.1 i) row_is (subst (λ m. IsSamePart m left A c.loop-j.row x.1 i) line_is (c.count_same-same.ensures.same i l)) in
@@ -54,10 +66,10 @@ loop-j-preserved c =
 
 pub returns-then-end-left : goal.returns-then-end-left
 returns-then-end-left c =
-    first-other c.args.self.now c.args.left.now c.args.below.now (matrix_of c.args.joined.now) c.requires.left_rises c.requires.below_rises c.requires.left_sized c.requires.below_sized
+    first-other c.args.b.now c.args.left.now c.args.below.now (matrix_of c.args.joined.now) c.requires.left_rises c.requires.below_rises c.requires.left_sized c.requires.below_sized
     c.loop-j.j c.loop-j.end c.loop-j.at c.loop-j.invariant.first (omega arith) (omega arith) c.if-end-left.true
 
 pub returns-else-end-left : goal.returns-else-end-left
 returns-else-end-left c =
-    no-other c.args.self.now c.args.left.now c.args.below.now (matrix_of c.args.joined.now) c.requires.left_rises c.requires.below_rises c.requires.left_sized c.requires.below_sized
+    no-other c.args.b.now c.args.left.now c.args.below.now (matrix_of c.args.joined.now) c.requires.left_rises c.requires.below_rises c.requires.left_sized c.requires.below_sized
     c.loop-j.j c.loop-j.end c.loop-j.at c.loop-j.invariant.first (omega arith) c.if-end-left.false

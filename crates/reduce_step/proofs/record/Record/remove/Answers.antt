@@ -1,22 +1,32 @@
-use Rattle.std.proofs.Common.{◌≡◌, true, is_some, sym, subst}
+use Rattle.std.proofs.Common.{◌≡◌, ◌+◌, ℕ, true, is_some, sym, ap, ◌∙◌, subst}
 use Rattle.dense_blocks.specs.Blocks.{matrix_of}
-use Rattle.block_sparse.specs.BlockComplexes.{held}
+use Rattle.rising_lists.specs.Rising.{IsRising, has, keys}
+use Rattle.block_sparse.specs.BlockComplexes.{degree_of}
 use Rattle.block_sparse.specs.Cochains.{IsOver}
+use Rattle.block_sparse.specs.Grids.{AreSized}
 use Rattle.removals.specs.Removals.{IsRemoval, KeepsFlags}
-use Rattle.reduce_step.specs.Footprints.{IsFootprint}
+use Rattle.removals.proofs.AppliedLaws.{listed-degrees}
+use Rattle.reduce_step.specs.Differences.{Fits}
 use Rattle.reduce_step.proofs.ApplyLaws.{record-removed}
+use Rattle.reduce_step.proofs.FitLaws.{fit-footprint, fit-stands}
 use Rattle.reduce_step.proofs.record.Record.remove.Goals as goal
+
+pub set_grid-requires : goal.set_grid-requires
+set_grid-requires g c = ?
 
 pub returns-clause-removed : goal.returns-clause-removed
 returns-clause-removed g c =
     let v = c.args.b.now in
     let r = c.self.inside in
+    let K = g.F.Scalars.ops r.f in
+    let F = g.met.F.Scalars.is_field r.f in
     let w = c.remove_cell-2.new.self in
-    let stands = subst (λ r. is_some (held v r.foot.x r.foot.y) ≡ true) (sym c.self.view_is) c.requires.stands in
-    let is = subst (λ r. IsFootprint v r.foot.x r.foot.y r.foot) (sym c.self.view_is) c.requires.footprint in
+    let fits = subst (λ r. Fits v r.foot) (sym c.self.view_is) c.requires.fits in
     let over = subst (λ r. IsOver (g.F.Scalars.ops r.f) v) (sym c.self.view_is) c.requires.over in
+    let sound = c.live-live.ensures.sound in
+    let stands = fit-stands K v r.foot fits F (matrix_of r.inverse) sound.live_cells c.self.invariant.inverse_is.inverse in
     subst (λ r. IsRemoval (g.F.Scalars.ops r.f) v r.foot.x r.foot.y (matrix_of r.inverse) w × KeepsFlags v r.foot.x r.foot.y w) c.self.view_is
-    (record-removed (g.F.Scalars.ops r.f) (g.met.F.Scalars.is_field r.f) v c.live-live.ensures.sound over r.foot stands is
+    (record-removed K F v sound over r.foot stands (fit-footprint K v r.foot fits)
     r.inverse r.new_corners c.self.invariant c.as_slice.result.now c.as_slice-2.result.now c.as_slice.ensures c.as_slice-2.ensures
     c.set_grid.new.self c.remove_cell.new.self w
     (record {

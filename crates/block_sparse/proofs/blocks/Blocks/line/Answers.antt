@@ -1,0 +1,7 @@
+use Rattle.std.proofs.Common.{◌≡◌, ap, ◌∙◌}
+use Rattle.rising_lists.specs.Rising.{has}
+use Rattle.block_sparse.specs.BlockComplexes.{cells}
+use Rattle.block_sparse.proofs.blocks.Blocks.line.Goals as goal
+
+pub line-requires : goal.line-requires
+line-requires c = c.self.invariant.has_row c.args.y (ap (λ v. has c.args.y (cells v.live)) c.self.view_is ∙ c.requires)
