@@ -1,5 +1,5 @@
 ghost use Rattle.std.specs.Prelude.{◌≡◌, ◌≤◌, IfOk, OnOk};
-ghost use Rattle.reduce_step.specs.Footprints.{IsFootprint};
+ghost use Rattle.sheaf_bench.specs.Merges.{MayJoin};
 
 use crate::checksums::blocks_checksum;
 use crate::failure::Failure;
@@ -104,13 +104,15 @@ pub(crate) fn run_merge<R: Clock + AllocGlobal>(rt: &R, size: u32) -> Result<Rep
 
 /// The footprint of the pair of the cells 0 and `y`.
 fn footprint(alloc: Global, blocks: &Blocks, y: u32) -> Result<Footprint, Failure>
-    ensures { IfOk result (IsFootprint blocks.now 0 y) }
+    ensures { IfOk result (λ foot. MayJoin blocks.now.live foot.left foot.below) }
 {
-    if blocks.get(0, y).is_none() || blocks.size(0) != blocks.size(y) {
-        return Err(Failure::Made);
+    let _live = blocks.live();
+    if blocks.get(0, y).is_some() && blocks.size(0) == blocks.size(y) {
+        let foot = Footprint::copy(alloc, blocks, 0, y)?;
+        Ok(foot)
+    } else {
+        Err(Failure::Made)
     }
-    let foot = Footprint::copy(alloc, blocks, 0, y)?;
-    Ok(foot)
 }
 
 /// The negative of the corners.
@@ -132,7 +134,7 @@ fn merge(
     negative: &Block,
     rounds: u32,
 ) -> Result<(), NoMemory>
-    requires footprint { IsFootprint blocks.old foot.now.x foot.now.y foot.now }
+    requires joined { MayJoin blocks.old.live foot.now.left foot.now.below }
     requires rows { negative.now.rows ≡ foot.now.corners.rows }
     requires cols { negative.now.cols ≡ foot.now.corners.cols }
 {
@@ -148,7 +150,7 @@ fn merge(
 
 /// Puts a joined matrix in place of the corners.
 fn put_grid(blocks: &mut Blocks, foot: &Footprint, joined: &Block) -> Result<(), NoMemory>
-    requires footprint { IsFootprint blocks.old foot.now.x foot.now.y foot.now }
+    requires joined { MayJoin blocks.old.live foot.now.left foot.now.below }
     requires rows { joined.now.rows ≡ foot.now.corners.rows }
     requires cols { joined.now.cols ≡ foot.now.corners.cols }
     ensures { OnOk result (blocks.new.live ≡ blocks.old.live) }

@@ -1,6 +1,7 @@
 ghost use Rattle.std.specs.Prelude.{◌≡◌, ◌≤◌, ℕ, true, IfOk, OnOk};
 ghost use Rattle.block_sparse.specs.Candidates.{is_candidate};
 ghost use Rattle.block_sparse.specs.Cochains.{IsOver};
+ghost use Rattle.reduce_step.specs.Differences.{Fits};
 ghost use Rattle.sheaf_bench.specs.Reductions.{IsOfField};
 
 use crate::cells::start;
@@ -78,14 +79,24 @@ fn remove<F: Scalars>(b: &mut Blocks, record: Record<F>) -> Result<Tried, Failur
     requires { IsOver (F.ops record.f) b.old }
     ensures { OnOk result (IsOver (F.ops record.f) b.new) }
 {
-    removal_keeps_scalars();
-    if record.fits(b).is_err() {
-        return Err(Failure::Made);
-    }
     let tried = removed(&record.foot);
+    match record.fits(b) {
+        Ok(()) => apply(b, record)?,
+        Err(_) => return Err(Failure::Made),
+    }
+    Ok(tried)
+}
+
+/// Applies a record that fits.
+fn apply<F: Scalars>(b: &mut Blocks, record: Record<F>) -> Result<(), NoMemory>
+    requires fits { Fits b.old record.foot }
+    requires over { IsOver (F.ops record.f) b.old }
+    ensures { OnOk result (IsOver (F.ops record.f) b.new) }
+{
+    removal_keeps_scalars();
     match record.apply(b) {
-        Ok(_) => Ok(tried),
-        Err(_) => Err(Failure::Memory),
+        Ok(_) => Ok(()),
+        Err((_, fault)) => Err(fault),
     }
 }
 
