@@ -1,5 +1,5 @@
 -- What a candidate is, and what a flag leaves.
-use Rattle.std.proofs.Common.{◌≡◌, ℕ, Bool, true, false, ◌&&◌, List, Option, Some, None, if◌then◌else◌, All, refl, sym, ap, ap₂, ◌∙◌, subst}
+use Rattle.std.proofs.Common.{◌≡◌, ℕ, Bool, true, false, ◌&&◌, List, Option, Some, None, if◌then◌else◌, All, refl, sym, ap, ap₂, ◌∙◌, subst, inl, inr}
 use Rattle.std.specs.Prelude.{◌==◌}
 use Rattle.std.specs.Option.{is_some}
 use Rattle.std.proofs.lemmas.Bool.{eqb-true, and_parts}
@@ -9,6 +9,7 @@ use Rattle.dense_blocks.specs.Matrices.{zero_matrix}
 use Rattle.block_sparse.specs.BlockComplexes.{BlockComplex, Standing, held, matrix, matrix_or, size_of, with_flag}
 use Rattle.block_sparse.specs.Candidates.{is_candidate, is_unflagged}
 use Rattle.block_sparse.specs.Cochains.{IsOver}
+use Rattle.pair_find.specs.Pairs.{IsNextFrom}
 
 unflagged-some : (o : Option Standing) → is_unflagged o ≡ true → is_some o ≡ true
 unflagged-some None e = absurd (let f : false ≡ true = e in cc)
@@ -46,3 +47,10 @@ flagged-over K v w s t over live flagged p q =
     (λ e. let h = and_parts (p == s) (q == t) e in (eqb-true p s h.0, eqb-true q t h.1))
     ∙ ap (λ l. matrix_or (held v p q) (zero_matrix (size_of l q) (size_of l p))) live in
     subst (All (AllScalars K)) (sym same) (over p q)
+
+-- the next candidate is one
+pub next-candidate : (v : BlockComplex) (from p : ℕ × ℕ) → IsNextFrom v from p → is_candidate v p.0 p.1 ≡ true
+next-candidate v from p h = elim h [
+  | inl a ↦ a.candidate
+  | inr b ↦ b.1.candidate
+]

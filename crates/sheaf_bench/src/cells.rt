@@ -20,7 +20,9 @@ pub(crate) fn start<F: Scalars>(alloc: Global, sheaf: &Sheaf<F>) -> Result<Block
     ensures { IfOk result (λ b. IsOver (F.ops sheaf.now.field) b) }
 {
     start_is_over_the_field();
-    full(alloc, sheaf)
+    let _cells = sheaf.draft().complex.dims();
+    let blocks = full(alloc, sheaf)?;
+    Ok(blocks)
 }
 
 pub(crate) fn run_full<R: Clock + AllocGlobal>(rt: &R, cells: u32) -> Result<Report, Failure>

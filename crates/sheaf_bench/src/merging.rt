@@ -91,13 +91,29 @@ pub(crate) fn run_merge<R: Clock + AllocGlobal>(rt: &R, size: u32) -> Result<Rep
     let mut blocks = crossed(rt.alloc(), size)?;
     let foot = footprint(rt.alloc(), &blocks, 2 * size + 1)?;
     let negative = negative(rt.alloc(), &foot)?;
+    time_merge(rt, size, &mut blocks, &foot, &negative)
+}
+
+fn time_merge<R: Clock>(
+    rt: &R,
+    size: u32,
+    blocks: &mut Blocks,
+    foot: &Footprint,
+    negative: &Block,
+) -> Result<Report, Failure>
+    requires positive { 1 ≤ size }
+    requires small { size ≤ 64 }
+    requires joined { MayJoin blocks.old.live foot.now.left foot.now.below }
+    requires rows { negative.now.rows ≡ foot.now.corners.rows }
+    requires cols { negative.now.cols ≡ foot.now.corners.cols }
+{
     let rounds = PUT / (size * size);
     let watch = Watch::start(rt);
-    merge(&mut blocks, &foot, &negative, rounds)?;
+    merge(blocks, foot, negative, rounds)?;
     let time = watch.time(rt);
     Ok(Report::Timed {
-        count: rounds * size * size,
-        checksum: blocks_checksum(&blocks),
+        count: rounds.saturating_mul(size * size),
+        checksum: blocks_checksum(blocks),
         time,
     })
 }

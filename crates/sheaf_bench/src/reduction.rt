@@ -8,14 +8,16 @@ use crate::cells::start;
 use crate::checksums::mixed;
 use crate::failure::Failure;
 use crate::report::{Reduced, Report, Watch, sum_of_times};
-use crate::sheaves::{FIELD, sealed, torus_sheaf};
+use crate::sheaves::torus_sheaf;
 use crate::texts::input_text;
 use crate::torus::rows_of;
 use block_sparse::Blocks;
 use dense_blocks::Scalars;
+use field_table::Field;
 use pair_find::next_candidate;
 use reduce_step::{Finish, Footprint, Record};
 use removals::removal_keeps_scalars;
+use sheaf_data::Sheaf;
 use sheaf_text::read;
 use std::alloc::{AllocError as NoMemory, Global};
 use std::rt::Clock;
@@ -43,7 +45,8 @@ fn try_pair<F: Scalars>(
     requires over { IsOver (F.ops f.now) b.old }
     ensures { OnOk result (IsOver (F.ops f.now) b.new) }
 {
-    match finish(alloc, f, b, pair)? {
+    let finish = finish(alloc, f, b, pair)?;
+    match finish {
         Finish::Made(record) => remove(b, record),
         Finish::Singular { .. } => {
             b.flag(pair.0, pair.1);
@@ -94,8 +97,12 @@ fn apply<F: Scalars>(b: &mut Blocks, record: Record<F>) -> Result<(), NoMemory>
     ensures { OnOk result (IsOver (F.ops record.f) b.new) }
 {
     removal_keeps_scalars();
+    let _old = b.live();
     match record.apply(b) {
-        Ok(_) => Ok(()),
+        Ok(_) => {
+            let _new = b.live();
+            Ok(())
+        }
         Err((_, fault)) => Err(fault),
     }
 }
@@ -156,10 +163,18 @@ fn reduce<F: Scalars>(alloc: Global, f: &F, b: &mut Blocks) -> Result<Reduced, F
     })
 }
 
+/// The sheaf of a text.
+fn sheaf_of(alloc: Global, text: &[u8]) -> Result<Sheaf<Field>, Failure> {
+    let input = read(alloc, text)?;
+    match input.draft.seal() {
+        Ok(sheaf) => Ok(sheaf),
+        Err(_) => Err(Failure::Input),
+    }
+}
+
 /// Reduces the sheaf of a text.
 pub(crate) fn reduce_text(alloc: Global, text: &[u8]) -> Result<Reduced, Failure> {
-    let input = read(alloc, text)?;
-    let sheaf = sealed(input.draft)?;
+    let sheaf = sheaf_of(alloc, text)?;
     let mut blocks = start(alloc, &sheaf)?;
     reduce(alloc, &sheaf.draft().field, &mut blocks)
 }

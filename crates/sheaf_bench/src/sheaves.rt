@@ -72,7 +72,7 @@ fn torus_draft(alloc: Global, size: u32, stalk: u8) -> Result<Draft<Field>, Fail
 }
 
 /// The sheaf of the draft.
-pub(crate) fn sealed(draft: Draft<Field>) -> Result<Sheaf<Field>, Failure> {
+fn sealed(draft: Draft<Field>) -> Result<Sheaf<Field>, Failure> {
     match draft.seal() {
         Ok(sheaf) => Ok(sheaf),
         Err(_) => Err(Failure::Made),
