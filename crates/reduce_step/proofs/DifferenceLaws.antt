@@ -1,13 +1,14 @@
 -- Where a block complex differs from a footprint, by kinds of pairs.
-use Rattle.std.proofs.Common.{◌≡◌, ◌≢◌, ℕ, zero, suc, ◌+◌, ◌<◌, ◌≤◌, Bool, true, false, cond, ◌||◌, ◌&&◌, eqb, List, [], ◌∷◌, length, map, take, drop, get_or, Option, Some, None, option_map, MatchOption, All, refl, sym, ap, ap₂, ◌∙◌, subst, arith, ◌⊎◌, inl, inr}
+use mir.Val.{bool_byte}
+use Rattle.std.proofs.Common.{◌≡◌, ◌≢◌, ℕ, zero, suc, ◌<◌, ◌≤◌, Bool, true, false, cond, ◌||◌, ◌&&◌, eqb, List, [], ◌∷◌, length, map, take, drop, get_or, Option, Some, None, option_map, MatchOption, refl, sym, ap, ap₂, ◌∙◌, subst, arith, ◌⊎◌, inl, inr}
 use Rattle.std.specs.Option.{is_some}
-use Rattle.std.proofs.lemmas.Bool.{cases_eq, cases_lt, cases_Bool, eq-eqb, ne_eqb, eqb-true, and_parts}
+use Rattle.std.proofs.lemmas.Bool.{cases_eq, cases_lt, cases_Bool, eq-eqb, ne_eqb, and_parts}
 use Rattle.std.proofs.lemmas.List.Elements.{All-get_or, All-from_get_or}
 use Rattle.std.proofs.lemmas.List.{get_or-map, get_or-take, length-map, length-take, take-map}
 use Rattle.dense_blocks.specs.Blocks.{matrix_of}
 use Rattle.dense_blocks.specs.declared.block.Block.{Block}
 use Rattle.rising_lists.specs.Rising.{IsRising, has, keys}
-use Rattle.rising_lists.proofs.Keyed.{place_of, has-at, rising_tail, rising_le, head-absent}
+use Rattle.rising_lists.proofs.Keyed.{place_of, rising_tail, rising_le, head-absent}
 use Rattle.block_sparse.specs.BlockComplexes.{BlockComplex, AreLive, cells, held, matrix, size_of}
 use Rattle.block_sparse.specs.Grids.{width, AreSized, IsJoined, IsFirstOther, segment, part, columns_of}
 use Rattle.block_sparse.proofs.GridLaws.{key-listed, map-same}
@@ -160,13 +161,13 @@ module _ (live : List (ℕ × ℕ × ℕ)) (x n : ℕ) (ls : List (ℕ × ℕ)) 
 
   -- the cell after the first ones that are live with their sizes
   not-live : (m : ℕ) → m < length ls → (IsSized live (get_or ls m (0, 0)).0 (get_or ls m (0, 0)).1 → ⊥) → IsLiveAs live all_cells (get_or ls m (0, 0)).0 → ⊥
-  not-live m l no s =
-      no (subst (IsSized live (get_or ls m (0, 0)).0) (size-at ls m rises l) (sized-too (get_or ls m (0, 0)).0 (key-listed ls m l) s))
+  not-live m l other s =
+      other (subst (IsSized live (get_or ls m (0, 0)).0) (size-at ls m rises l) (sized-too (get_or ls m (0, 0)).0 (key-listed ls m l) s))
 
   -- a cell up to which all are live with their sizes is one of those first ones
   pub reached : (m c : ℕ) → (m < length ls → IsSized live (get_or ls m (0, 0)).0 (get_or ls m (0, 0)).1 → ⊥) → has c (keys ls) ≡ true
       → ((k : ℕ) → has k (keys all_cells) ≡ true → k ≤ c → IsLiveAs live all_cells k) → has c (keys (take m ls)) ≡ true
-  reached m c no h up =
+  reached m c other h up =
       let p = place_of (keys ls) c h in
       let l : p.at < length ls = omega (arith, p.inside, length-map ls (λ s. s.0)) in
       let is : (get_or ls p.at (0, 0)).0 ≡ c = sym (get_or-map (λ s. s.0) ls p.at (0, 0) 0 l) ∙ p.is in
@@ -177,12 +178,12 @@ module _ (live : List (ℕ × ℕ × ℕ)) (x n : ℕ) (ls : List (ℕ × ℕ)) 
         | inr u ↦
             let k : m < length ls = omega arith in
             let e : get_or (keys ls) m 0 ≡ (get_or ls m (0, 0)).0 = get_or-map (λ s. s.0) ls m (0, 0) 0 k in
-            absurd (not-live m k (no k) (up (get_or ls m (0, 0)).0 (listed-too (get_or ls m (0, 0)).0 (key-listed ls m k))
+            absurd (not-live m k (other k) (up (get_or ls m (0, 0)).0 (listed-too (get_or ls m (0, 0)).0 (key-listed ls m k))
             (omega (arith, e, p.is, rising_le (keys ls) rises m p.at (omega arith) p.inside))))
       ]
 
   -- the first cell that is not live with its size
-  module _ (m : ℕ) (within : m ≤ length ls) (sized : AreSized live (take m ls)) (no : m < length ls → IsSized live (get_or ls m (0, 0)).0 (get_or ls m (0, 0)).1 → ⊥) where
+  module _ (m : ℕ) (within : m ≤ length ls) (sized : AreSized live (take m ls)) (other : m < length ls → IsSized live (get_or ls m (0, 0)).0 (get_or ls m (0, 0)).1 → ⊥) where
     before-first : (c k : ℕ) → has k (keys ls) ≡ true → (m < length ls → k < (get_or ls m (0, 0)).0) → IsLiveAs live all_cells k
     before-first c k h l =
         let p = place_of (keys ls) k h in
@@ -203,7 +204,7 @@ module _ (live : List (ℕ × ℕ × ℕ)) (x n : ℕ) (ls : List (ℕ × ℕ)) 
         let c : ℕ = (get_or ls m (0, 0)).0 in
         record {
           is_listed = listed-too c (key-listed ls m l);
-          is_not = not-live m l (no l);
+          is_not = not-live m l (other l);
           first = λ k h u. elim (cell-of x ls k h) [
             | inl e ↦ elim one [
               | inl s ↦ subst (IsLiveAs live all_cells) e (live-one s)
@@ -240,7 +241,7 @@ one-of c q h = elim (cases_eq c q) [
   | inr d ↦ let e : false ≡ true = sym (ap (λ b. b || false) (ne_eqb c q d)) ∙ h in cc
 ]
 
-taken-one : (k c n q : ℕ) → has q (keys (take k ((c, n) ∷ []))) ≡ true → (0 < k) × (take k ((c, n) ∷ []) ≡ (c, n) ∷ []) × (c ≡ q)
+taken-one : (k c n q : ℕ) → has q (keys (take k ((c, n) ∷ []))) ≡ true → (0 < k) × (take {A = ℕ × ℕ} k ((c, n) ∷ []) ≡ (c, n) ∷ []) × (c ≡ q)
 taken-one zero c n q h = let e : false ≡ true = h in cc
 taken-one (suc zero) c n q h = (omega arith, refl, one-of c q h)
 taken-one (suc (suc k)) c n q h = (omega arith, refl, one-of c q h)
@@ -250,6 +251,22 @@ pub rising-take : (n : ℕ) (ls : List (ℕ × ℕ)) → IsRising (keys ls) → 
 rising-take n ls r = subst IsRising (take-map (λ l. l.0) n ls) (λ i j u l.
     let inside : (j < n) × (j < length (keys ls)) = (omega (arith, length-take n (keys ls)), omega (arith, length-take n (keys ls))) in
     omega (arith, r i j u inside.1, get_or-take n (keys ls) i 0 (omega (arith, inside.0)), get_or-take n (keys ls) j 0 inside.0))
+
+-- one cell is counted where it is live with its size
+pub counted-one : (b : Bool) (k : ℕ) (P : Type 0) → k ≡ bool_byte b → (b ≡ true → P) × (P → b ≡ true) → (0 < k → P) × (P → 0 < k)
+counted-one true k P e d = (λ l. d.0 refl, λ p. omega arith)
+counted-one false k P e d = (λ l. absurd (omega arith), λ p. let f : false ≡ true = d.1 p in cc)
+
+pub taken-rises_as : (n : ℕ) (ls all : List (ℕ × ℕ)) → ls ≡ all → IsRising (keys all) → IsRising (keys (take n ls))
+taken-rises_as n ls all e r = subst (λ ls. IsRising (keys (take n ls))) (sym e) (rising-take n all r)
+
+pub taken-width_as : (n m : ℕ) (ls all : List (ℕ × ℕ)) → ls ≡ all → m ≡ width all → width (take n ls) ≤ m
+taken-width_as n m ls all e w = subst (λ ls. width (take n ls) ≤ m) (sym e) (omega (arith, width-take all n))
+
+taken-first : {T : Type 0} (k i : ℕ) (x d : T) → i < length (take k (x ∷ [])) → get_or (take k (x ∷ [])) i d ≡ x
+taken-first zero i x d l = absurd (omega arith)
+taken-first (suc k) zero x d l = refl
+taken-first {T} (suc k) (suc i) x d l = absurd (omega (arith, length-take {A = T} k []))
 
 -- a list of one cell, as far as that is live with a size
 module _ (live : List (ℕ × ℕ × ℕ)) (k c n : ℕ) where
@@ -261,11 +278,9 @@ module _ (live : List (ℕ × ℕ × ℕ)) (k c n : ℕ) where
 
   pub taken-sized : (0 < k → IsSized live c n) → AreSized live (take k ((c, n) ∷ []))
   taken-sized h = All-from_get_or (λ l. IsSized live l.0 l.1) (take k ((c, n) ∷ [])) (0, 0) (λ i l.
-      let at : (0 < k) × (i ≡ 0) = (omega (arith, length-take k ((c, n) ∷ [])), omega (arith, length-take k ((c, n) ∷ []))) in
-      subst (λ l. IsSized live l.0 l.1)
-      (sym (ap (λ i. get_or (take k ((c, n) ∷ [])) i (0, 0)) at.1 ∙ get_or-take k ((c, n) ∷ []) 0 (0, 0) at.0)) (h at.0))
+      subst (λ (l : ℕ × ℕ). IsSized live l.0 l.1) (sym (taken-first k i (c, n) (0, 0) l)) (h (omega (arith, length-take {A = ℕ × ℕ} k ((c, n) ∷ [])))))
 
-  pub taken-same : (0 < k → IsSized live c n) → take k ((c, size_of live c) ∷ []) ≡ take k ((c, n) ∷ [])
+  pub taken-same : (0 < k → IsSized live c n) → take {A = ℕ × ℕ} k ((c, size_of live c) ∷ []) ≡ take k ((c, n) ∷ [])
   taken-same h = elim (cases_lt 0 k) [
     | inl l ↦ ap (λ m. take k ((c, m) ∷ [])) (h l).1
     | inr l ↦
@@ -297,7 +312,7 @@ module _ (v : BlockComplex) (foot : Footprint) where
   ]
 
   -- the first other part of a joined matrix is the first difference among its pairs
-  record Lies (ls bs : List (ℕ × ℕ)) (A : List (List ℕ)) (s t : ℕ) : Type 0 where
+  pub record Lies (ls bs : List (ℕ × ℕ)) (A : List (List ℕ)) (s t : ℕ) : Type 0 where
     pub copied : is_copied foot s t ≡ true
     pub from : IsLiveAs v.live (sources foot) s
     pub to : IsLiveAs v.live (targets foot) t

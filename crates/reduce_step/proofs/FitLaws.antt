@@ -1,5 +1,5 @@
 -- Where nothing differs from a footprint, it is the footprint of the blocks as they stand.
-use Rattle.std.proofs.Common.{◌≡◌, ℕ, zero, suc, ◌≤◌, Bool, true, false, ◌||◌, ◌&&◌, eqb, List, [], ◌∷◌, get_or, refl, sym, ap, ap₂, ◌∙◌, subst, arith, inl, inr}
+use Rattle.std.proofs.Common.{◌≡◌, ℕ, zero, suc, ◌≤◌, Bool, true, false, ◌||◌, ◌&&◌, List, [], ◌∷◌, get_or, refl, sym, ap, ap₂, ◌∙◌, subst, arith, inl, inr}
 use Rattle.std.specs.Prelude.{◌==◌, not}
 use Rattle.std.specs.List.{list_all}
 use Rattle.std.specs.Option.{is_some}
@@ -19,7 +19,7 @@ use Rattle.block_sparse.specs.Grids.{segment, part, columns_of, IsJoined}
 use Rattle.block_sparse.proofs.ScalarBlocks.{matrix-none, not-held}
 use Rattle.reduce_step.specs.declared.footprint.Footprint.{Footprint}
 use Rattle.reduce_step.specs.Footprints.{IsFootprint}
-use Rattle.reduce_step.specs.Differences.{sources, targets, is_copied, Fits, IsKept, IsSized}
+use Rattle.reduce_step.specs.Differences.{sources, targets, Fits, IsKept, IsSized}
 use Rattle.reduce_step.proofs.PartLaws.{row-part, column-part}
 use Rattle.reduce_step.proofs.DifferenceLaws.{not-both, and_false, live-size, both-listed, listed-one, listed-too, sized-one, all-sized, one-of, kept-at, not_x, not_y}
 

@@ -1,7 +1,6 @@
-use Rattle.std.proofs.Common.{◌≡◌, ◌+◌, ℕ, true, is_some, sym, ap, ◌∙◌, subst}
+use Rattle.std.proofs.Common.{sym, ap, ◌∙◌, subst}
 use Rattle.dense_blocks.specs.Blocks.{matrix_of}
-use Rattle.rising_lists.specs.Rising.{IsRising, has, keys}
-use Rattle.block_sparse.specs.BlockComplexes.{degree_of}
+use Rattle.rising_lists.specs.Rising.{has, keys}
 use Rattle.block_sparse.specs.Cochains.{IsOver}
 use Rattle.block_sparse.specs.Grids.{AreSized}
 use Rattle.removals.specs.Removals.{IsRemoval, KeepsFlags}
@@ -11,8 +10,31 @@ use Rattle.reduce_step.proofs.ApplyLaws.{record-removed}
 use Rattle.reduce_step.proofs.FitLaws.{fit-footprint, fit-stands}
 use Rattle.reduce_step.proofs.record.Record.remove.Goals as goal
 
-pub set_grid-requires : goal.set_grid-requires
-set_grid-requires g c = ?
+pub set_grid-requires-clause-left_sized : goal.set_grid-requires-clause-left_sized
+set_grid-requires-clause-left_sized g c =
+    let v = c.args.b.now in
+    let r = c.self.inside in
+    let fits = subst (λ r. Fits v r.foot) (sym c.self.view_is) c.requires.fits in
+    subst (AreSized v.live) (sym c.as_slice.ensures) (fit-footprint (g.F.Scalars.ops r.f) v r.foot fits).left_sized
+
+pub set_grid-requires-clause-below_sized : goal.set_grid-requires-clause-below_sized
+set_grid-requires-clause-below_sized g c =
+    let v = c.args.b.now in
+    let r = c.self.inside in
+    let fits = subst (λ r. Fits v r.foot) (sym c.self.view_is) c.requires.fits in
+    subst (AreSized v.live) (sym c.as_slice-2.ensures) (fit-footprint (g.F.Scalars.ops r.f) v r.foot fits).below_sized
+
+pub set_grid-requires-clause-degrees : goal.set_grid-requires-clause-degrees
+set_grid-requires-clause-degrees g c = λ s t hs ht.
+    let v = c.args.b.now in
+    let r = c.self.inside in
+    let K = g.F.Scalars.ops r.f in
+    let fits = subst (λ r. Fits v r.foot) (sym c.self.view_is) c.requires.fits in
+    let sound = c.live-live.ensures.sound in
+    let stands = fit-stands K v r.foot fits (g.met.F.Scalars.is_field r.f) (matrix_of r.inverse) sound.live_cells c.self.invariant.inverse_is.inverse in
+    let is = fit-footprint K v r.foot fits in
+    listed-degrees v sound r.foot.x r.foot.y r.foot.left r.foot.below (record { stands = stands; on_left = is.left; is_below = is.below }) s t
+    (ap (λ ls. has s (keys ls)) (sym c.as_slice.ensures) ∙ hs) (ap (λ ls. has t (keys ls)) (sym c.as_slice-2.ensures) ∙ ht)
 
 pub returns-clause-removed : goal.returns-clause-removed
 returns-clause-removed g c =
