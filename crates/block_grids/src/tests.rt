@@ -1,5 +1,5 @@
 //! Joined matrices of blocks, over the field of three elements, worked by hand.
-ghost use Rattle.std.specs.Prelude.{◌≡◌, ◌×◌, [], ◌∷◌, IfOk, length};
+ghost use Rattle.std.specs.Prelude.{◌≡◌, [], ◌∷◌, IfOk, length};
 
 use crate::grids::{first_other, grid};
 use block_sparse::Blocks;

@@ -1,5 +1,5 @@
 -- Blocks of scalars, and what they make of a value.
-use Rattle.std.proofs.Common.{◌≡◌, ℕ, zero, suc, ◌+◌, ◌<◌, Bool, true, false, List, [], ◌∷◌, ◌++◌, length, take, drop, get_or, Option, Some, None, option_map, All, refl, sym, ap, ap₂, ◌∙◌, subst, arith}
+use Rattle.std.proofs.Common.{◌≡◌, ℕ, zero, suc, ◌<◌, true, false, List, [], ◌∷◌, length, Option, Some, None, option_map, All, refl, sym, ap, ap₂, ◌∙◌, subst}
 use Rattle.std.specs.Prelude.{◌==◌}
 use Rattle.std.specs.List.{list_all}
 use Rattle.std.specs.Option.{is_some}
@@ -11,7 +11,7 @@ use Rattle.dense_blocks.specs.Matrices.{applied, zero_matrix}
 use Rattle.dense_blocks.specs.Blocks.{matrix_of}
 use Rattle.dense_blocks.specs.declared.block.Block.{Block}
 use Rattle.dense_blocks.proofs.Cutting.{flat}
-use Rattle.dense_blocks.proofs.Shapes.{Vector, Matrix, matrix-rows, matrix-size, to_vector, vector-scalars}
+use Rattle.dense_blocks.proofs.Shapes.{Vector, Matrix, matrix-rows, to_vector, vector-scalars}
 use Rattle.dense_blocks.proofs.BlockLaws.{block-entries, block-matrix, block-size}
 use Rattle.dense_blocks.proofs.MatrixLaws.{zero_matrix-matrix, zero_matrix-applied}
 use Rattle.cochain_vec.specs.Complexes.{sum_into, value_at, total_size}

@@ -1,6 +1,6 @@
 -- Joined matrices of the blocks from some cells to others, and their parts.
-use Rattle.std.specs.Prelude.{◌≡◌, ◌≢◌, ◌==◌, ◌&&◌, ◌+◌, ◌<◌, ◌⊎◌, ℕ, Bool, true, false, List, [], ◌∷◌, Option, Some, None, if◌then◌else◌, map, take, drop, All, MatchOption}
-use Rattle.dense_blocks.specs.Blocks.{matrix_of, IsBlock}
+use Rattle.std.specs.Prelude.{◌≡◌, ◌≢◌, ◌==◌, ◌+◌, ◌<◌, ◌⊎◌, ℕ, true, false, List, [], ◌∷◌, Option, Some, None, if◌then◌else◌, map, take, drop, All, MatchOption}
+use Rattle.dense_blocks.specs.Blocks.{IsBlock}
 use Rattle.dense_blocks.specs.declared.block.Block.{Block}
 use Rattle.rising_lists.specs.Rising.{has, keys}
 use Rattle.block_sparse.specs.BlockComplexes.{BlockComplex, Standing, is_zero, cells, size_of, matrix}

@@ -271,7 +271,7 @@ taken-first {T} (suc k) (suc i) x d l = absurd (omega (arith, length-take {A = T
 -- a list of one cell, as far as that is live with a size
 module _ (live : List (ℕ × ℕ × ℕ)) (k c n : ℕ) where
   pub taken-rises : IsRising (keys (take k ((c, n) ∷ [])))
-  taken-rises = rising-take k ((c, n) ∷ []) (one-rises c n ((c, n) ∷ []) refl)
+  taken-rises = rising-take k ((c, n) ∷ []) (one-rises c)
 
   pub taken-width : width (take k ((c, n) ∷ [])) ≤ n
   taken-width = omega (arith, width-take ((c, n) ∷ []) k)

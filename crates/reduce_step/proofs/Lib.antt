@@ -1,6 +1,7 @@
 pub mod ListLaws
 pub mod PartLaws
 pub mod CopyLaws
+pub mod FinishLaws
 pub mod FirstLaws
 pub mod DifferenceLaws
 pub mod ApplyLaws

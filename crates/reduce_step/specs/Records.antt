@@ -1,5 +1,5 @@
 -- Records: footprints with an inverse of the pivot.
-use Rattle.std.specs.Prelude.{◌≡◌, ℕ, List}
+use Rattle.std.specs.Prelude.{ℕ, List}
 use Rattle.dense_blocks.specs.Field.{Ops}
 use Rattle.dense_blocks.specs.Vectors.{AllScalars}
 use Rattle.dense_blocks.specs.Matrices.{product, matrix_sum, matrix_negative}

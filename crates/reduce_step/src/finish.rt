@@ -2,7 +2,6 @@ ghost use Rattle.std.specs.Prelude.{◌≡◌, IfOk, IfErr};
 ghost use Rattle.dense_blocks.specs.Vectors.{AllScalars};
 ghost use Rattle.dense_blocks.specs.Blocks.{matrix_of, IsBlock};
 ghost use Rattle.dense_blocks.specs.Inverses.{IsInverseBlock, Inverts};
-ghost use Rattle.dense_blocks.specs.declared.inverse.Inverse.TheVariants.{Singular};
 ghost use Rattle.reduce_step.specs.Footprints.{IsOverField};
 ghost use Rattle.reduce_step.specs.Records.{reduced};
 
@@ -34,9 +33,9 @@ impl Footprint {
 
     /// Inverts the pivot and computes the new corners; where the pivot has no inverse, gives a vector that shows it.
     ///
-    /// All entries are scalars of the field. Takes the time of [`invert`] and then, for a pivot of n rows, n(n + m) products of
-    /// scalars for each column of the corners and as many sums, where m is the number of rows of the corners. Fails only where memory
-    /// does, and then the footprint comes back.
+    /// All entries are scalars of the field. Takes the time of [`invert`] and then, for a pivot of n rows and corners of m rows,
+    /// n(n + m) products of scalars, n negatives and m + n(n + m) sums for each column of the corners. Fails only where memory does,
+    /// and then the footprint comes back.
     pub fn finish<F: Scalars>(
         self,
         alloc: Global,
@@ -54,7 +53,7 @@ impl Footprint {
 
     /// Computes the new corners with the inverse of the pivot that is handed in.
     ///
-    /// All entries are scalars of the field. Takes the products of [`Footprint::finish`] without the inversion. Fails only where
+    /// All entries are scalars of the field. Takes the time of [`Footprint::finish`] without the inversion. Fails only where
     /// memory does, and then the footprint and the inverse come back.
     pub fn finish_with<F: Scalars>(
         self,
@@ -93,7 +92,15 @@ impl Footprint {
     {
         match inverse {
             Inverse::Both(inverse) => self.made(alloc, f, inverse),
-            Inverse::Singular(kernel) => Ok(self.singular(f, kernel)),
+            Inverse::Singular(kernel) => {
+                let Footprint { x, y, pivot, .. } = self;
+                Ok(Finish::Singular {
+                    x,
+                    y,
+                    pivot,
+                    kernel,
+                })
+            }
         }
     }
 
@@ -114,21 +121,6 @@ impl Footprint {
             Err((foot, _, fault)) => Err((foot, fault)),
         }
     }
-
-    /// The pivot with a vector of its kernel.
-    fn singular<F: Scalars>(self, f: &F, kernel: Vec<u8>) -> Finish<F>
-        requires { Inverts (F.ops f.now) self.pivot (Singular kernel) }
-        ensures { Finishes (F.ops f.now) f.now self result }
-    {
-        let _field = f;
-        let Footprint { x, y, pivot, .. } = self;
-        Finish::Singular {
-            x,
-            y,
-            pivot,
-            kernel,
-        }
-    }
 }
 
 /// The corners less the column times the inverse times the row.
@@ -144,8 +136,8 @@ fn new_corners<F: Scalars>(
     ensures scalars { IfOk result (λ c. AllScalars (F.ops f.now) c.entries) }
 {
     let moved = product(alloc, f, inverse, &foot.row)?;
-    let change = product(alloc, f, &foot.column, &moved)?;
-    let negative = minus(alloc, f, &change)?;
-    let corners = sum(alloc, f, &foot.corners, &negative)?;
+    let negative = minus(alloc, f, &moved)?;
+    let change = product(alloc, f, &foot.column, &negative)?;
+    let corners = sum(alloc, f, &foot.corners, &change)?;
     Ok(corners)
 }

@@ -1,7 +1,7 @@
 //! Records compared with block complexes that have changed, on the circle over the field of two elements.
 use crate::differing::Differs;
 use crate::record::Record;
-use crate::tests::{circle, copy, put, record};
+use crate::samples::{circle, copy, put, record};
 use block_sparse::Blocks;
 use dense_blocks::Two;
 use std::alloc::{AllocError as NoMemory, Global};

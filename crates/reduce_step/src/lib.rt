@@ -11,6 +11,8 @@ mod fits_tests;
 mod footprint;
 mod record;
 #[cfg(test)]
+mod samples;
+#[cfg(test)]
 mod tests;
 
 pub use differing::Differs;

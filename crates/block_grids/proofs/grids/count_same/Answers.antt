@@ -1,8 +1,7 @@
-use Rattle.std.proofs.Common.{◌≡◌, ◌<◌, ◌≤◌, ◌+◌, ℕ, true, false, ap, ap₂, ◌∙◌, sym, subst, length, get_or, take, arith, inl, inr, rules}
+use Rattle.std.proofs.Common.{◌≡◌, ◌<◌, ◌≤◌, ℕ, true, ap, ◌∙◌, sym, subst, length, get_or, arith, inl, inr, rules}
 use Rattle.std.proofs.lemmas.Bool.{cases_lt}
 use Rattle.dense_blocks.specs.Blocks.{matrix_of}
-use Rattle.rising_lists.specs.Rising.{entry}
-use Rattle.block_sparse.specs.Grids.{width, window}
+use Rattle.block_sparse.specs.Grids.{window}
 use Rattle.block_grids.specs.Joined.{corner, IsSamePart}
 use Rattle.block_sparse.proofs.Windows.{width-next, width-within}
 use Rattle.block_grids.proofs.WalkLaws.{all-passed, next-passed}

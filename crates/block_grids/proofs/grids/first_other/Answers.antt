@@ -1,10 +1,7 @@
-use Rattle.std.proofs.Common.{◌≡◌, ◌<◌, ◌≤◌, ◌+◌, ◌++◌, ℕ, List, true, ap, ◌∙◌, sym, subst, length, get_or, take, arith}
+use Rattle.std.proofs.Common.{◌<◌, ◌+◌, ℕ, sym, subst, length, get_or, arith}
 use Rattle.dense_blocks.specs.Blocks.{matrix_of}
-use Rattle.rising_lists.specs.Rising.{has, line_of}
-use Rattle.block_sparse.specs.BlockComplexes.{cells}
-use Rattle.block_sparse.specs.Invariants.{IsSound}
+use Rattle.rising_lists.specs.Rising.{line_of}
 use Rattle.block_grids.specs.Joined.{AreShaped, IsSamePart}
-use Rattle.block_sparse.proofs.GridLaws.{key-listed, sized-live}
 use Rattle.block_sparse.proofs.Windows.{width-next, width-within}
 use Rattle.block_grids.proofs.JoinLaws.{rows-shaped}
 use Rattle.block_grids.proofs.OtherLaws.{IsEarliest, SameAt, earliest-less, earliest-kept, no-other, first-other}

@@ -1,10 +1,7 @@
-use Rattle.std.proofs.Common.{◌≡◌, ◌<◌, ◌≤◌, ◌+◌, ◌++◌, ◌∷◌, ℕ, List, ap, ap₂, ◌*◌, ◌∙◌, sym, subst, length, get_or, take, arith}
+use Rattle.std.proofs.Common.{◌<◌, ◌≤◌, ◌++◌, ℕ, List, ap, ap₂, ◌*◌, ◌∙◌, sym, subst, length, get_or, arith}
 use Rattle.std.proofs.lemmas.List.{take_all}
-use Rattle.rising_lists.specs.Rising.{has, line_of}
-use Rattle.block_sparse.specs.BlockComplexes.{cells}
-use Rattle.block_sparse.specs.Invariants.{IsSound}
+use Rattle.rising_lists.specs.Rising.{line_of}
 use Rattle.block_grids.specs.Joined.{AreShaped, joined_entries, joined_rows}
-use Rattle.block_sparse.proofs.GridLaws.{key-listed, sized-live}
 use Rattle.block_grids.proofs.WalkLaws.{pieces-next}
 use Rattle.block_grids.proofs.JoinLaws.{entries-full, joined-parts, rows-shaped, width-live}
 use Rattle.block_grids.proofs.grids.grid.Goals as goal

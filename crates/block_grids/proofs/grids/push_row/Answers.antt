@@ -1,4 +1,4 @@
-use Rattle.std.proofs.Common.{◌≡◌, ◌<◌, ◌≤◌, ◌+◌, ◌++◌, ℕ, List, ap, ◌∙◌, sym, subst, length, get_or, take, append_assoc, arith}
+use Rattle.std.proofs.Common.{◌<◌, ◌≤◌, ◌++◌, ℕ, List, ap, ◌∙◌, sym, subst, length, get_or, take, append_assoc, arith}
 use Rattle.rising_lists.specs.Rising.{entry}
 use Rattle.block_grids.specs.Joined.{corner_row, joined_row}
 use Rattle.block_grids.proofs.WalkLaws.{all-passed, next-passed, pieces-next}

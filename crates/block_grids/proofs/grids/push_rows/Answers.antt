@@ -1,4 +1,4 @@
-use Rattle.std.proofs.Common.{◌≡◌, ◌<◌, ◌++◌, ℕ, ap, ◌∙◌, sym, append_assoc, arith}
+use Rattle.std.proofs.Common.{◌++◌, ℕ, ap, ◌∙◌, sym, append_assoc, arith}
 use Rattle.block_grids.specs.Joined.{joined_row, joined_rows}
 use Rattle.block_grids.proofs.JoinLaws.{joined_rows-next, shaped-row}
 use Rattle.block_grids.proofs.grids.push_rows.Goals as goal

@@ -1,4 +1,4 @@
-use Rattle.std.proofs.Common.{◌≡◌, ◌<◌, ◌≤◌, ◌+◌, ℕ, length, arith}
+use Rattle.std.proofs.Common.{◌<◌, ℕ, length, arith}
 use Rattle.block_sparse.proofs.Windows.{width-next, width-within}
 use Rattle.block_grids.proofs.grids.total.Goals as goal
 

@@ -1,4 +1,4 @@
-use Rattle.std.proofs.Common.{◌≡◌, ◌≢◌, ◌<◌, ◌≤◌, ℕ, ap, ◌∙◌, sym, subst, length, get_or, arith}
+use Rattle.std.proofs.Common.{◌≡◌, ◌≢◌, ◌<◌, ◌≤◌, ap, ◌∙◌, sym, subst, length, get_or, arith}
 use Rattle.rising_lists.proofs.Keyed.{look-found, look-absent}
 use Rattle.block_grids.proofs.WalkLaws.{absent-from}
 use Rattle.block_grids.proofs.grids.value_at.Goals as goal
