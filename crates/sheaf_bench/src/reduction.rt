@@ -78,27 +78,27 @@ fn finish<F: Scalars>(
 }
 
 /// Makes a removal.
-fn remove<F: Scalars>(b: &mut Blocks, record: Record<F>) -> Result<Tried, Failure>
-    requires { IsOver (F.ops record.f) b.old }
-    ensures { OnOk result (IsOver (F.ops record.f) b.new) }
+fn remove<F: Scalars>(b: &mut Blocks, made: Record<F>) -> Result<Tried, Failure>
+    requires { IsOver (F.ops made.f) b.old }
+    ensures { OnOk result (IsOver (F.ops made.f) b.new) }
 {
-    let tried = removed(&record.foot);
-    match record.fits(b) {
-        Ok(()) => apply(b, record)?,
+    let tried = removed(&made.foot);
+    match made.fits(b) {
+        Ok(()) => apply(b, made)?,
         Err(_) => return Err(Failure::Made),
     }
     Ok(tried)
 }
 
 /// Applies a record that fits.
-fn apply<F: Scalars>(b: &mut Blocks, record: Record<F>) -> Result<(), NoMemory>
-    requires fits { Fits b.old record.foot }
-    requires over { IsOver (F.ops record.f) b.old }
-    ensures { OnOk result (IsOver (F.ops record.f) b.new) }
+fn apply<F: Scalars>(b: &mut Blocks, made: Record<F>) -> Result<(), NoMemory>
+    requires fits { Fits b.old made.foot }
+    requires over { IsOver (F.ops made.f) b.old }
+    ensures { OnOk result (IsOver (F.ops made.f) b.new) }
 {
     removal_keeps_scalars();
     let _old = b.live();
-    match record.apply(b) {
+    match made.apply(b) {
         Ok(_) => {
             let _new = b.live();
             Ok(())
