@@ -84,10 +84,12 @@ fn remove<F: Scalars>(b: &mut Blocks, made: Record<F>) -> Result<Tried, Failure>
 {
     let tried = removed(&made.foot);
     match made.fits(b) {
-        Ok(()) => apply(b, made)?,
-        Err(_) => return Err(Failure::Made),
+        Ok(()) => {
+            apply(b, made)?;
+            Ok(tried)
+        }
+        Err(_) => Err(Failure::Made),
     }
-    Ok(tried)
 }
 
 /// Applies a record that fits.
