@@ -2,8 +2,8 @@ use Rattle.std.proofs.Common.{◌≡◌, ℕ}
 use Rattle.sheaf_bench.proofs.StepLaws.{candidate-stands, candidate-square, finishes-field}
 use Rattle.sheaf_bench.proofs.reduction.finish.Goals as goal
 
-pub copy-foot-requires : goal.copy-foot-requires
-copy-foot-requires g c =
+pub copy-requires : goal.copy-requires
+copy-requires g c =
     let v = c.args.b.now in
     let s : ℕ = c.args.pair.0 in
     let t : ℕ = c.args.pair.1 in
