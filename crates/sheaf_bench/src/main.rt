@@ -60,8 +60,6 @@ mod sequence;
 mod sheaves;
 mod simplex;
 mod solving;
-#[cfg(test)]
-mod tests;
 mod texts;
 mod torus;
 mod workload;

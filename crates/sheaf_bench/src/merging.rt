@@ -1,4 +1,5 @@
-ghost use Rattle.std.specs.Prelude.{◌≡◌, ◌≤◌, IfOk, OnOk};
+ghost use Rattle.std.specs.Prelude.{◌≡◌, ◌≤◌, true, is_some, IfOk, OnOk};
+ghost use Rattle.block_sparse.specs.BlockComplexes.{held, size_of};
 ghost use Rattle.sheaf_bench.specs.Merges.{MayJoin};
 
 use crate::checksums::blocks_checksum;
@@ -122,13 +123,23 @@ fn time_merge<R: Clock>(
 fn footprint(alloc: Global, blocks: &Blocks, y: u32) -> Result<Footprint, Failure>
     ensures { IfOk result (λ foot. MayJoin blocks.now.live foot.left foot.below) }
 {
-    let _live = blocks.live();
     if blocks.get(0, y).is_some() && blocks.size(0) == blocks.size(y) {
-        let foot = Footprint::copy(alloc, blocks, 0, y)?;
+        let foot = copied(alloc, blocks, y)?;
         Ok(foot)
     } else {
         Err(Failure::Made)
     }
+}
+
+/// That footprint, where a square block stands.
+fn copied(alloc: Global, blocks: &Blocks, y: u32) -> Result<Footprint, NoMemory>
+    requires stands { is_some (held blocks.now 0 y) ≡ true }
+    requires square { size_of blocks.now.live y ≡ size_of blocks.now.live 0 }
+    ensures { IfOk result (λ foot. MayJoin blocks.now.live foot.left foot.below) }
+{
+    let _live = blocks.live();
+    let foot = Footprint::copy(alloc, blocks, 0, y)?;
+    Ok(foot)
 }
 
 /// The negative of the corners.
