@@ -1,45 +1,53 @@
-ghost use Rattle.std.specs.Prelude.{◌≤◌};
+ghost use Rattle.std.specs.Prelude.{◌≡◌, ◌≤◌, IfOk};
+ghost use Rattle.dense_blocks.specs.Vectors.{AllScalars};
+ghost use Rattle.dense_blocks.specs.Two.{two};
 
 use crate::checksums::checksum;
-use crate::runs::{Outcome, sum_of, time_solve};
+use crate::failure::Failure;
+use crate::report::{Report, Watch};
 use crate::sequence::Sequence;
-use anyhow::Result;
-use dense_blocks::{Inverse, Two, invert, product};
+use dense_blocks::{Block, Inverse, Two, invert, product};
+use std::alloc::{AllocError as NoMemory, Global};
 use std::rt::Clock;
-use std::time::Instant;
 
-pub(crate) fn run_invert<R: Clock + AllocGlobal>(rt: &R, size: u32) -> Result<Outcome>
+pub(crate) fn run_invert<R: Clock + AllocGlobal>(rt: &R, size: u32) -> Result<Report, Failure>
     requires positive { 1 ≤ size }
     requires small { size ≤ 1024 }
 {
+    let a = invertible(rt.alloc(), size)?;
+    time_invert(rt, 2 * size * size * size, &a)
+}
+
+/// A block that has an inverse: a product of two triangles.
+fn invertible(alloc: Global, size: u32) -> Result<Block, NoMemory>
+    requires positive { 1 ≤ size }
+    requires small { size ≤ 1024 }
+    ensures square { IfOk result (λ b. b.rows ≡ b.cols) }
+    ensures scalars { IfOk result (λ b. AllScalars two b.entries) }
+{
     let mut sequence = Sequence::new();
-    let lower = sequence.triangle(rt.alloc(), size, false)?;
-    let upper = sequence.triangle(rt.alloc(), size, true)?;
-    let a = product(rt.alloc(), &Two, &lower, &upper)?;
-    let start = Instant::now(rt)?;
-    let inverse = invert(rt.alloc(), &Two, &a)?;
-    let time = start.elapsed(rt)?;
-    let checksum = match &inverse {
-        Inverse::Both(block) => checksum(1, block.entries.as_slice()),
-        Inverse::Singular(vector) => checksum(2, vector),
-    };
-    Ok(Outcome {
-        count: 2 * size * size * size,
-        checksum,
+    let lower = sequence.triangle(alloc, size, false)?;
+    let upper = sequence.triangle(alloc, size, true)?;
+    product(alloc, &Two, &lower, &upper)
+}
+
+fn time_invert<R: Clock + AllocGlobal>(rt: &R, count: u32, a: &Block) -> Result<Report, Failure>
+    requires square { a.now.rows ≡ a.now.cols }
+    requires scalars { AllScalars two a.now.entries }
+{
+    let watch = Watch::start(rt);
+    let inverse = invert(rt.alloc(), &Two, a)?;
+    let time = watch.time(rt);
+    Ok(Report::Timed {
+        count,
+        checksum: inverse_checksum(&inverse),
         time,
     })
 }
 
-/// How many coordinates the columns of `wide` have.
-const FEW: u32 = 16;
-
-pub(crate) fn run_wide<R: Clock + AllocGlobal>(rt: &R, size: u32) -> Result<Outcome>
-    requires { size ≤ 4096 }
-{
-    let few = FEW as usize;
-    let columns = Sequence::new().columns(rt.alloc(), size as usize, few, few)?;
-    let sum = sum_of(rt.alloc(), few, &columns)?;
-    let rank = size.min(FEW);
-    let count = FEW * rank * (2 * size - rank + 1);
-    time_solve(rt, count, &columns, &sum)
+fn inverse_checksum(inverse: &Inverse) -> u32 {
+    match inverse {
+        Inverse::Both(block) => checksum(1, block.entries.as_slice()),
+        Inverse::Singular(vector) => checksum(2, vector),
+    }
 }

@@ -1,7 +1,7 @@
 ghost use Rattle.std.specs.Prelude.{◌≤◌};
 ghost use Rattle.cell_complex.specs.Complexes.{AreCells};
 
-use anyhow::{Result, ensure};
+use crate::failure::Failure;
 use cell_complex::{Complex, Face, Sign};
 use std::alloc::{AllocError as NoMemory, Global};
 
@@ -18,18 +18,39 @@ pub struct Simplex {
 
 impl Simplex {
     /// The simplex with so many vertices; with 12 there are 4,096 cells.
-    pub fn of(alloc: Global, vertices: u32) -> Result<Simplex>
+    pub fn of(alloc: Global, vertices: u32) -> Result<Simplex, Failure>
         requires { vertices ≤ 12 }
     {
-        let mut dims = Vec::new(alloc);
-        let mut faces = Vec::new(alloc);
-        for cell in 0..1u32 << vertices {
-            dims.push(cell.count_ones().saturating_sub(1) as u8)?;
-            add_faces(&mut faces, cell, vertices)?;
+        let dims = dims_of(alloc, vertices)?;
+        let faces = faces_of(alloc, vertices)?;
+        if Complex::fits(&dims) {
+            Ok(Simplex { dims, faces })
+        } else {
+            Err(Failure::Made)
         }
-        ensure!(Complex::fits(&dims), "these are no cells of a complex");
-        Ok(Simplex { dims, faces })
     }
+}
+
+/// The dimensions of the cells.
+fn dims_of(alloc: Global, vertices: u32) -> Result<Vec<u8>, NoMemory>
+    requires { vertices ≤ 12 }
+{
+    let mut dims = Vec::new(alloc);
+    for cell in 0..1u32 << vertices {
+        dims.push(cell.count_ones().saturating_sub(1) as u8)?;
+    }
+    Ok(dims)
+}
+
+/// The faces of the cells.
+fn faces_of(alloc: Global, vertices: u32) -> Result<Vec<Face>, NoMemory>
+    requires { vertices ≤ 12 }
+{
+    let mut faces = Vec::new(alloc);
+    for cell in 0..1u32 << vertices {
+        add_faces(&mut faces, cell, vertices)?;
+    }
+    Ok(faces)
 }
 
 /// Adds the faces of the cell.

@@ -1,7 +1,7 @@
 ghost use Rattle.std.specs.Prelude.{◌<◌, ◌≤◌, ◌^◌};
 ghost use Rattle.cell_complex.specs.Complexes.{AreCells};
 
-use anyhow::{Result, ensure};
+use crate::failure::Failure;
 use cell_complex::{Complex, Face, Sign};
 use std::alloc::{AllocError as NoMemory, Global};
 
@@ -22,21 +22,54 @@ pub struct Torus {
 impl Torus {
     /// The torus of `size` by `size` places; with 32 there are 4,096 cells. With one row, both ends of an edge are one vertex,
     /// which no complex has.
-    pub fn of(alloc: Global, size: u32) -> Result<Torus>
+    pub fn of(alloc: Global, size: u32) -> Result<Torus, Failure>
         requires positive { 1 ≤ size }
         requires small { size ≤ 32 }
     {
-        let mut dims = Vec::new(alloc);
-        for dim in [0, 1, 1, 2] {
-            add_cells(&mut dims, dim, size * size)?;
+        let dims = cells(alloc, size * size)?;
+        let faces = faces(alloc, size)?;
+        if Complex::fits(&dims) {
+            Ok(Torus { dims, faces })
+        } else {
+            Err(Failure::Made)
         }
-        let mut faces = Vec::new(alloc);
-        for place in 0..size * size {
-            add_faces(&mut faces, size, place / size, place % size)?;
-        }
-        ensure!(Complex::fits(&dims), "these are no cells of a complex");
-        Ok(Torus { dims, faces })
     }
+}
+
+/// How many rows the greatest torus of at most so many cells has.
+pub fn rows_of(cells: u32) -> u32
+    requires { 16 ≤ cells }
+    ensures large { 2 ≤ result }
+    ensures small { result ≤ 32 }
+{
+    let mut rows = 2;
+    for more in 3..33 {
+        if 4 * more * more <= cells {
+            rows = more;
+        }
+    }
+    rows
+}
+
+/// The dimensions of the cells of so many places.
+fn cells(alloc: Global, places: u32) -> Result<Vec<u8>, NoMemory> {
+    let mut dims = Vec::new(alloc);
+    for dim in [0, 1, 1, 2] {
+        add_cells(&mut dims, dim, places)?;
+    }
+    Ok(dims)
+}
+
+/// The faces of all places.
+fn faces(alloc: Global, size: u32) -> Result<Vec<Face>, NoMemory>
+    requires positive { 1 ≤ size }
+    requires small { size ≤ 32 }
+{
+    let mut faces = Vec::new(alloc);
+    for place in 0..size * size {
+        add_faces(&mut faces, size, place / size, place % size)?;
+    }
+    Ok(faces)
 }
 
 /// Adds so many cells of this dimension.

@@ -34,29 +34,51 @@ pub enum Workload {
     ReadTorus,
     /// The bytes of standard input.
     Input,
+    /// All blocks of a torus looked up, and as many pairs without one.
+    Get,
+    /// Square grids of blocks put into rows that hold others.
+    Merge,
+    /// The block complex of a constant sheaf on a torus.
+    Full,
+    /// The candidates of a whole reduction of a torus.
+    Candidates,
+    /// A whole reduction of the sheaf of standard input.
+    Reduce,
 }
 
 impl Workload {
+    /// All workloads.
+    pub const ALL: [Workload; 20] = [
+        Workload::Product,
+        Workload::Apply,
+        Workload::Solve,
+        Workload::Apart,
+        Workload::Invert,
+        Workload::Wide,
+        Workload::Build,
+        Workload::Check,
+        Workload::Seal,
+        Workload::Seal16,
+        Workload::Put,
+        Workload::Put16,
+        Workload::Read,
+        Workload::ReadTorus,
+        Workload::Input,
+        Workload::Get,
+        Workload::Merge,
+        Workload::Full,
+        Workload::Candidates,
+        Workload::Reduce,
+    ];
+
     /// The workload of this name.
     pub fn of(word: &str) -> Option<Workload> {
-        match word {
-            "product" => Some(Workload::Product),
-            "apply" => Some(Workload::Apply),
-            "solve" => Some(Workload::Solve),
-            "apart" => Some(Workload::Apart),
-            "invert" => Some(Workload::Invert),
-            "wide" => Some(Workload::Wide),
-            "build" => Some(Workload::Build),
-            "check" => Some(Workload::Check),
-            "seal" => Some(Workload::Seal),
-            "seal16" => Some(Workload::Seal16),
-            "put" => Some(Workload::Put),
-            "put16" => Some(Workload::Put16),
-            "read" => Some(Workload::Read),
-            "read-torus" => Some(Workload::ReadTorus),
-            "input" => Some(Workload::Input),
-            _ => None,
+        for workload in Workload::ALL {
+            if workload.name() == word {
+                return Some(workload);
+            }
         }
+        None
     }
 
     /// Its name.
@@ -77,16 +99,25 @@ impl Workload {
             Workload::Read => "read",
             Workload::ReadTorus => "read-torus",
             Workload::Input => "input",
+            Workload::Get => "get",
+            Workload::Merge => "merge",
+            Workload::Full => "full",
+            Workload::Candidates => "candidates",
+            Workload::Reduce => "reduce",
         }
     }
 
     /// What is counted.
     pub fn unit(self) -> &'static str {
         match self {
-            Workload::Build => "faces",
+            Workload::Build | Workload::Full => "faces",
             Workload::Check | Workload::Seal | Workload::Seal16 => "chains of two faces",
             Workload::Put | Workload::Put16 => "squares",
             Workload::Read | Workload::ReadTorus | Workload::Input => "bytes",
+            Workload::Get => "look-ups",
+            Workload::Merge => "blocks",
+            Workload::Candidates => "searches",
+            Workload::Reduce => "pairs",
             _ => "field operations",
         }
     }
@@ -101,6 +132,8 @@ impl Workload {
             | Workload::Put
             | Workload::Put16
             | Workload::ReadTorus => 2,
+            Workload::Get | Workload::Full | Workload::Candidates => 16,
+            Workload::Reduce => 0,
             _ => 1,
         }
     }
@@ -111,10 +144,12 @@ impl Workload {
     {
         match self {
             Workload::Build | Workload::Check => 12,
-            Workload::Wide => 4096,
+            Workload::Wide | Workload::Get | Workload::Full | Workload::Candidates => 4096,
             Workload::Seal | Workload::Put | Workload::ReadTorus => 32,
             Workload::Seal16 | Workload::Put16 => 8,
             Workload::Read | Workload::Input => 16_384,
+            Workload::Merge => 64,
+            Workload::Reduce => 0,
             _ => 1024,
         }
     }
