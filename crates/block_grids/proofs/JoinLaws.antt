@@ -13,14 +13,15 @@ use Rattle.dense_blocks.proofs.VectorLaws.{zeros-size}
 use Rattle.rising_lists.specs.Rising.{ByCell, IsRising, has, keys, entry, entry_of, line_of}
 use Rattle.rising_lists.proofs.Keyed.{rising_head, rising_tail, place_of}
 use Rattle.open_columns.specs.declared.mark.Mark.{Mark}
-use Rattle.block_sparse.specs.BlockComplexes.{BlockComplex, cells, is_zero, matrix, matrix_or, size_of, standing, total_size}
+use Rattle.block_complexes.specs.BlockComplexes.{cells, size_of, total_size}
+use Rattle.block_sparse.specs.StoredBlocks.{StoredBlocks, is_zero, matrix, matrix_or, standing}
 use Rattle.block_sparse.specs.Grids.{width, segment, part, window, IsJoined, AreSized}
 use Rattle.block_grids.specs.Joined.{corner, corner_row, joined_row, joined_rows, joined_entries, AreShaped, HaveRow}
 use Rattle.block_sparse.specs.Invariants.{IsSound}
 use Rattle.block_sparse.proofs.Windows.{sized-cut, sized-window}
 
 -- the matrix from s to t, of h rows and w columns
-pub corner-matrix : (v : BlockComplex) (s t h w : ℕ) → size_of v.live t ≡ h → size_of v.live s ≡ w → matrix v s t ≡ corner (entry_of v.rows t s) h w
+pub corner-matrix : (v : StoredBlocks) (s t h w : ℕ) → size_of v.live t ≡ h → size_of v.live s ≡ w → matrix v s t ≡ corner (entry_of v.rows t s) h w
 corner-matrix v s t h w eh ew = go (entry_of v.rows t s) (entry_of v.columns s t)
   where
     go : (o : Option Block) (m : Option Mark) → matrix_or (standing o m) (zero_matrix (size_of v.live t) (size_of v.live s)) ≡ corner o h w
@@ -243,7 +244,7 @@ module _ (rows : ByCell (ByCell Block)) (left : List (ℕ × ℕ)) where
           ∙ f (ap (λ b. b || has t (keys xs)) (sym (ne_eqb x.0 t d)) ∙ n)
 
 -- the rows of a sound block complex have the shapes of the listed cells
-module _ (v : BlockComplex) (left below : List (ℕ × ℕ)) (sound : IsSound v.live v.rows v.columns) (sl : AreSized v.live left) (sb : AreSized v.live below) where
+module _ (v : StoredBlocks) (left below : List (ℕ × ℕ)) (sound : IsSound v.live v.rows v.columns) (sl : AreSized v.live left) (sb : AreSized v.live below) where
   pub rows-shaped : (j : ℕ) (d : ℕ × ℕ) → j < length below → AreShaped (line_of v.rows (get_or below j d).0) (get_or below j d).1 left
   rows-shaped j d l = λ i e m b is.
       let fits = sound.blocks_fit (get_or left i e).0 (get_or below j d).0 b is in

@@ -5,7 +5,7 @@ use Rattle.std.proofs.lemmas.List.{get_or-map, length-map}
 use Rattle.dense_blocks.specs.declared.block.Block.{Block}
 use Rattle.rising_lists.specs.Rising.{ByCell, IsRising, has, keys, line_of}
 use Rattle.rising_lists.proofs.Keyed.{place_of, rising_le}
-use Rattle.block_sparse.specs.BlockComplexes.{BlockComplex, matrix}
+use Rattle.block_sparse.specs.StoredBlocks.{StoredBlocks, matrix}
 use Rattle.block_sparse.specs.Grids.{width, part, IsJoined, AreSized, IsFirstOther}
 use Rattle.block_grids.specs.Joined.{IsSamePart}
 use Rattle.block_sparse.proofs.GridLaws.{part-window, key-listed}
@@ -73,7 +73,7 @@ same-key ks r i k l m e = elim (cases_lt i k) [
   | inr u ↦ elim (cases_lt k i) [ inl w ↦ absurd (omega (arith, r k i w l, e)) | inr w ↦ omega arith ]
 ]
 
-module _ (v : BlockComplex) (left below : List (ℕ × ℕ)) (A : List (List ℕ)) (rl : IsRising (keys left)) (rb : IsRising (keys below))
+module _ (v : StoredBlocks) (left below : List (ℕ × ℕ)) (A : List (List ℕ)) (rl : IsRising (keys left)) (rb : IsRising (keys below))
     (sl : AreSized v.live left) (sb : AreSized v.live below) where
   key : (ls : List (ℕ × ℕ)) (i : ℕ) → i < length ls → get_or (keys ls) i 0 ≡ (get_or ls i (0, 0)).0
   key ls i l = get_or-map (λ s. s.0) ls i (0, 0) 0 l

@@ -1,7 +1,7 @@
 ghost use Rattle.std.specs.Prelude.{◌≡◌, ◌<◌, ◌≤◌, ◌+◌, ◌++◌, ◌↔◌, ℕ, Some, length, slice_index, slice_index_or, option_copied, All, IfOk, OnOk, IsTrue, MatchOption};
 ghost use Rattle.dense_blocks.specs.Blocks.{matrix_of};
 ghost use Rattle.rising_lists.specs.Rising.{IsRising, has, keys, entry, line_of};
-ghost use Rattle.block_sparse.specs.BlockComplexes.{size_of};
+ghost use Rattle.block_complexes.specs.BlockComplexes.{size_of};
 ghost use Rattle.block_sparse.specs.Grids.{width, window, AreSized, IsJoined, IsFirstOther};
 ghost use Rattle.block_grids.specs.Joined.{AreShaped, corner, corner_row, joined_row, joined_rows, joined_entries, HaveRow, IsSamePart};
 

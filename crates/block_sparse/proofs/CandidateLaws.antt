@@ -6,12 +6,13 @@ use Rattle.dense_blocks.specs.declared.block.Block.{Block}
 use Rattle.rising_lists.specs.Rising.{entry_of}
 use Rattle.open_columns.specs.declared.mark.Mark.{Mark}
 use Rattle.open_columns.specs.Open.{is_open}
-use Rattle.block_sparse.specs.BlockComplexes.{BlockComplex, Fits, standing, size_of}
+use Rattle.block_complexes.specs.BlockComplexes.{size_of}
+use Rattle.block_sparse.specs.StoredBlocks.{StoredBlocks, Fits, standing}
 use Rattle.block_sparse.specs.Invariants.{IsSound, is_square}
 use Rattle.block_sparse.specs.Candidates.{is_candidate, is_unflagged}
 
 -- a mark is open where the block is a candidate
-pub open-candidate : (v : BlockComplex) (s t : ℕ) → IsSound v.live v.rows v.columns → is_open (entry_of v.columns s t) ≡ is_candidate v s t
+pub open-candidate : (v : StoredBlocks) (s t : ℕ) → IsSound v.live v.rows v.columns → is_open (entry_of v.columns s t) ≡ is_candidate v s t
 open-candidate v s t sound = go (entry_of v.rows t s) (entry_of v.columns s t) (sound.marks s t) (λ b h. sound.blocks_fit s t b h)
   where
     same-size : (m n : ℕ) → eqb m n ≡ eqb n m

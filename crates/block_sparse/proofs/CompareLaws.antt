@@ -8,13 +8,14 @@ use Rattle.dense_blocks.specs.Blocks.{matrix_of}
 use Rattle.dense_blocks.specs.Matrices.{zero_matrix}
 use Rattle.rising_lists.specs.Rising.{IsRising, has, keys}
 use Rattle.rising_lists.proofs.Keyed.{place_of, has-at, has-absent}
-use Rattle.block_sparse.specs.BlockComplexes.{BlockComplex, Standing, StandsAt, held, matrix_or, is_zero, size_of}
+use Rattle.block_complexes.specs.BlockComplexes.{size_of}
+use Rattle.block_sparse.specs.StoredBlocks.{StoredBlocks, Standing, StandsAt, held, matrix_or, is_zero}
 use Rattle.block_sparse.specs.Grids.{width, segment, window, columns_of, block_matrix, nonzero}
 use Rattle.dense_blocks.proofs.Cutting.{Sized}
 use Rattle.block_sparse.proofs.GridLaws.{segment-at, map-same}
 use Rattle.block_sparse.proofs.Windows.{sized-drop, width-within}
 
-pub stands-matrix : (v : BlockComplex) (s t : ℕ) (b : Block) → StandsAt v s t b → block_matrix (held v s t) ≡ Some (matrix_of b)
+pub stands-matrix : (v : StoredBlocks) (s t : ℕ) (b : Block) → StandsAt v s t b → block_matrix (held v s t) ≡ Some (matrix_of b)
 stands-matrix v s t b h = go (held v s t) (zero_matrix (size_of v.live t) (size_of v.live s)) h.is_held h.is_matrix
   where
     go : (o : Option Standing) (Z : List (List ℕ)) → is_some o ≡ true → matrix_of b ≡ matrix_or o Z → block_matrix o ≡ Some (matrix_of b)

@@ -9,7 +9,8 @@ use Rattle.dense_blocks.proofs.Cutting.{Sized, sized-size}
 use Rattle.rising_lists.specs.Rising.{ByCell, IsRising, has, keys, look, entry, entry_of, line_of, updated}
 use Rattle.rising_lists.proofs.Keyed.{rising_tail, rising_head, place_of, has-at, look-at, look-absent}
 use Rattle.open_columns.specs.declared.mark.Mark.{Mark}
-use Rattle.block_sparse.specs.BlockComplexes.{standing, is_zero, cells, size_of, degree_of}
+use Rattle.block_complexes.specs.BlockComplexes.{cells, size_of, degree_of}
+use Rattle.block_sparse.specs.StoredBlocks.{standing, is_zero}
 use Rattle.block_sparse.specs.Grids.{width, segment, part, placed, window, IsPart, AreSized}
 use Rattle.block_sparse.specs.Fresh.{mark_of, IsFreshRow, line_at, AreFreshRows, AreFreshColumns}
 use Rattle.block_sparse.specs.Invariants.{IsSound, is_square}

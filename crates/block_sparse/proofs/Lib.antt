@@ -1,9 +1,7 @@
 pub mod Windows
 pub mod GridLaws
 pub mod RemovalLaws
-pub mod LiveLaws
 pub mod CompareLaws
 pub mod CandidateLaws
-pub mod SumLaws
-pub mod DegreeLaws
 pub mod ScalarBlocks
+pub mod StoredLaws

@@ -18,11 +18,12 @@ use Rattle.cochain_vec.specs.Complexes.{sum_into, value_at, total_size}
 use Rattle.cochain_vec.proofs.PathLaws.{sum_over}
 use Rattle.cochain_vec.specs.declared.cell.Cell.{Cell}
 use Rattle.cochain_vec.proofs.CoboundaryLaws.{size_at, value-vector}
-use Rattle.block_sparse.specs.BlockComplexes.{AreConsecutive, BlockComplex, IsBetween, Standing, StandsAt, cells, held, is_zero, matrix, matrix_or, size_of, standing}
-use Rattle.block_sparse.specs.Cochains.{complex_of}
+use Rattle.block_complexes.specs.BlockComplexes.{AreConsecutive, cells, size_of}
+use Rattle.block_sparse.specs.StoredBlocks.{StoredBlocks, IsBetween, Standing, StandsAt, held, is_zero, matrix, matrix_or, standing, complex_in}
+use Rattle.block_complexes.specs.Cochains.{complex_of}
 use Rattle.block_sparse.specs.Invariants.{IsSound, is_square}
 use Rattle.open_columns.specs.declared.mark.Mark.{Mark}
-use Rattle.block_sparse.proofs.SumLaws.{arriving-vector, sum_into-live, sum_over-some}
+use Rattle.block_complexes.proofs.SumLaws.{arriving-vector, sum_into-live, sum_over-some}
 use Rattle.rising_lists.specs.Rising.{IsRising, entry_of, has}
 
 pub value-scalars : (K : Ops) (cs : List Cell) (z : List ℕ) (s : ℕ) → IsVector K (total_size cs) z → AllScalars K (value_at cs z s)
@@ -49,7 +50,7 @@ zero-is K (suc m) n (r ∷ A) h e =
     let p = and_parts (list_all (λ a. a == 0) r) (is_zero A) e in
     ap₂ ◌∷◌ (zero-list K n r h.0 p.0) (zero-is K m n A h.1 p.1)
 
-module _ (K : Ops) (v : BlockComplex) (s t : ℕ) where
+module _ (K : Ops) (v : StoredBlocks) (s t : ℕ) where
   -- a block that stands has scalars where the matrix has them
   pub block-scalars : (b : Block) → StandsAt v s t b → All (AllScalars K) (matrix v s t) → AllScalars K b.entries
   block-scalars b h all =
@@ -79,7 +80,7 @@ zero_matrix-size zero n = refl
 zero_matrix-size (suc m) n = ap suc (zero_matrix-size m n)
 
 -- what stands goes between live cells, and has their sizes
-module _ (v : BlockComplex) (sound : IsSound v.live v.rows v.columns) (s t : ℕ) where
+module _ (v : StoredBlocks) (sound : IsSound v.live v.rows v.columns) (s t : ℕ) where
   between-live : (o : Option Block) → entry_of v.rows t s ≡ o → is_some (standing o (entry_of v.columns s t)) ≡ true → AreConsecutive v.live s t
   between-live None e h = cc
   between-live (Some b) e h = (sound.blocks_fit s t b e).between
@@ -115,14 +116,14 @@ module _ (v : BlockComplex) (sound : IsSound v.live v.rows v.columns) (s t : ℕ
       go (Some b) e = block-size b ∙ (sound.blocks_fit s t b e).rows
 
 -- the sum into a live cell, over the cells from which a block comes
-pub sum_into-row : (K : Ops) (F : IsField K) (v : BlockComplex) (sound : IsSound v.live v.rows v.columns) (value : ℕ → List ℕ) (t : ℕ) (row : List ℕ)
+pub sum_into-row : (K : Ops) (F : IsField K) (v : StoredBlocks) (sound : IsSound v.live v.rows v.columns) (value : ℕ → List ℕ) (t : ℕ) (row : List ℕ)
     → has t (cells v.live) ≡ true → IsRising row → ((s : ℕ) → has s row ≡ is_some (held v s t))
-    → sum_into K (complex_of v).arrows value (size_of v.live t) t ≡ sum_over K (size_of v.live t) (λ s. applied K (matrix v s t) (value s)) row
+    → sum_into K (complex_of (complex_in v)).arrows value (size_of v.live t) t ≡ sum_over K (size_of v.live t) (λ s. applied K (matrix v s t) (value s)) row
 sum_into-row K F v sound value t row is_live rises is_row =
     let n = size_of v.live t in
     let sized : (s : ℕ) → length (matrix v s t) ≡ n = λ s. matrix-size_of v sound s t in
-    sum_into-live K F v value n t sized sound.live_cells.rising is_live
+    sum_into-live K F (complex_in v) value n t sized sound.live_cells.rising is_live
     ∙ sum_over-some K F n (λ s. applied K (matrix v s t) (value s)) (cells v.live) row sound.live_cells.rising rises
-    (λ s h. (held-between v sound s t (sym (is_row s) ∙ h)).from) (arriving-vector K F v value n t sized)
+    (λ s h. (held-between v sound s t (sym (is_row s) ∙ h)).from) (arriving-vector K F (complex_in v) value n t sized)
     (λ s h. ap (λ A. applied K A (value s)) (matrix-none K v s t (not-held (held v s t) (sym (is_row s) ∙ h)))
     ∙ zero_matrix-applied K F n (size_of v.live s) (value s))

@@ -4,7 +4,7 @@ use Rattle.std.proofs.lemmas.List.{get_or-take, get_or-drop, get_or-map, length-
 use Rattle.std.specs.List.{list_all}
 use Rattle.dense_blocks.proofs.Cutting.{Sized, first_rows, first_rows-next}
 use Rattle.dense_blocks.specs.Matrices.{cut}
-use Rattle.block_sparse.specs.BlockComplexes.{is_zero}
+use Rattle.block_sparse.specs.StoredBlocks.{is_zero}
 use Rattle.block_sparse.specs.Grids.{width, window}
 
 abbrev zeros_only : List ℕ → Bool

@@ -3,7 +3,7 @@ use Rattle.std.specs.Prelude.{◌≡◌, ◌<◌, ◌==◌, ℕ, false, List, []
 use Rattle.dense_blocks.specs.declared.block.Block.{Block}
 use Rattle.rising_lists.specs.Rising.{ByCell, keys, entry, updated, line_of}
 use Rattle.open_columns.specs.declared.mark.Mark.{Mark}
-use Rattle.block_sparse.specs.BlockComplexes.{is_zero}
+use Rattle.block_sparse.specs.StoredBlocks.{is_zero}
 use Rattle.block_sparse.specs.Grids.{width, window, IsPart}
 
 -- what a column notes of a part of h rows and w columns

@@ -3,7 +3,8 @@ use Rattle.std.specs.Prelude.{◌≡◌, ◌≢◌, ◌==◌, ◌+◌, ◌<◌, 
 use Rattle.dense_blocks.specs.Blocks.{IsBlock}
 use Rattle.dense_blocks.specs.declared.block.Block.{Block}
 use Rattle.rising_lists.specs.Rising.{has, keys}
-use Rattle.block_sparse.specs.BlockComplexes.{BlockComplex, Standing, is_zero, cells, size_of, matrix}
+use Rattle.block_complexes.specs.BlockComplexes.{cells, size_of}
+use Rattle.block_sparse.specs.StoredBlocks.{StoredBlocks, Standing, is_zero, matrix}
 
 -- how many coordinates cells with sizes have together
 abbrev pub width : List (ℕ × ℕ) → ℕ
@@ -37,11 +38,11 @@ abbrev pub placed : List (List ℕ) → Option Standing
 placed A = if is_zero A then None else Some (record { matrix = A; flagged = false })
 
 -- A is the joined matrix of the blocks from the cells on the left to those below: its part at each pair is the matrix from one to the other
-abbrev pub IsJoined : BlockComplex → List (ℕ × ℕ) → List (ℕ × ℕ) → List (List ℕ) → Type 0
+abbrev pub IsJoined : StoredBlocks → List (ℕ × ℕ) → List (ℕ × ℕ) → List (List ℕ) → Type 0
 IsJoined v left below A = (s t : ℕ) → has s (keys left) ≡ true → has t (keys below) ≡ true → part left below A s t ≡ matrix v s t
 
 -- (s, t) is the first pair of a cell on the left and a cell below, in order of s and then of t, at which A has another part than the joined matrix
-pub record IsFirstOther (v : BlockComplex) (left below : List (ℕ × ℕ)) (A : List (List ℕ)) (s t : ℕ) : Type 0 where
+pub record IsFirstOther (v : StoredBlocks) (left below : List (ℕ × ℕ)) (A : List (List ℕ)) (s t : ℕ) : Type 0 where
   pub on_left : has s (keys left) ≡ true
   pub is_below : has t (keys below) ≡ true
   pub other : part left below A s t ≢ matrix v s t

@@ -4,7 +4,8 @@ use Rattle.dense_blocks.specs.Blocks.{matrix_of}
 use Rattle.dense_blocks.specs.declared.block.Block.{Block}
 use Rattle.rising_lists.specs.Rising.{ByCell, has, entry_of}
 use Rattle.open_columns.specs.declared.mark.Mark.{Mark}
-use Rattle.block_sparse.specs.BlockComplexes.{AreLive, Fits, cells, is_zero}
+use Rattle.block_complexes.specs.BlockComplexes.{cells}
+use Rattle.block_sparse.specs.StoredBlocks.{Fits, is_zero, AreLive}
 
 abbrev pub is_square : Block → Bool
 is_square b = b.rows == b.cols

@@ -2,7 +2,7 @@
 use Rattle.std.specs.Prelude.{◌==◌, ◌&&◌, ℕ, List, [], ◌∷◌, Option, if◌then◌else◌}
 use Rattle.dense_blocks.specs.Blocks.{matrix_of}
 use Rattle.dense_blocks.specs.declared.block.Block.{Block}
-use Rattle.block_sparse.specs.BlockComplexes.{Standing}
+use Rattle.block_sparse.specs.StoredBlocks.{Standing}
 use Rattle.block_sparse.specs.Grids.{placed}
 
 -- what stands once a matrix has been put at a pair of cells

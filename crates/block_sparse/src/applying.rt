@@ -4,8 +4,10 @@ ghost use Rattle.dense_blocks.specs.Vectors.{AllScalars, IsVector, plus};
 ghost use Rattle.dense_blocks.specs.Matrices.{applied};
 ghost use Rattle.rising_lists.specs.Rising.{has};
 ghost use Rattle.cochain_vec.specs.Complexes.{IsCochain, cells_of, coboundary, coordinates, sum_into, total_size, value_at};
-ghost use Rattle.block_sparse.specs.BlockComplexes.{AreLive, cells, degree_of, matrix, size_of};
-ghost use Rattle.block_sparse.specs.Cochains.{AreStarts, IsOver, complex_of, of_degree};
+ghost use Rattle.block_complexes.specs.BlockComplexes.{cells, degree_of, size_of, IsBlockComplex};
+ghost use Rattle.block_sparse.specs.StoredBlocks.{complex_in, matrix, AreLive};
+ghost use Rattle.block_complexes.specs.Cochains.{complex_of, of_degree};
+ghost use Rattle.block_sparse.specs.Cochains.{AreStarts};
 
 use crate::blocks::{Blocks, find};
 use dense_blocks::{Scalars, add_scaled, all_scalars, apply, zeros};
@@ -23,14 +25,14 @@ struct Starts {
 impl Blocks {
     /// How many coordinates a cochain of degree `k` has: the sizes of the live cells of that degree, summed.
     pub fn coordinates(&self, k: u8) -> usize
-        ensures { result ≡ coordinates (complex_of self.now) k }
+        ensures { result ≡ coordinates (complex_of (complex_in self.now)) k }
     {
         total_of(k, self.live()) as usize
     }
 
     /// Whether the entries of all blocks are scalars of the field.
     pub fn is_over<F: Scalars>(&self, f: &F) -> bool
-        ensures { IsTrue result ↔ IsOver (F.ops f.now) self.now }
+        ensures { IsTrue result ↔ IsBlockComplex (F.ops f.now) (complex_in self.now) }
     {
         self.rows_are_over(f, &self.live)
     }
@@ -47,10 +49,10 @@ impl Blocks {
         k: u8,
         z: &[u8],
     ) -> Result<Vec<u8>, NoMemory>
-        requires scalars { IsOver (F.ops f.now) self.now }
-        requires cochain { IsCochain (F.ops f.now) (complex_of self.now) k z.now }
-        ensures coboundary { IfOk result (λ w. w.items ≡ coboundary (F.ops f.now) (complex_of self.now) k z.now) }
-        ensures cochain { IfOk result (λ w. IsCochain (F.ops f.now) (complex_of self.now) (k + 1) w.items) }
+        requires scalars { IsBlockComplex (F.ops f.now) (complex_in self.now) }
+        requires cochain { IsCochain (F.ops f.now) (complex_of (complex_in self.now)) k z.now }
+        ensures coboundary { IfOk result (λ w. w.items ≡ coboundary (F.ops f.now) (complex_of (complex_in self.now)) k z.now) }
+        ensures cochain { IfOk result (λ w. IsCochain (F.ops f.now) (complex_of (complex_in self.now)) (k + 1) w.items) }
     {
         let _ = &self.live;
         let live = self.live();
@@ -72,14 +74,14 @@ impl Blocks {
         cell: (u32, u8, u8),
         all: &mut Vec<u8>,
     ) -> Result<(), NoMemory>
-        requires scalars { IsOver (F.ops f.now) self.now }
-        requires cochain { IsCochain (F.ops f.now) (complex_of self.now) starts.now.degree z.now }
+        requires scalars { IsBlockComplex (F.ops f.now) (complex_in self.now) }
+        requires cochain { IsCochain (F.ops f.now) (complex_of (complex_in self.now)) starts.now.degree z.now }
         requires starts { AreStarts starts.now.degree self.now.live starts.now.places.items }
         requires live { has cell.0 (cells self.now.live) ≡ true }
         requires degree { degree_of self.now.live cell.0 ≡ cell.1 }
         requires size { size_of self.now.live cell.0 ≡ cell.2 }
         ensures { OnOk result (all.new.items ≡ all.old.items ++ flat_map
-            (λ t. sum_into (F.ops f.now) (complex_of self.now).arrows (value_at (cells_of (complex_of self.now) starts.now.degree) z.now) t.size t.cell)
+            (λ t. sum_into (F.ops f.now) (complex_of (complex_in self.now)).arrows (value_at (cells_of (complex_of (complex_in self.now)) starts.now.degree) z.now) t.size t.cell)
             (of_degree (starts.now.degree + 1) (cell ∷ []))) }
     {
         if u32::from(cell.1) == u32::from(starts.degree) + 1 {
@@ -98,13 +100,13 @@ impl Blocks {
         z: &[u8],
         t: u32,
     ) -> Result<Vec<u8>, NoMemory>
-        requires scalars { IsOver (F.ops f.now) self.now }
-        requires cochain { IsCochain (F.ops f.now) (complex_of self.now) starts.now.degree z.now }
+        requires scalars { IsBlockComplex (F.ops f.now) (complex_in self.now) }
+        requires cochain { IsCochain (F.ops f.now) (complex_of (complex_in self.now)) starts.now.degree z.now }
         requires starts { AreStarts starts.now.degree self.now.live starts.now.places.items }
         requires live { has t (cells self.now.live) ≡ true }
         requires degree { degree_of self.now.live t ≡ starts.now.degree + 1 }
-        ensures { IfOk result (λ part. part.items ≡ sum_into (F.ops f.now) (complex_of self.now).arrows
-            (value_at (cells_of (complex_of self.now) starts.now.degree) z.now) (size_of self.now.live t) t) }
+        ensures { IfOk result (λ part. part.items ≡ sum_into (F.ops f.now) (complex_of (complex_in self.now)).arrows
+            (value_at (cells_of (complex_of (complex_in self.now)) starts.now.degree) z.now) (size_of self.now.live t) t) }
     {
         let _ = &self.live;
         let mut sum = zeros(alloc, self.size(t) as usize)?;
@@ -125,13 +127,13 @@ impl Blocks {
         t: u32,
         sum: &mut Vec<u8>,
     ) -> Result<(), NoMemory>
-        requires scalars { IsOver (F.ops f.now) self.now }
-        requires cochain { IsCochain (F.ops f.now) (complex_of self.now) starts.now.degree z.now }
+        requires scalars { IsBlockComplex (F.ops f.now) (complex_in self.now) }
+        requires cochain { IsCochain (F.ops f.now) (complex_of (complex_in self.now)) starts.now.degree z.now }
         requires starts { AreStarts starts.now.degree self.now.live starts.now.places.items }
         requires degree { degree_of self.now.live t ≡ starts.now.degree + 1 }
         requires sum { IsVector (F.ops f.now) (size_of self.now.live t) sum.old.items }
         ensures sum { OnOk result (sum.new.items ≡ plus (F.ops f.now) sum.old.items
-            (applied (F.ops f.now) (matrix self.now s t) (value_at (cells_of (complex_of self.now) starts.now.degree) z.now s))) }
+            (applied (F.ops f.now) (matrix self.now s t) (value_at (cells_of (complex_of (complex_in self.now)) starts.now.degree) z.now s))) }
         ensures vector { OnOk result (IsVector (F.ops f.now) (size_of self.now.live t) sum.new.items) }
     {
         if let Some(block) = self.get(s, t) {

@@ -1,7 +1,8 @@
 ghost use Rattle.std.specs.Prelude.{◌≡◌, ◌==◌, ◌||◌, ◌&&◌, ◌↔◌, ◌+◌, ◌<◌, ◌≤◌, ℕ, length, slice_index, slice_index_or, true, false, None, if◌then◌else◌, not, filter, is_some, All, MatchOption, IfOk, IfErr, OnOk, OnErr, IsTrue};
 ghost use Rattle.rising_lists.specs.Rising.{IsRising, has, keys, entry_of, line_of};
 ghost use Rattle.dense_blocks.specs.Blocks.{matrix_of};
-ghost use Rattle.block_sparse.specs.BlockComplexes.{AreLive, Fits, IsBetween, StandsAt, cells, degree_of, size_of, total_size, held, flag_of, with_flag};
+ghost use Rattle.block_complexes.specs.BlockComplexes.{cells, degree_of, size_of, total_size};
+ghost use Rattle.block_sparse.specs.StoredBlocks.{Fits, IsBetween, StandsAt, held, flag_of, with_flag, AreLive};
 ghost use Rattle.block_sparse.specs.Grids.{width, part, placed, AreSized};
 ghost use Rattle.open_columns.specs.Open.{FirstFrom, FirstPair};
 ghost use Rattle.block_sparse.specs.Candidates.{is_candidate};
@@ -26,10 +27,10 @@ pub struct Blocks {
 }
 
 impl Model for Blocks {
-    ghost use Rattle.block_sparse.specs.BlockComplexes.{BlockComplex};
+    ghost use Rattle.block_sparse.specs.StoredBlocks.{StoredBlocks};
     ghost use Rattle.block_sparse.specs.Invariants.{IsSound};
 
-    ghost Value = { BlockComplex };
+    ghost Value = { StoredBlocks };
 
     ghost view = { λ b. record { live = b.live.items; rows = b.rows; columns = b.columns } };
 

@@ -1,7 +1,8 @@
 ghost use Rattle.std.specs.Prelude.{◌≡◌, ◌≢◌, ◌<◌, ◌≤◌, ◌+◌, ◌↔◌, ℕ, true, length, take, slice_index_or, slice_index, IsTrue};
 ghost use Rattle.rising_lists.specs.Rising.{IsRising, has, keys};
 ghost use Rattle.dense_blocks.specs.Blocks.{matrix_of};
-ghost use Rattle.block_sparse.specs.BlockComplexes.{size_of, held};
+ghost use Rattle.block_complexes.specs.BlockComplexes.{size_of};
+ghost use Rattle.block_sparse.specs.StoredBlocks.{held};
 ghost use Rattle.block_sparse.specs.Grids.{width, segment, window, columns_of, block_matrix, nonzero, AreSized};
 
 use crate::blocks::{Blocks, size_in};

@@ -5,3 +5,4 @@ pub mod StartLaws
 pub mod LiveLaws
 pub mod PutLaws
 pub mod StartCoboundaryLaws
+pub mod StoredStart

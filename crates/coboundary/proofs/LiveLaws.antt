@@ -1,5 +1,5 @@
 -- The cells of a sheaf that have a stalk may be the live cells of a block complex.
-use Rattle.std.proofs.Common.{◌≡◌, ◌≢◌, ◌||◌, eqb, ℕ, zero, suc, ◌+◌, ◌<◌, ◌≤◌, Bool, true, false, cond, not, List, [], ◌∷◌, length, map, filter, get_or, slice_index, sum, refl, sym, ap, ◌∙◌, subst, arith}
+use Rattle.std.proofs.Common.{All, ◌≡◌, ◌≢◌, ◌||◌, eqb, ℕ, zero, suc, ◌+◌, ◌<◌, ◌≤◌, Bool, true, false, cond, not, List, [], ◌∷◌, length, map, filter, get_or, slice_index, sum, refl, sym, ap, ◌∙◌, subst, arith}
 use Rattle.std.specs.Prelude.{◌==◌}
 use Rattle.std.proofs.lemmas.List.Sums.{sum_by-cons}
 use Rattle.std.proofs.lemmas.Bool.{eqb-false, eq-eqb, ne_eqb, not-true}
@@ -15,7 +15,8 @@ use Rattle.sheaf_data.specs.Sheaves.{AreStalks}
 use Rattle.sheaf_data.specs.Betti.{numbered}
 use Rattle.coboundary.specs.Start.{with_stalks}
 use Rattle.rising_lists.specs.Rising.{IsRising, has}
-use Rattle.block_sparse.specs.BlockComplexes.{AreLive, cells, total_size, of_cell, degree_of, size_of, Fits}
+use Rattle.block_complexes.specs.BlockComplexes.{cells, total_size, of_cell, degree_of, size_of}
+use Rattle.block_sparse.specs.StoredBlocks.{Fits, AreLive}
 use Rattle.coboundary.proofs.ClosedLaws.{all-numbered}
 
 -- numbered cells rise
@@ -65,6 +66,14 @@ with_stalks-rising dims stalks same =
     let kept : List Cell = filter has_coordinates all in
     subst IsRising (sym (numbers-of-rows kept)) (numbers-rising kept (rising-filter has_coordinates all (numbered-rising 0 dims stalks same)))
 
+pub with_stalks-sizes : (dims stalks : List ℕ) → All (λ (l : ℕ × ℕ × ℕ). 1 ≤ l.2) (with_stalks (numbered 0 dims stalks))
+unfolding row
+with_stalks-sizes dims stalks =
+    let all : List Cell = numbered 0 dims stalks in
+    let kept : List Cell = filter has_coordinates all in
+    All-map (λ (l : ℕ × ℕ × ℕ). 1 ≤ l.2) row kept
+    (λ i d l. let c = get_or kept i d in omega (arith, eqb-false c.size 0 (not-true (c.size == 0) (filter_passes has_coordinates all i d l))))
+
 pub live_cells-live : (dims stalks : List ℕ) → AreCells dims → AreStalks dims stalks → AreLive (with_stalks (numbered 0 dims stalks))
 unfolding row
 live_cells-live dims stalks are_cells are_stalks =
@@ -75,8 +84,7 @@ live_cells-live dims stalks are_cells are_stalks =
       degrees = All-map (λ (l : ℕ × ℕ × ℕ). l.1 ≤ 15) row kept
           (All-filter has_coordinates (λ (c : Cell). c.degree ≤ 15) all
           (all-numbered (λ (c : Cell). c.degree ≤ 15) 0 dims stalks are_stalks.one_each (λ i l. are_cells.low i 0 l)));
-      sizes = All-map (λ (l : ℕ × ℕ × ℕ). 1 ≤ l.2) row kept
-          (λ i d l. let c = get_or kept i d in omega (arith, eqb-false c.size 0 (not-true (c.size == 0) (filter_passes has_coordinates all i d l))));
+      sizes = with_stalks-sizes dims stalks;
       total = omega (arith, total-with_stalks 0 dims stalks are_stalks.one_each, are_stalks.few);
     }
 

@@ -12,7 +12,7 @@ use Rattle.dense_blocks.proofs.BlockLaws.{block-matrix}
 use Rattle.square_check.proofs.Placed.{face-fits, all-at}
 use Rattle.sheaf_data.specs.Sheaves.{SheafData, IsDraft}
 use Rattle.sheaf_data.specs.Betti.{numbered, signed}
-use Rattle.block_sparse.specs.BlockComplexes.{Fits}
+use Rattle.block_sparse.specs.StoredBlocks.{Fits}
 use Rattle.block_sparse.specs.Grids.{placed}
 use Rattle.coboundary.specs.Start.{with_stalks}
 use Rattle.coboundary.proofs.LiveLaws.{fits-live}

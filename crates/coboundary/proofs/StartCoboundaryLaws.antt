@@ -1,49 +1,47 @@
 -- The start complex of a sheaf has the coboundary of the sheaf: cells without a stalk and zero blocks change nothing.
-use Rattle.std.proofs.Common.{◌≡◌, ◌≢◌, ℕ, zero, suc, ◌+◌, ◌<◌, ◌≤◌, Bool, true, false, cond, ◌&&◌, not, eqb, List, [], ◌∷◌, ◌++◌, length, map, filter, find, get_or, slice_index, None, Some, All, refl, sym, ap, ap₂, ◌∙◌, subst, arith}
+use Rattle.std.proofs.Common.{◌≡◌, ◌≢◌, ℕ, zero, suc, ◌+◌, ◌<◌, ◌≤◌, Bool, true, false, cond, List, [], ◌∷◌, ◌++◌, length, map, filter, find, get_or, slice_index, None, Some, All, refl, sym, ap, ap₂, ◌∙◌, subst, arith}
 use Rattle.std.specs.Prelude.{◌==◌}
 use Rattle.std.specs.List.{flat_map, list_any, range_with_len}
 use Rattle.std.specs.Option.{option_map, option_and_then}
 use Rattle.std.proofs.lemmas.Bool.{or_parts}
-use Rattle.std.proofs.lemmas.List.{get_or-map, length-map}
-use Rattle.std.proofs.lemmas.List.Elements.{All-head, All-tail, All-map, All-filter, All-get_or, All-cons, All-nil}
+use Rattle.std.proofs.lemmas.List.{get_or-map}
+use Rattle.std.proofs.lemmas.List.Elements.{All-head, All-tail, All-map, All-filter}
 use Rattle.std.proofs.lemmas.List.FromFn.{length-range_with_len, get_or-range_with_len}
 use Rattle.cell_complex.specs.declared.face.Face.{Face}
 use Rattle.cell_complex.specs.Complexes.{CellComplex, IsComplex, joins, is_face, sign}
 use Rattle.cell_complex.specs.Complexes as complexes
+use Rattle.cell_complex.proofs.Callers.{incident_from_face}
 use Rattle.dense_blocks.specs.Field.{Ops, IsField}
-use Rattle.dense_blocks.specs.Vectors.{AllScalars, IsVector, zeros}
+use Rattle.dense_blocks.specs.Vectors.{IsVector, zeros}
 use Rattle.dense_blocks.specs.Matrices.{applied, zero_matrix}
 use Rattle.dense_blocks.specs.Blocks.{matrix_of}
 use Rattle.dense_blocks.specs.declared.block.Block.{Block}
 use Rattle.dense_blocks.proofs.VectorLaws.{dot-nil}
-use Rattle.dense_blocks.proofs.Shapes.{Matrix, matrix-size, matrix-rows}
+use Rattle.dense_blocks.proofs.Shapes.{Matrix, matrix-size, from_matrix}
 use Rattle.dense_blocks.proofs.MatrixLaws.{zero_matrix-matrix, zero_matrix-applied}
 use Rattle.dense_blocks.proofs.BlockLaws.{block-matrix_at}
 use Rattle.square_check.specs.Squares.{restriction}
 use Rattle.square_check.proofs.Placed.{restriction-fits}
 use Rattle.cochain_vec.specs.declared.cell.Cell.{Cell}
-use Rattle.cochain_vec.specs.Complexes.{Arrow, CellularComplex, cells_of, coboundary, coordinates, sum_into, value_at}
-use Rattle.cochain_vec.specs.Cohomology.{IsCochainComplex}
+use Rattle.cochain_vec.specs.Complexes.{CellularComplex, cells_of, coboundary, coordinates, sum_into, value_at}
 use Rattle.cochain_vec.specs.Stalkless as stalkless
 use Rattle.cochain_vec.proofs.StalklessLaws.{Agree, has_coordinates, coordinates-without_empty, coboundary-without_empty, basis_over, agree_back}
-use Rattle.cochain_vec.proofs.PathLaws.{sum_over, sum_over-same, sum_into-by-source, arrows_from}
+use Rattle.cochain_vec.proofs.PathLaws.{sum_over-same, sum_into-by-source, arrows_from}
 use Rattle.rising_lists.specs.Rising.{IsRising, has}
 use Rattle.rising_lists.proofs.Keyed.{place_of, has-at}
-use Rattle.block_sparse.specs.BlockComplexes.{BlockComplex, Standing, cells, is_zero, matrix, matrix_or, size_of}
-use Rattle.block_sparse.specs.Grids.{placed}
-use Rattle.block_sparse.specs.Cochains.{cell_of, complex_of, of_degree}
-use Rattle.block_sparse.proofs.LiveLaws.{cell-at, length-cells, of_cell-at}
-use Rattle.block_sparse.proofs.SumLaws.{arriving, arriving-vector, sum_into-live, sum_over-some}
-use Rattle.block_sparse.proofs.DegreeLaws.{value-absent}
-use Rattle.block_sparse.proofs.ScalarBlocks.{zero-is}
+use Rattle.block_complexes.specs.BlockComplexes.{BlockComplex, AreBothLive, IsBlockComplex, cells, degree_of, size_of}
+use Rattle.block_complexes.specs.Cochains.{cell_of, complex_of}
+use Rattle.block_complexes.proofs.LiveLaws.{cell-at, length-cells, of_cell-at}
+use Rattle.block_complexes.proofs.SumLaws.{arriving, arriving-vector, sum_into-live, sum_over-some}
+use Rattle.block_complexes.proofs.DegreeLaws.{value-absent}
 use Rattle.sheaf_data.specs.Sheaves.{IsSheaf}
 use Rattle.sheaf_data.specs.Betti.{numbered, signed, cochain_complex_of}
-use Rattle.coboundary.specs.Start.{IsStart, face_matrix, with_stalks}
-use Rattle.coboundary.specs.StartCoboundary.{StartIsOverTheField, StartHasTheCoboundary, StartIsCochainComplex, StartHasTheCohomology}
+use Rattle.coboundary.specs.Start.{face_matrix, or_zeros, start_complex, with_stalks}
+use Rattle.coboundary.specs.StartCoboundary.{StartIsBlockComplex, StartHasTheCoboundary, StartIsCochainComplex, StartHasTheCohomology}
 use Rattle.coboundary.proofs.ArrowLaws.{between-none, between-face}
 use Rattle.coboundary.proofs.MiddleLaws.{has_arrow, signed-matrix}
 use Rattle.coboundary.proofs.ClosedLaws.{all-numbered, from_stalks, rows, from_cells, dd_zero}
-use Rattle.coboundary.proofs.LiveLaws.{numbered-rising, with_stalks-rising}
+use Rattle.coboundary.proofs.LiveLaws.{numbered-rising, with_stalks-rising, with_stalks-sizes}
 
 not-found : {X : Type 0} (p : X → Bool) (xs : List X) → list_any p xs ≡ false → find p xs ≡ None
 not-found p [] h = refl
@@ -73,8 +71,16 @@ cells-of-rows : (cs : List Cell) → map cell_of (map (λ (c : Cell). (c.cell, c
 cells-of-rows [] = refl
 cells-of-rows (c ∷ cs) = ap (λ t. c ∷ t) (cells-of-rows cs)
 
+-- v has the live cells and the matrices of the start complex
+record IsStartAt (K : Ops) (c : CellComplex) (stalks : List ℕ) (blocks : List Block) (v : BlockComplex) : Type 0 where
+  live : v.live ≡ with_stalks (numbered 0 c.dims stalks)
+  matrices : (s t : ℕ) → v.matrix s t ≡ or_zeros (face_matrix K c blocks s t) (size_of v.live t) (size_of v.live s)
+
+starts : (K : Ops) (c : CellComplex) (stalks : List ℕ) (blocks : List Block) → IsStartAt K c stalks blocks (start_complex K c stalks blocks)
+starts K c stalks blocks = record { live = refl; matrices = λ s t. refl }
+
 module _ (K : Ops) (F : IsField K) (c : CellComplex) (stalks : List ℕ) (blocks : List Block) (v : BlockComplex) (complex : IsComplex c)
-    (sheaf : IsSheaf K c stalks blocks) (start : IsStart K c stalks blocks v) where
+    (sheaf : IsSheaf K c stalks blocks) (start : IsStartAt K c stalks blocks v) where
   abbrev W : CellularComplex
   W = cochain_complex_of K c stalks blocks
 
@@ -90,25 +96,19 @@ module _ (K : Ops) (F : IsField K) (c : CellComplex) (stalks : List ℕ) (blocks
   live_rises : IsRising (cells v.live)
   live_rises = subst (λ (live : List (ℕ × ℕ × ℕ)). IsRising (cells live)) (sym start.live) (with_stalks-rising c.dims stalks sheaf.one_each)
 
-  -- a live cell has a stalk, which is as large as the cell
+  -- a live cell has a stalk, which is as large as the cell, and its degree
   record IsAlive (t : ℕ) : Type 0 where
     inside : t < length c.dims
     same_size : size_of v.live t ≡ size t
+    same_degree : degree_of v.live t ≡ slice_index c.dims t
 
-  all_alive : All (λ (l : ℕ × ℕ × ℕ). (l.0 < length c.dims) × (l.2 ≡ size l.0)) v.live
-  all_alive i d l = fact (get_or v.live i d)
-      (subst (λ (cs : List Cell). All (λ (u : Cell). (u.cell < length c.dims) × (u.size ≡ size u.cell)) cs) (sym cells_are) kept_alive i (cell_of d)
-      (omega (arith, l, length-map v.live cell_of)))
-      (get_or-map cell_of v.live i d (cell_of d) l)
-    where
-      kept_alive : All (λ (u : Cell). (u.cell < length c.dims) × (u.size ≡ size u.cell)) kept
-      kept_alive = All-filter has_coordinates (λ (u : Cell). (u.cell < length c.dims) × (u.size ≡ size u.cell)) W.cells
-          (all-numbered (λ (u : Cell). (u.cell < length c.dims) × (u.size ≡ size u.cell)) 0 c.dims stalks sheaf.one_each
-          (λ i l. let same : i ≡ 0 + i = omega arith in (omega arith, ap size same)))
-
-      fact : (l : ℕ × ℕ × ℕ) → (((get_or (complex_of v).cells i (cell_of d)).cell < length c.dims) × ((get_or (complex_of v).cells i (cell_of d)).size ≡ size (get_or (complex_of v).cells i (cell_of d)).cell))
-          → get_or (complex_of v).cells i (cell_of d) ≡ cell_of l → (l.0 < length c.dims) × (l.2 ≡ size l.0)
-      fact l h e = subst (λ (u : Cell). (u.cell < length c.dims) × (u.size ≡ size u.cell)) e h
+  all_alive : All (λ (l : ℕ × ℕ × ℕ). (l.0 < length c.dims) × (l.2 ≡ size l.0) × (l.1 ≡ slice_index c.dims l.0)) v.live
+  all_alive =
+      subst (All (λ (l : ℕ × ℕ × ℕ). (l.0 < length c.dims) × (l.2 ≡ size l.0) × (l.1 ≡ slice_index c.dims l.0))) (sym start.live)
+      (All-map (λ (l : ℕ × ℕ × ℕ). (l.0 < length c.dims) × (l.2 ≡ size l.0) × (l.1 ≡ slice_index c.dims l.0)) (λ (u : Cell). (u.cell, u.degree, u.size)) kept
+      (All-filter has_coordinates (λ (u : Cell). (u.cell < length c.dims) × (u.size ≡ size u.cell) × (u.degree ≡ slice_index c.dims u.cell)) W.cells
+      (all-numbered (λ (u : Cell). (u.cell < length c.dims) × (u.size ≡ size u.cell) × (u.degree ≡ slice_index c.dims u.cell)) 0 c.dims stalks sheaf.one_each
+      (λ i l. let same : i ≡ 0 + i = omega arith in (omega arith, ap size same, ap (slice_index c.dims) same)))))
 
   alive : (t : ℕ) → has t (cells v.live) ≡ true → IsAlive t
   alive t h =
@@ -119,6 +119,7 @@ module _ (K : Ops) (F : IsField K) (c : CellComplex) (stalks : List ℕ) (blocks
       record {
         inside = subst (λ k. k < length c.dims) is its.0;
         same_size = of_cell-at (λ l. l.2) v.live p.at t live_rises l is ∙ its.1 ∙ ap size is;
+        same_degree = of_cell-at (λ l. l.1) v.live p.at t live_rises l is ∙ its.2 ∙ ap (slice_index c.dims) is;
       }
 
   -- the matrix from s to t where s is a face of t, and where it is not
@@ -148,36 +149,36 @@ module _ (K : Ops) (F : IsField K) (c : CellComplex) (stalks : List ℕ) (blocks
   abbrev zero_between : ℕ → ℕ → List (List ℕ)
   zero_between s t = zero_matrix (size_of v.live t) (size_of v.live s)
 
-  matrix-apart : (s t : ℕ) → is_face c s t ≡ false → matrix v s t ≡ zero_between s t
-  matrix-apart s t h = ap (λ o. matrix_or o (zero_between s t)) (start.faces s t ∙ ap (option_and_then placed) (apart s t h))
+  matrix-apart : (s t : ℕ) → is_face c s t ≡ false → v.matrix s t ≡ zero_between s t
+  matrix-apart s t h = start.matrices s t ∙ ap (λ o. or_zeros o (size_of v.live t) (size_of v.live s)) (apart s t h)
 
-  -- the matrix of a face, or zeros where it is zero
-  matrix-joined : (s t : ℕ) (j : Joined s t) → matrix v s t ≡ cond (is_zero j.its_matrix) (zero_between s t) j.its_matrix
-  matrix-joined s t j =
-      ap (λ o. matrix_or o (zero_between s t)) (start.faces s t ∙ ap (option_and_then placed) j.is) ∙ go (is_zero j.its_matrix)
+  matrix-joined : (s t : ℕ) (j : Joined s t) → v.matrix s t ≡ j.its_matrix
+  matrix-joined s t j = start.matrices s t ∙ ap (λ o. or_zeros o (size_of v.live t) (size_of v.live s)) j.is
+
+  shape_at : (s t : ℕ) → AreBothLive v.live s t → Matrix K (size_of v.live t) (size_of v.live s) (v.matrix s t)
+  shape_at s t l = go (is_face c s t) refl
     where
-      go : (b : Bool) → matrix_or (cond b None (Some (record { matrix = j.its_matrix; flagged = false }))) (zero_between s t) ≡ cond b (zero_between s t) j.its_matrix
-      go true = refl
-      go false = refl
-
-  over : (s t : ℕ) → All (AllScalars K) (matrix v s t)
-  over s t = go (is_face c s t) refl
-    where
-      scalars : (m n : ℕ) (A : List (List ℕ)) → Matrix K m n A → All (AllScalars K) A
-      scalars m n A h i d l = (matrix-rows K m n A h i d l).scalars
-
-      zero : All (AllScalars K) (zero_between s t)
-      zero = scalars (size_of v.live t) (size_of v.live s) (zero_between s t) (zero_matrix-matrix K F (size_of v.live t) (size_of v.live s))
-
-      go : (b : Bool) → is_face c s t ≡ b → All (AllScalars K) (matrix v s t)
-      go false h = subst (All (AllScalars K)) (sym (matrix-apart s t h)) zero
+      go : (b : Bool) → is_face c s t ≡ b → Matrix K (size_of v.live t) (size_of v.live s) (v.matrix s t)
+      go false h =
+          subst (Matrix K (size_of v.live t) (size_of v.live s)) (sym (matrix-apart s t h)) (zero_matrix-matrix K F (size_of v.live t) (size_of v.live s))
       go true h =
           let j = joined s t h in
-          subst (All (AllScalars K)) (sym (matrix-joined s t j))
-          (elim (is_zero j.its_matrix) as (λ b. All (AllScalars K) (cond b (zero_between s t) j.its_matrix)) [
-            | true ↦ zero
-            | false ↦ scalars (size t) (size s) j.its_matrix j.shape
-          ])
+          subst (λ m. Matrix K m (size_of v.live s) (v.matrix s t)) (sym (alive t l.to).same_size)
+          (subst (λ n. Matrix K (size t) n (v.matrix s t)) (sym (alive s l.from).same_size)
+          (subst (Matrix K (size t) (size s)) (sym (matrix-joined s t j)) j.shape))
+
+  is_block_complex : IsBlockComplex K v
+  is_block_complex = record {
+    rising = live_rises;
+    sizes = subst (All (λ (l : ℕ × ℕ × ℕ). 1 ≤ l.2)) (sym start.live) (with_stalks-sizes c.dims stalks);
+    matrices = λ s t l. from_matrix K (size_of v.live t) (size_of v.live s) (v.matrix s t) (shape_at s t l);
+    apart = λ s t l n. apart_at s t l n (is_face c s t) refl;
+  }
+    where
+      apart_at : (s t : ℕ) → AreBothLive v.live s t → degree_of v.live t ≢ degree_of v.live s + 1 → (b : Bool) → is_face c s t ≡ b → v.matrix s t ≡ zero_between s t
+      apart_at s t l n false h = matrix-apart s t h
+      apart_at s t l n true h =
+          absurd (n ((alive t l.to).same_degree ∙ (incident_from_face c complex s t h).one_up ∙ ap (λ d. d + 1) (sym (alive s l.from).same_degree)))
 
   -- into a live cell
   module _ (k : ℕ) (z : List ℕ) (t : ℕ) (is_live : has t (cells v.live) ≡ true) where
@@ -194,38 +195,28 @@ module _ (K : Ops) (F : IsField K) (c : CellComplex) (stalks : List ℕ) (blocks
     zero-acts : (s : ℕ) (w : List ℕ) → applied K (zero_between s t) w ≡ zeros (size t)
     zero-acts s w = zero_matrix-applied K F (size_of v.live t) (size_of v.live s) w ∙ ap zeros same_size
 
-    matrix-rows_of : (s : ℕ) → length (matrix v s t) ≡ size t
+    matrix-rows_of : (s : ℕ) → length (v.matrix s t) ≡ size t
     matrix-rows_of s = go (is_face c s t) refl
       where
-        go : (b : Bool) → is_face c s t ≡ b → length (matrix v s t) ≡ size t
+        go : (b : Bool) → is_face c s t ≡ b → length (v.matrix s t) ≡ size t
         go false h = ap length (matrix-apart s t h) ∙ zero-rows s
         go true h =
             let j = joined s t h in
-            ap length (matrix-joined s t j)
-            ∙ elim (is_zero j.its_matrix) as (λ b. length (cond b (zero_between s t) j.its_matrix) ≡ size t) [
-              | true ↦ zero-rows s
-              | false ↦ matrix-size K (size t) (size s) j.its_matrix j.shape
-            ]
+            ap length (matrix-joined s t j) ∙ matrix-size K (size t) (size s) j.its_matrix j.shape
 
-    acts : (s : ℕ) → applied K (matrix v s t) (value s) ≡ sum_into K (arrows_from W.arrows s) value (size t) t
+    acts : (s : ℕ) → applied K (v.matrix s t) (value s) ≡ sum_into K (arrows_from W.arrows s) value (size t) t
     acts s = go (is_face c s t) refl
       where
-        go : (b : Bool) → is_face c s t ≡ b → applied K (matrix v s t) (value s) ≡ sum_into K (arrows_from W.arrows s) value (size t) t
+        go : (b : Bool) → is_face c s t ≡ b → applied K (v.matrix s t) (value s) ≡ sum_into K (arrows_from W.arrows s) value (size t) t
         go false h =
             ap (λ A. applied K A (value s)) (matrix-apart s t h) ∙ zero-acts s (value s) ∙ sym (between-none K F s t (size t) value c.faces blocks h)
-        go true h = nonzero (joined s t h) (is_zero (joined s t h).its_matrix) refl
-          where
-            nonzero : (j : Joined s t) (b : Bool) → is_zero j.its_matrix ≡ b → applied K (matrix v s t) (value s) ≡ sum_into K (arrows_from W.arrows s) value (size t) t
-            nonzero j true e =
-                ap (λ A. applied K A (value s)) (matrix-joined s t j ∙ ap (λ b. cond b (zero_between s t) j.its_matrix) e)
-                ∙ zero-acts s (value s)
-                ∙ sym (j.acts value ∙ ap (λ A. applied K A (value s)) (zero-is K (size t) (size s) j.its_matrix j.shape e) ∙ zero_matrix-applied K F (size t) (size s) (value s))
-            nonzero j false e =
-                ap (λ A. applied K A (value s)) (matrix-joined s t j ∙ ap (λ b. cond b (zero_between s t) j.its_matrix) e) ∙ sym (j.acts value)
+        go true h =
+            let j = joined s t h in
+            ap (λ A. applied K A (value s)) (matrix-joined s t j) ∙ sym (j.acts value)
 
-    no-value : (s : ℕ) → has s (cells v.live) ≡ false → applied K (matrix v s t) (value s) ≡ zeros (size t)
+    no-value : (s : ℕ) → has s (cells v.live) ≡ false → applied K (v.matrix s t) (value s) ≡ zeros (size t)
     no-value s h =
-        ap (applied K (matrix v s t)) (value-absent k v.live z s h) ∙ nothing (matrix v s t) (size t) (matrix-rows_of s)
+        ap (applied K (v.matrix s t)) (value-absent k v.live z s h) ∙ nothing (v.matrix s t) (size t) (matrix-rows_of s)
       where
         nothing : (A : List (List ℕ)) (n : ℕ) → length A ≡ n → applied K A [] ≡ zeros n
         nothing [] zero e = refl
@@ -274,27 +265,32 @@ module _ (K : Ops) (F : IsField K) (c : CellComplex) (stalks : List ℕ) (blocks
               ∙ into-same k z l.0 h
               ∙ ap (λ n. sum_into K W.arrows (value_at (cells_of (complex_of v) k) z) n l.0) (sym e)
 
-pub start_is_over_the_field : StartIsOverTheField
-start_is_over_the_field K c stalks blocks v F complex sheaf start = over K F c stalks blocks v complex sheaf start
+abbrev begun : (K : Ops) (F : IsField K) (c : CellComplex) (stalks : List ℕ) (blocks : List Block) → IsComplex c → IsSheaf K c stalks blocks
+    → Agree K (complex_of (start_complex K c stalks blocks)) (cochain_complex_of K c stalks blocks)
+begun K F c stalks blocks complex sheaf = same K F c stalks blocks (start_complex K c stalks blocks) complex sheaf (starts K c stalks blocks)
+
+pub start_is_block_complex : StartIsBlockComplex
+start_is_block_complex K c stalks blocks F complex sheaf =
+    is_block_complex K F c stalks blocks (start_complex K c stalks blocks) complex sheaf (starts K c stalks blocks)
 
 pub start_has_the_coboundary : StartHasTheCoboundary
-start_has_the_coboundary K c stalks blocks v F complex sheaf start =
-    let same = same K F c stalks blocks v complex sheaf start in
+start_has_the_coboundary K c stalks blocks F complex sheaf =
+    let same = begun K F c stalks blocks complex sheaf in
     record { sizes = same.sizes; maps = same.maps }
 
 pub start_is_cochain_complex : StartIsCochainComplex
-start_is_cochain_complex K c stalks blocks v F complex sheaf start k z is_cochain =
+start_is_cochain_complex K c stalks blocks F complex sheaf k z is_cochain =
     let C = cochain_complex_of K c stalks blocks in
-    let D = complex_of v in
-    let same = same K F c stalks blocks v complex sheaf start in
+    let D = complex_of (start_complex K c stalks blocks) in
+    let same = begun K F c stalks blocks complex sheaf in
     same.maps (suc k) (coboundary K D k z)
     ∙ ap (coboundary K C (suc k)) (same.maps k z)
     ∙ dd_zero K c stalks blocks F complex sheaf k z (subst (λ n. IsVector K n z) (same.sizes k) is_cochain)
     ∙ ap zeros (sym (same.sizes (suc (suc k))))
 
 pub start_has_the_cohomology : StartHasTheCohomology
-start_has_the_cohomology K c stalks blocks v F complex sheaf start k B =
+start_has_the_cohomology K c stalks blocks F complex sheaf k B =
     let C = cochain_complex_of K c stalks blocks in
-    let D = complex_of v in
-    let same = same K F c stalks blocks v complex sheaf start in
+    let D = complex_of (start_complex K c stalks blocks) in
+    let same = begun K F c stalks blocks complex sheaf in
     (basis_over K D C same k B, basis_over K C D (agree_back K D C same) k B)

@@ -19,8 +19,9 @@ use Rattle.dense_blocks.specs.declared.block.Block.{Block}
 use Rattle.square_check.proofs.Placed.{some-same}
 use Rattle.cochain_vec.specs.declared.cell.Cell.{Cell}
 use Rattle.sheaf_data.specs.Betti.{numbered, signed}
-use Rattle.coboundary.specs.Start.{with_stalks, face_matrix, with_first, AreFirstPut}
-use Rattle.block_sparse.specs.BlockComplexes.{Standing, is_zero}
+use Rattle.coboundary.specs.Start.{with_stalks, face_matrix}
+use Rattle.coboundary.specs.Put.{with_first, AreFirstPut}
+use Rattle.block_sparse.specs.StoredBlocks.{Standing, is_zero}
 use Rattle.block_sparse.specs.Grids.{placed}
 use Rattle.block_sparse.specs.Lists.{with_block}
 use Rattle.coboundary.proofs.ArrowLaws.{eqb-sym, find-behind, at_place-behind, at_place-front}

@@ -1,3 +1,4 @@
 pub mod Closed
 pub mod Start
+pub mod Put
 pub mod StartCoboundary

@@ -1,14 +1,14 @@
--- The start complex of a sheaf: the cells with a stalk, and the blocks of the faces.
-use Rattle.std.specs.Prelude.{◌≡◌, ℕ, List, Option, map, take, filter, not, ◌==◌}
+-- The start complex of a sheaf: the cells with a stalk, and the matrices of the faces.
+use Rattle.std.specs.Prelude.{ℕ, List, Option, Some, None, map, filter, not, ◌==◌}
 use Rattle.std.specs.Option.{option_map, option_and_then}
 use Rattle.cell_complex.specs.Complexes.{CellComplex, sign}
 use Rattle.dense_blocks.specs.Field.{Ops}
+use Rattle.dense_blocks.specs.Matrices.{zero_matrix}
 use Rattle.dense_blocks.specs.Blocks.{matrix_of}
 use Rattle.dense_blocks.specs.declared.block.Block.{Block}
 use Rattle.cochain_vec.specs.declared.cell.Cell.{Cell}
 use Rattle.square_check.specs.Squares.{restriction}
-use Rattle.block_sparse.specs.BlockComplexes.{BlockComplex, Standing, held}
-use Rattle.block_sparse.specs.Grids.{placed}
+use Rattle.block_complexes.specs.BlockComplexes.{BlockComplex, size_of}
 use Rattle.sheaf_data.specs.Betti.{numbered, signed}
 
 -- the cells with a stalk that is not zero, each with its degree and its size
@@ -19,15 +19,14 @@ with_stalks cs = map (λ (c : Cell). (c.cell, c.degree, c.size)) (filter (λ (c 
 abbrev pub face_matrix : Ops → CellComplex → List Block → ℕ → ℕ → Option (List (List ℕ))
 face_matrix K c blocks s t = option_and_then (λ g. option_map (λ b. signed K g (matrix_of b)) (restriction c blocks s t)) (sign c s t)
 
--- the complex with the first so many faces
-abbrev pub with_first : CellComplex → ℕ → CellComplex
-with_first c n = record c { faces = take n c.faces }
+-- the matrix, or zeros of m rows and n columns where there is none
+abbrev pub or_zeros : Option (List (List ℕ)) → ℕ → ℕ → List (List ℕ)
+or_zeros None m n = zero_matrix m n
+or_zeros (Some A) m n = A
 
--- what stands where the blocks of the first n faces have been put
-abbrev pub AreFirstPut : Ops → CellComplex → List Block → ℕ → (ℕ → ℕ → Option Standing) → Type 0
-AreFirstPut K c blocks n held = (s t : ℕ) → held s t ≡ option_and_then placed (face_matrix K (with_first c n) (take n blocks) s t)
-
--- the block complex of a sheaf: the cells with a stalk, and for each face its sign times its restriction, without a flag; no zero block
-pub record IsStart (K : Ops) (c : CellComplex) (stalks : List ℕ) (blocks : List Block) (v : BlockComplex) : Type 0 where
-  pub live : v.live ≡ with_stalks (numbered 0 c.dims stalks)
-  pub faces : (s t : ℕ) → held v s t ≡ option_and_then placed (face_matrix K c blocks s t)
+-- the start complex of a sheaf: its live cells are the cells with a stalk; the matrix from s to t is the sign times the restriction where
+-- s is a face of t, and every other matrix is zero
+abbrev pub start_complex : Ops → CellComplex → List ℕ → List Block → BlockComplex
+start_complex K c stalks blocks =
+    let live = with_stalks (numbered 0 c.dims stalks) in
+    record { live = live; matrix = λ s t. or_zeros (face_matrix K c blocks s t) (size_of live t) (size_of live s) }

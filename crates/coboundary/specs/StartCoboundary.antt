@@ -5,25 +5,25 @@ use Rattle.dense_blocks.specs.Field.{Ops, IsField}
 use Rattle.dense_blocks.specs.declared.block.Block.{Block}
 use Rattle.cochain_vec.specs.Complexes.{CellularComplex, coboundary, coordinates}
 use Rattle.cochain_vec.specs.Cohomology.{IsCochainComplex, IsBasis}
-use Rattle.block_sparse.specs.BlockComplexes.{BlockComplex}
-use Rattle.block_sparse.specs.Cochains.{IsOver, complex_of}
+use Rattle.block_complexes.specs.BlockComplexes.{BlockComplex, IsBlockComplex}
+use Rattle.block_complexes.specs.Cochains.{complex_of}
 use Rattle.sheaf_data.specs.Sheaves.{IsSheaf}
 use Rattle.sheaf_data.specs.Betti.{cochain_complex_of}
-use Rattle.coboundary.specs.Start.{IsStart}
+use Rattle.coboundary.specs.Start.{start_complex}
 
 -- for every sheaf over a field, its complex C and its start complex v
 abbrev pub ForEachStart : (Ops → CellularComplex → BlockComplex → Type 0) → Type 0
-ForEachStart P = (K : Ops) (c : CellComplex) (stalks : List ℕ) (blocks : List Block) (v : BlockComplex) → IsField K → IsComplex c
-    → IsSheaf K c stalks blocks → IsStart K c stalks blocks v → P K (cochain_complex_of K c stalks blocks) v
+ForEachStart P = (K : Ops) (c : CellComplex) (stalks : List ℕ) (blocks : List Block) → IsField K → IsComplex c → IsSheaf K c stalks blocks
+    → P K (cochain_complex_of K c stalks blocks) (start_complex K c stalks blocks)
 
 -- two complexes have cochains of as many coordinates, and the same coboundary, in each degree
 pub record HaveSameCoboundary (K : Ops) (C D : CellularComplex) : Type 0 where
   pub sizes : (k : ℕ) → coordinates C k ≡ coordinates D k
   pub maps : (k : ℕ) (z : List ℕ) → coboundary K C k z ≡ coboundary K D k z
 
--- the matrices have scalars of the field
-abbrev pub StartIsOverTheField : Type 0
-StartIsOverTheField = ForEachStart (λ K C v. IsOver K v)
+-- it is a block complex over the field
+abbrev pub StartIsBlockComplex : Type 0
+StartIsBlockComplex = ForEachStart (λ K C v. IsBlockComplex K v)
 
 abbrev pub StartHasTheCoboundary : Type 0
 StartHasTheCoboundary = ForEachStart (λ K C v. HaveSameCoboundary K (complex_of v) C)

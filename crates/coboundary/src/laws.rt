@@ -1,5 +1,5 @@
 ghost use Rattle.coboundary.specs.Closed.{CoboundaryOfCoboundaryIsZero, CoboundariesAreCocycles};
-ghost use Rattle.coboundary.specs.StartCoboundary.{StartIsOverTheField, StartHasTheCoboundary, StartIsCochainComplex, StartHasTheCohomology};
+ghost use Rattle.coboundary.specs.StartCoboundary.{StartIsBlockComplex, StartHasTheCoboundary, StartIsCochainComplex, StartHasTheCohomology};
 
 /// A law, with nothing to run: on every sheaf over a field, the coboundary of the coboundary of a cochain is zero.
 pub fn dd_zero()
@@ -11,9 +11,9 @@ pub fn coboundaries_are_cocycles()
     ensures { CoboundariesAreCocycles }
 {}
 
-/// A law, with nothing to run: the start complex of a sheaf over a field has scalars of that field.
-pub fn start_is_over_the_field()
-    ensures { StartIsOverTheField }
+/// A law, with nothing to run: the start complex of a sheaf over a field is a block complex over that field.
+pub fn start_is_block_complex()
+    ensures { StartIsBlockComplex }
 {}
 
 /// A law, with nothing to run: in each degree the start complex of a sheaf has the coboundary of the sheaf.

@@ -9,6 +9,6 @@ mod tests;
 
 pub use laws::{
     coboundaries_are_cocycles, dd_zero, start_has_the_coboundary, start_has_the_cohomology,
-    start_is_cochain_complex, start_is_over_the_field,
+    start_is_block_complex, start_is_cochain_complex,
 };
 pub use start::full;

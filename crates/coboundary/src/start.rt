@@ -1,11 +1,12 @@
 ghost use Rattle.std.specs.Prelude.{◌≡◌, ◌<◌, ◌≤◌, ◌+◌, ℕ, None, [], ◌∷◌, ◌++◌, length, slice_get, slice_index, IfOk, OnOk, OnErr, IfSome};
 ghost use Rattle.dense_blocks.specs.Vectors.{AllScalars};
 ghost use Rattle.dense_blocks.specs.Blocks.{matrix_of, IsBlock};
-ghost use Rattle.block_sparse.specs.BlockComplexes.{Fits, held};
+ghost use Rattle.block_sparse.specs.StoredBlocks.{Fits, held};
 ghost use Rattle.block_sparse.specs.Lists.{with_block};
 ghost use Rattle.cell_complex.specs.Complexes.{IsComplex};
 ghost use Rattle.sheaf_data.specs.Betti.{numbered, signed};
-ghost use Rattle.coboundary.specs.Start.{with_stalks, AreFirstPut, IsStart};
+ghost use Rattle.coboundary.specs.Start.{with_stalks};
+ghost use Rattle.coboundary.specs.Put.{AreFirstPut, IsStart};
 
 use block_sparse::Blocks;
 use cell_complex::{Face, Sign};

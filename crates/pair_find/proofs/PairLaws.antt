@@ -1,16 +1,16 @@
 -- From the first candidate of a column, and of the columns after it, to the first of all pairs.
-use Rattle.std.proofs.Common.{◌≡◌, ℕ, ◌<◌, ◌≤◌, Bool, true, false, refl, sym, ap, ◌∙◌, subst, arith, ◌⊎◌, inl, inr, Option, Some, None, MatchOption}
-use Rattle.std.proofs.lemmas.Bool.{cases_lt, cases_Bool}
-use Rattle.block_sparse.specs.BlockComplexes.{BlockComplex}
+use Rattle.std.proofs.Common.{◌≡◌, ℕ, Bool, true, false, refl, sym, ap, ◌∙◌, arith, inl, inr, Option, Some, None, MatchOption}
+use Rattle.std.proofs.lemmas.Bool.{cases_lt}
+use Rattle.block_sparse.specs.StoredBlocks.{StoredBlocks}
 use Rattle.block_sparse.specs.Candidates.{is_candidate}
-use Rattle.open_columns.specs.Open.{FirstFrom, FirstPair, IsFirst}
+use Rattle.open_columns.specs.Open.{FirstFrom, FirstPair}
 use Rattle.pair_find.specs.Pairs.{AtOrAfter, IsFirstFrom, IsNextFrom, NoneFrom}
 
 differ : (b : Bool) → b ≡ true → b ≡ false → ⊥
 differ b e f = let g : true ≡ false = sym e ∙ f in cc
 
 -- a candidate of the pair's own column
-pub first-in_column : (v : BlockComplex) (from : ℕ × ℕ) (t : ℕ) → FirstFrom (λ q. is_candidate v from.0 q) from.1 (Some t) → IsFirstFrom v from (from.0, t)
+pub first-in_column : (v : StoredBlocks) (from : ℕ × ℕ) (t : ℕ) → FirstFrom (λ q. is_candidate v from.0 q) from.1 (Some t) → IsFirstFrom v from (from.0, t)
 first-in_column v from t f = record {
   candidate = f.is;
   at_or_after = inr (refl, f.after);
@@ -24,7 +24,7 @@ first-in_column v from t f = record {
 }
 
 -- none there: one of a later column, or none
-module _ (v : BlockComplex) (from : ℕ × ℕ) (here : FirstFrom (λ q. is_candidate v from.0 q) from.1 None) where
+module _ (v : StoredBlocks) (from : ℕ × ℕ) (here : FirstFrom (λ q. is_candidate v from.0 q) from.1 None) where
   pub none-beyond : FirstPair (is_candidate v) from.0 None → NoneFrom v from
   none-beyond none q a = elim a [
     | inl u ↦ none q.0 q.1 u
@@ -60,7 +60,7 @@ module _ (v : BlockComplex) (from : ℕ × ℕ) (here : FirstFrom (λ q. is_cand
 pub all-after : (q : ℕ × ℕ) → AtOrAfter q (0, 0)
 all-after q = elim (cases_lt 0 q.0) [ inl u ↦ inl u | inr u ↦ inr (omega arith, omega arith) ]
 
-pub from-start : (v : BlockComplex) (from : ℕ × ℕ) (o : Option (ℕ × ℕ)) → NoneFrom v from → MatchOption o (NoneFrom v (0, 0)) (λ p. IsFirstFrom v (0, 0) p)
+pub from-start : (v : StoredBlocks) (from : ℕ × ℕ) (o : Option (ℕ × ℕ)) → NoneFrom v from → MatchOption o (NoneFrom v (0, 0)) (λ p. IsFirstFrom v (0, 0) p)
     → MatchOption o ((s t : ℕ) → is_candidate v s t ≡ false) (λ p. IsNextFrom v from p)
 from-start v from None none f = λ s t. f (s, t) (all-after (s, t))
 from-start v from (Some p) none f = inr (none, f)

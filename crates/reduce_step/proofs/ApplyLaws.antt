@@ -9,16 +9,17 @@ use Rattle.dense_blocks.proofs.BlockLaws.{block-size}
 use Rattle.dense_blocks.proofs.Cutting.{Sized, matrix-sized}
 use Rattle.rising_lists.specs.Rising.{entry_of}
 use Rattle.open_columns.specs.declared.mark.Mark.{Mark}
-use Rattle.block_sparse.specs.BlockComplexes.{BlockComplex, standing, is_zero, size_of, held, matrix}
+use Rattle.block_complexes.specs.BlockComplexes.{size_of, IsBlockComplex}
+use Rattle.block_sparse.specs.StoredBlocks.{StoredBlocks, standing, is_zero, held, matrix, complex_in}
 use Rattle.block_sparse.specs.Grids.{part}
-use Rattle.block_sparse.specs.Cochains.{IsOver}
 use Rattle.block_sparse.specs.Invariants.{IsSound}
 use Rattle.block_sparse.proofs.ScalarBlocks.{row-between, matrix-size_of}
 use Rattle.block_sparse.proofs.Windows.{sized-cut}
-use Rattle.removals.specs.Removals.{IsRemoval, KeepsFlags}
-use Rattle.removals.proofs.CornerLaws.{shape}
-use Rattle.removals.proofs.JoinedCorners.{AreAround, part-reduced}
-use Rattle.removals.proofs.AppliedLaws.{AreSteps, IsApplied, applied-removal, applied-flags}
+use Rattle.removals.specs.Removals.{IsRemoval}
+use Rattle.block_sparse.specs.Flags.{KeepsFlags}
+use Rattle.block_sparse.proofs.StoredLaws.{block_complex-full}
+use Rattle.reduce_step.proofs.JoinedCorners.{AreAround, part-reduced}
+use Rattle.reduce_step.proofs.AppliedLaws.{AreSteps, IsApplied, applied-removal, applied-flags}
 use Rattle.reduce_step.specs.declared.footprint.Footprint.{Footprint}
 use Rattle.reduce_step.specs.Footprints.{IsFootprint}
 use Rattle.reduce_step.specs.Records.{IsRecord}
@@ -35,7 +36,7 @@ block-held None m e = e
 block-held (Some b) m e = e
 
 -- a record whose footprint stands
-module _ (K : Ops) (F : IsField K) (v : BlockComplex) (sound : IsSound v.live v.rows v.columns) (over : IsOver K v) (foot : Footprint)
+module _ (K : Ops) (F : IsField K) (v : StoredBlocks) (sound : IsSound v.live v.rows v.columns) (over : IsBlockComplex K (complex_in v)) (foot : Footprint)
     (stands : is_some (held v foot.x foot.y) ≡ true) (is : IsFootprint v foot.x foot.y foot) where
   pivot-rows : foot.pivot.rows ≡ size_of v.live foot.y
   pivot-rows = sym (block-size foot.pivot) ∙ ap length is.pivot ∙ matrix-size_of v sound foot.x foot.y
@@ -49,7 +50,7 @@ module _ (K : Ops) (F : IsField K) (v : BlockComplex) (sound : IsSound v.live v.
       (row-between v sound foot.x foot.y (block-held (entry_of v.rows foot.y foot.x) (entry_of v.columns foot.x foot.y) stands)).nonzero in
       one-width b.rows b.cols m n (matrix v foot.x foot.y) nonzero
       (subst (Sized b.rows b.cols) is.pivot (sized-cut b.rows b.cols b.entries (omega (arith, b.full))))
-      (matrix-sized K m n (matrix v foot.x foot.y) (shape K F v sound over foot.x foot.y))
+      (matrix-sized K m n (matrix v foot.x foot.y) ((block_complex-full K F v sound over).shape foot.x foot.y))
 
   pivot-square : size_of v.live foot.y ≡ size_of v.live foot.x
   pivot-square = sym pivot-rows ∙ foot.parts.square ∙ pivot-cols
@@ -66,7 +67,7 @@ module _ (K : Ops) (F : IsField K) (v : BlockComplex) (sound : IsSound v.live v.
   }
 
   -- once the new corners are put and x and y are taken out, the record is applied
-  record-applied : (inverse new_corners : Block) → IsRecord K foot inverse new_corners → (grid first w : BlockComplex)
+  record-applied : (inverse new_corners : Block) → IsRecord K foot inverse new_corners → (grid first w : StoredBlocks)
       → AreSteps v grid first w foot.x foot.y foot.left foot.below (matrix_of new_corners)
       → IsApplied K v foot.x foot.y (matrix_of inverse) foot.left foot.below (matrix_of new_corners) grid first w
   record-applied inverse new_corners r grid first w steps =
@@ -84,14 +85,14 @@ module _ (K : Ops) (F : IsField K) (v : BlockComplex) (sound : IsSound v.live v.
       }
 
   module _ (inverse new_corners : Block) (r : IsRecord K foot inverse new_corners) (left below : List (ℕ × ℕ)) (on_left : left ≡ foot.left) (is_below : below ≡ foot.below)
-      (grid first w : BlockComplex) (steps : AreSteps v grid first w foot.x foot.y left below (matrix_of new_corners)) where
+      (grid first w : StoredBlocks) (steps : AreSteps v grid first w foot.x foot.y left below (matrix_of new_corners)) where
     applied : IsApplied K v foot.x foot.y (matrix_of inverse) foot.left foot.below (matrix_of new_corners) grid first w
     applied =
         record-applied inverse new_corners r grid first w
         (subst (λ l. AreSteps v grid first w foot.x foot.y l foot.below (matrix_of new_corners)) on_left
         (subst (λ l. AreSteps v grid first w foot.x foot.y left l (matrix_of new_corners)) is_below steps))
 
-    pub record-removed : IsRemoval K v foot.x foot.y (matrix_of inverse) w × KeepsFlags v foot.x foot.y w
+    pub record-removed : IsRemoval K (complex_in v) foot.x foot.y (matrix_of inverse) (complex_in w) × KeepsFlags v foot.x foot.y w
     record-removed =
         let a = matrix_of inverse in
         let N = matrix_of new_corners in (

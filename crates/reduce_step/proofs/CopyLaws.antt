@@ -6,11 +6,11 @@ use Rattle.dense_blocks.specs.Field.{Ops}
 use Rattle.dense_blocks.specs.Vectors.{AllScalars}
 use Rattle.dense_blocks.specs.declared.block.Block.{Block}
 use Rattle.rising_lists.specs.Rising.{IsRising, has, keys}
-use Rattle.block_sparse.specs.BlockComplexes.{BlockComplex, IsBetween, StandsAt, held, is_zero, size_of}
-use Rattle.block_sparse.specs.Cochains.{IsOver}
-use Rattle.block_sparse.proofs.ScalarBlocks.{block-scalars}
-use Rattle.removals.proofs.Sums.{has-head}
-use Rattle.removals.proofs.JoinedScalars.{joined-scalars}
+use Rattle.block_complexes.specs.BlockComplexes.{size_of, IsBlockComplex}
+use Rattle.block_sparse.specs.StoredBlocks.{StoredBlocks, IsBetween, StandsAt, held, is_zero, complex_in}
+use Rattle.block_sparse.proofs.StoredLaws.{standing-scalars}
+use Rattle.block_complexes.proofs.Sums.{has-head}
+use Rattle.reduce_step.proofs.JoinedScalars.{AreAllLive, sized-live, one-live, joined-scalars}
 use Rattle.reduce_step.specs.declared.footprint.Footprint.{Footprint}
 use Rattle.reduce_step.specs.Footprints.{IsFootprint, IsOverField}
 use Rattle.reduce_step.specs.Parts.{AreParts, IsJoinedBlock, sized_others}
@@ -18,7 +18,7 @@ use Rattle.reduce_step.proofs.ListLaws.{AreListed, others-has, others-there, oth
 use Rattle.reduce_step.proofs.PartLaws.{row-part, column-part}
 
 -- the cells of row y and of column x, and what was copied of them
-pub record IsCopy (v : BlockComplex) (x y : ℕ) (in_row in_column : List ℕ) (left below : List (ℕ × ℕ)) (pivot row column corners : Block) : Type 0 where
+pub record IsCopy (v : StoredBlocks) (x y : ℕ) (in_row in_column : List ℕ) (left below : List (ℕ × ℕ)) (pivot row column corners : Block) : Type 0 where
   pub row_has : (s : ℕ) → has s in_row ≡ is_some (held v s y)
   pub row_blocks : (s : ℕ) → has s in_row ≡ true → IsBetween v s y
   pub column_has : (t : ℕ) → has t in_column ≡ is_some (held v x t)
@@ -33,7 +33,7 @@ pub record IsCopy (v : BlockComplex) (x y : ℕ) (in_row in_column : List ℕ) (
   pub column_is : IsJoinedBlock v ((x, size_of v.live x) ∷ []) below column
   pub corners_are : IsJoinedBlock v left below corners
 
-pub copy-parts : {v : BlockComplex} {x y : ℕ} {in_row in_column : List ℕ} {left below : List (ℕ × ℕ)} {pivot row column corners : Block}
+pub copy-parts : {v : StoredBlocks} {x y : ℕ} {in_row in_column : List ℕ} {left below : List (ℕ × ℕ)} {pivot row column corners : Block}
     → IsCopy v x y in_row in_column left below pivot row column corners → AreParts x y left below pivot row column
 copy-parts {v} {x} {y} {in_row} {in_column} {left} {below} {pivot} {row} {column} {corners} h =
     let m : ℕ = size_of v.live y in
@@ -58,7 +58,7 @@ copy-parts {v} {x} {y} {in_row} {in_column} {left} {below} {pivot} {row} {column
           ∙ (h.column_blocks t (others-there v.live in_column y below h.below_is t l)).nonzero;
     }
 
-module _ (v : BlockComplex) (in_row in_column : List ℕ) (foot : Footprint)
+module _ (v : StoredBlocks) (in_row in_column : List ℕ) (foot : Footprint)
     (h : IsCopy v foot.x foot.y in_row in_column foot.left foot.below foot.pivot foot.row foot.column foot.corners) where
   pub copy-footprint : IsFootprint v foot.x foot.y foot
   copy-footprint = record {
@@ -74,13 +74,19 @@ module _ (v : BlockComplex) (in_row in_column : List ℕ) (foot : Footprint)
     corners = h.corners_are.parts;
   }
 
-  joined-over : (K : Ops) → IsOver K v → (left below : List (ℕ × ℕ)) (b : Block) → IsRising (keys left) → IsRising (keys below) → IsJoinedBlock v left below b → AllScalars K b.entries
-  joined-over K over left below b l m j = joined-scalars K v left below b over l m j.cols j.rows j.parts
+  joined-over : (K : Ops) → IsBlockComplex K (complex_in v) → (left below : List (ℕ × ℕ)) (b : Block) → IsRising (keys left) → IsRising (keys below)
+      → AreAllLive v.live left → AreAllLive v.live below → IsJoinedBlock v left below b → AllScalars K b.entries
+  joined-over K over left below b l m p q j = joined-scalars K v left below b over l m p q j.cols j.rows j.parts
 
-  pub copy-over : (K : Ops) → IsOver K v → IsOverField K foot
-  copy-over K over = record {
-    pivot = block-scalars K v foot.x foot.y foot.pivot h.stands (over foot.x foot.y);
-    row = joined-over K over foot.left ((foot.y, size_of v.live foot.y) ∷ []) foot.row foot.parts.left_rises (one-rises foot.y) h.row_is;
-    column = joined-over K over ((foot.x, size_of v.live foot.x) ∷ []) foot.below foot.column (one-rises foot.x) foot.parts.below_rises h.column_is;
-    corners = joined-over K over foot.left foot.below foot.corners foot.parts.left_rises foot.parts.below_rises h.corners_are;
-  }
+  pub copy-over : (K : Ops) → IsBlockComplex K (complex_in v) → IsOverField K foot
+  copy-over K over =
+      let on_left = sized-live v.live foot.left h.left_listed.sized in
+      let is_below = sized-live v.live foot.below h.below_listed.sized in
+      let from_x = one-live v.live foot.x (size_of v.live foot.x) h.stands.fits.between.from in
+      let to_y = one-live v.live foot.y (size_of v.live foot.y) h.stands.fits.between.to in
+      record {
+        pivot = standing-scalars K v over foot.x foot.y foot.pivot h.stands;
+        row = joined-over K over foot.left ((foot.y, size_of v.live foot.y) ∷ []) foot.row foot.parts.left_rises (one-rises foot.y) on_left to_y h.row_is;
+        column = joined-over K over ((foot.x, size_of v.live foot.x) ∷ []) foot.below foot.column (one-rises foot.x) foot.parts.below_rises from_x is_below h.column_is;
+        corners = joined-over K over foot.left foot.below foot.corners foot.parts.left_rises foot.parts.below_rises on_left is_below h.corners_are;
+      }

@@ -9,10 +9,11 @@ use Rattle.dense_blocks.specs.Blocks.{matrix_of}
 use Rattle.dense_blocks.specs.declared.block.Block.{Block}
 use Rattle.rising_lists.specs.Rising.{IsRising, has, keys}
 use Rattle.rising_lists.proofs.Keyed.{place_of, rising_tail, rising_le, head-absent}
-use Rattle.block_sparse.specs.BlockComplexes.{BlockComplex, AreLive, cells, held, matrix, size_of}
+use Rattle.block_complexes.specs.BlockComplexes.{cells, size_of}
+use Rattle.block_sparse.specs.StoredBlocks.{StoredBlocks, held, matrix, AreLive}
 use Rattle.block_sparse.specs.Grids.{width, AreSized, IsJoined, IsFirstOther, segment, part, columns_of}
 use Rattle.block_sparse.proofs.GridLaws.{key-listed, map-same}
-use Rattle.block_sparse.proofs.LiveLaws.{cell-at, length-cells, of_cell-at}
+use Rattle.block_complexes.proofs.LiveLaws.{cell-at, length-cells, of_cell-at}
 use Rattle.block_sparse.proofs.Windows.{width-take}
 use Rattle.reduce_step.proofs.PartLaws.{row-part, column-part, columns-one}
 use Rattle.reduce_step.specs.declared.footprint.Footprint.{Footprint}
@@ -42,7 +43,7 @@ and_false false = refl
 pub both-listed : (foot : Footprint) (s t : ℕ) → has s (keys (sources foot)) ≡ true → has t (keys (targets foot)) ≡ true → is_copied foot s t ≡ true
 both-listed foot s t hs ht = ap₂ (λ a b. a && b) hs ht
 
-pub same-kept : (v : BlockComplex) (foot : Footprint) (s t : ℕ) → is_copied foot s t ≡ true → IsKept v foot s t → IsSameAt v foot s t
+pub same-kept : (v : StoredBlocks) (foot : Footprint) (s t : ℕ) → is_copied foot s t ≡ true → IsKept v foot s t → IsSameAt v foot s t
 same-kept v foot s t e k = record { copied = λ _. k; others = λ f _. not-both (is_copied foot s t) e f }
 
 -- a stretch of the first cells is that of all
@@ -288,7 +289,7 @@ module _ (live : List (ℕ × ℕ × ℕ)) (k c n : ℕ) where
         ap (λ k. take k ((c, size_of live c) ∷ [])) none ∙ sym (ap (λ k. take k ((c, n) ∷ [])) none)
   ]
 
-module _ (v : BlockComplex) (foot : Footprint) where
+module _ (v : StoredBlocks) (foot : Footprint) where
   abbrev Same : ℕ → ℕ → Type 0
   Same = IsSameAt v foot
 

@@ -14,7 +14,8 @@ use Rattle.dense_blocks.proofs.VectorLaws.{zeros-vector}
 use Rattle.dense_blocks.proofs.MatrixLaws.{zero_matrix-matrix, zero_matrix-applied}
 use Rattle.dense_blocks.proofs.InverseLaws.{kernel-no_inverse}
 use Rattle.rising_lists.specs.Rising.{has, keys}
-use Rattle.block_sparse.specs.BlockComplexes.{BlockComplex, AreLive, held, is_zero, matrix, size_of}
+use Rattle.block_complexes.specs.BlockComplexes.{size_of}
+use Rattle.block_sparse.specs.StoredBlocks.{StoredBlocks, held, is_zero, matrix, AreLive}
 use Rattle.block_sparse.specs.Grids.{segment, part, columns_of, IsJoined}
 use Rattle.block_sparse.proofs.ScalarBlocks.{matrix-none, not-held}
 use Rattle.reduce_step.specs.declared.footprint.Footprint.{Footprint}
@@ -32,7 +33,7 @@ zero_matrix-zero zero n = refl
 zero_matrix-zero (suc m) n = ap₂ (λ a b. a && b) (zeros-zero n) (zero_matrix-zero m n)
 
 -- a matrix that is not zero is that of a block
-nonzero-held : (K : Ops) (v : BlockComplex) (s t : ℕ) → is_zero (matrix v s t) ≡ false → is_some (held v s t) ≡ true
+nonzero-held : (K : Ops) (v : StoredBlocks) (s t : ℕ) → is_zero (matrix v s t) ≡ false → is_some (held v s t) ≡ true
 nonzero-held K v s t e = elim (cases_Bool (is_some (held v s t))) [
   | inl h ↦ h
   | inr n ↦ not-both (is_zero (matrix v s t))
@@ -61,7 +62,7 @@ others-are x ls stands apart there others c = elim (cases_eq c x) [
   ]
 ]
 
-module _ (K : Ops) (v : BlockComplex) (foot : Footprint) (fits : Fits v foot) where
+module _ (K : Ops) (v : StoredBlocks) (foot : Footprint) (fits : Fits v foot) where
   source : (s : ℕ) → has s (keys foot.left) ≡ true → has s (keys (sources foot)) ≡ true
   source s h = listed-too v.live foot.x foot.pivot.cols foot.left foot.parts.left_rises foot.parts.without_x s h
 

@@ -6,3 +6,8 @@ pub mod FirstLaws
 pub mod DifferenceLaws
 pub mod ApplyLaws
 pub mod FitLaws
+pub mod JoinedParts
+pub mod JoinedCorners
+pub mod JoinedScalars
+pub mod HeldLaws
+pub mod AppliedLaws

@@ -5,10 +5,10 @@ use Rattle.std.proofs.lemmas.Bool.{and_parts, eq-eqb}
 use Rattle.std.proofs.lemmas.List.Elements.{All-from_get_or, All-map}
 use Rattle.rising_lists.specs.Rising.{IsRising, has, keys}
 use Rattle.rising_lists.proofs.Keyed.{has-at}
-use Rattle.block_sparse.specs.BlockComplexes.{cells, size_of}
+use Rattle.block_complexes.specs.BlockComplexes.{cells, size_of}
 use Rattle.block_sparse.specs.Grids.{AreSized}
 use Rattle.reduce_step.specs.Parts.{sized_others}
-use Rattle.block_sparse.proofs.SumLaws.{has-filter, rising-filter}
+use Rattle.block_complexes.proofs.SumLaws.{has-filter, rising-filter}
 
 keys-sized : (size : ℕ → ℕ) (cs : List ℕ) → keys (map (λ c. (c, size c)) cs) ≡ cs
 keys-sized size [] = refl

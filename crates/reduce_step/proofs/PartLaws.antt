@@ -6,7 +6,7 @@ use Rattle.dense_blocks.proofs.Cutting.{Sized}
 use Rattle.block_sparse.specs.Grids.{segment, part, columns_of}
 use Rattle.block_sparse.proofs.GridLaws.{part-whole}
 use Rattle.block_sparse.proofs.Windows.{sized-cut}
-use Rattle.removals.proofs.PartLaws.{part-below_one, part-left_one}
+use Rattle.reduce_step.proofs.JoinedParts.{part-below_one, part-left_one}
 
 sized-block : (b : Block) (m n : ℕ) → b.rows ≡ m → b.cols ≡ n → Sized m n (matrix_of b)
 sized-block b m n rows cols =

@@ -2,7 +2,8 @@
 use Rattle.std.specs.Prelude.{◌≡◌, ◌==◌, ◌&&◌, ◌<◌, ◌≤◌, ◌⊎◌, ℕ, Bool, true, false, List, [], ◌∷◌, Option, Some, None, MatchOption, if◌then◌else◌, is_some}
 use Rattle.dense_blocks.specs.Blocks.{matrix_of}
 use Rattle.rising_lists.specs.Rising.{has, keys}
-use Rattle.block_sparse.specs.BlockComplexes.{BlockComplex, cells, held, matrix, size_of}
+use Rattle.block_complexes.specs.BlockComplexes.{cells, size_of}
+use Rattle.block_sparse.specs.StoredBlocks.{StoredBlocks, held, matrix}
 use Rattle.block_sparse.specs.Grids.{segment, part, columns_of}
 use Rattle.reduce_step.specs.declared.footprint.Footprint.{Footprint}
 
@@ -37,24 +38,24 @@ abbrev pub IsLiveAs : List (ℕ × ℕ × ℕ) → List (ℕ × ℕ) → ℕ →
 IsLiveAs live listed c = IsSized live c (listed_size listed c)
 
 -- both cells are live with their sizes, and the matrix is the one that was copied
-pub record IsKept (v : BlockComplex) (foot : Footprint) (s t : ℕ) : Type 0 where
+pub record IsKept (v : StoredBlocks) (foot : Footprint) (s t : ℕ) : Type 0 where
   pub from : IsLiveAs v.live (sources foot) s
   pub to : IsLiveAs v.live (targets foot) t
   pub matrix_is : matrix v s t ≡ kept foot s t
 
 -- x and y are live, and the pair is of a cell with y, or of x with a cell
-pub record IsBeside (v : BlockComplex) (foot : Footprint) (s t : ℕ) : Type 0 where
+pub record IsBeside (v : StoredBlocks) (foot : Footprint) (s t : ℕ) : Type 0 where
   pub from : has foot.x (cells v.live) ≡ true
   pub to : has foot.y (cells v.live) ≡ true
   pub beside : (s ≡ foot.x) ⊎ (t ≡ foot.y)
 
 -- at the pair nothing differs: what was copied is kept; beside x and y no block stands that was not copied
-pub record IsSameAt (v : BlockComplex) (foot : Footprint) (s t : ℕ) : Type 0 where
+pub record IsSameAt (v : StoredBlocks) (foot : Footprint) (s t : ℕ) : Type 0 where
   pub copied : is_copied foot s t ≡ true → IsKept v foot s t
   pub others : is_copied foot s t ≡ false → IsBeside v foot s t → is_some (held v s t) ≡ false
 
 -- nothing differs from what was kept
-abbrev pub Fits : BlockComplex → Footprint → Type 0
+abbrev pub Fits : StoredBlocks → Footprint → Type 0
 Fits v foot = (s t : ℕ) → IsSameAt v foot s t
 
 -- the first listed cell that is not live with its size
@@ -73,17 +74,17 @@ FoundUnlisted there listed o = MatchOption o ((k : ℕ) → has k there ≡ true
     (λ c. (has c there ≡ true) × (has c listed ≡ false) × ((k : ℕ) → has k there ≡ true → k < c → has k listed ≡ true))
 
 -- the pair was copied, and one of the cells is not live with its size
-abbrev pub IsResized : BlockComplex → Footprint → ℕ → ℕ → Type 0
+abbrev pub IsResized : StoredBlocks → Footprint → ℕ → ℕ → Type 0
 IsResized v foot s t = (is_copied foot s t ≡ true) × ((IsLiveAs v.live (sources foot) s → ⊥) ⊎ (IsLiveAs v.live (targets foot) t → ⊥))
 
 -- the pair was copied, and its cells and those listed before them are live with their sizes
-pub record IsReached (v : BlockComplex) (foot : Footprint) (s t : ℕ) : Type 0 where
+pub record IsReached (v : StoredBlocks) (foot : Footprint) (s t : ℕ) : Type 0 where
   pub copied : is_copied foot s t ≡ true
   pub from : (k : ℕ) → has k (keys (sources foot)) ≡ true → k ≤ s → IsLiveAs v.live (sources foot) k
   pub to : (k : ℕ) → has k (keys (targets foot)) ≡ true → k ≤ t → IsLiveAs v.live (targets foot) k
 
 -- the pair was not copied and lies beside x and y
-abbrev pub IsGained : BlockComplex → Footprint → ℕ → ℕ → Type 0
+abbrev pub IsGained : StoredBlocks → Footprint → ℕ → ℕ → Type 0
 IsGained v foot s t = (is_copied foot s t ≡ false) × IsBeside v foot s t
 
 -- (s, t) comes before (p, q): pairs go by their first cell, then by their second
@@ -102,6 +103,6 @@ Found Same Pairs o = MatchOption o ((s t : ℕ) → Pairs s t → Same s t)
     (λ p. (Same p.0 p.1 → ⊥) × ((s t : ℕ) → Pairs s t → IsBefore s t p.0 p.1 → Same s t))
 
 -- (s, t) is the first pair at which something differs
-pub record IsFirstDifference (v : BlockComplex) (foot : Footprint) (s t : ℕ) : Type 0 where
+pub record IsFirstDifference (v : StoredBlocks) (foot : Footprint) (s t : ℕ) : Type 0 where
   pub differs : IsSameAt v foot s t → ⊥
   pub first : (p q : ℕ) → IsBefore p q s t → IsSameAt v foot p q

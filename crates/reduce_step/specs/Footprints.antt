@@ -4,14 +4,15 @@ use Rattle.dense_blocks.specs.Field.{Ops}
 use Rattle.dense_blocks.specs.Vectors.{AllScalars}
 use Rattle.dense_blocks.specs.Blocks.{matrix_of}
 use Rattle.rising_lists.specs.Rising.{has, keys}
-use Rattle.block_sparse.specs.BlockComplexes.{BlockComplex, held, matrix, size_of}
+use Rattle.block_complexes.specs.BlockComplexes.{size_of}
+use Rattle.block_sparse.specs.StoredBlocks.{StoredBlocks, held, matrix}
 use Rattle.block_sparse.specs.Grids.{AreSized, IsJoined}
 use Rattle.reduce_step.specs.declared.footprint.Footprint.{Footprint}
 
 -- the footprint of the pair (x, y): on the left the other cells with a nonzero block to y, below the other cells with a nonzero block
 -- from x, each with its size; the block from x to y, and the joined matrices of the blocks from the left to y, from x to below, and
 -- from the left to below
-pub record IsFootprint (v : BlockComplex) (x y : ℕ) (foot : Footprint) : Type 0 where
+pub record IsFootprint (v : StoredBlocks) (x y : ℕ) (foot : Footprint) : Type 0 where
   pub from : foot.x ≡ x
   pub to : foot.y ≡ y
   pub left : (s : ℕ) → has s (keys foot.left) ≡ (is_some (held v s y) && not (s == x))

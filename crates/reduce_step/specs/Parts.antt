@@ -3,7 +3,8 @@ use Rattle.std.specs.Prelude.{◌≡◌, ◌==◌, ℕ, true, false, List, map, 
 use Rattle.dense_blocks.specs.Blocks.{matrix_of}
 use Rattle.dense_blocks.specs.declared.block.Block.{Block}
 use Rattle.rising_lists.specs.Rising.{IsRising, has, keys}
-use Rattle.block_sparse.specs.BlockComplexes.{BlockComplex, is_zero, size_of}
+use Rattle.block_complexes.specs.BlockComplexes.{size_of}
+use Rattle.block_sparse.specs.StoredBlocks.{StoredBlocks, is_zero}
 use Rattle.block_sparse.specs.Grids.{width, segment, columns_of, IsJoined}
 
 -- other cells than x on the left and other cells than y below, both rising; a square pivot from x to y; a joined row from the cells
@@ -26,7 +27,7 @@ abbrev pub sized_others : List (ℕ × ℕ × ℕ) → List ℕ → ℕ → List
 sized_others live there but = map (λ c. (c, size_of live c)) (filter (λ c. not (c == but)) there)
 
 -- the joined matrix of the blocks from the cells on the left to those below, with its shape
-pub record IsJoinedBlock (v : BlockComplex) (left below : List (ℕ × ℕ)) (b : Block) : Type 0 where
+pub record IsJoinedBlock (v : StoredBlocks) (left below : List (ℕ × ℕ)) (b : Block) : Type 0 where
   pub cols : b.cols ≡ width left
   pub rows : b.rows ≡ width below
   pub parts : IsJoined v left below (matrix_of b)

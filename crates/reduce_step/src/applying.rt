@@ -1,9 +1,11 @@
 ghost use Rattle.std.specs.Prelude.{◌≡◌, IfOk, IfErr, OnOk, OnErr};
 ghost use Rattle.dense_blocks.specs.Blocks.{matrix_of};
-ghost use Rattle.block_sparse.specs.Cochains.{IsOver};
-ghost use Rattle.removals.specs.Removals.{IsRemoval, KeepsFlags};
+ghost use Rattle.block_complexes.specs.BlockComplexes.{IsBlockComplex};
+ghost use Rattle.removals.specs.Removals.{IsRemoval};
+ghost use Rattle.block_sparse.specs.Flags.{KeepsFlags};
 ghost use Rattle.reduce_step.specs.Differences.{Fits};
 ghost use Rattle.reduce_step.specs.Steps.{IsStepOf};
+ghost use Rattle.block_sparse.specs.StoredBlocks.{complex_in};
 
 use crate::footprint::Footprint;
 use crate::record::{Record, Step};
@@ -19,8 +21,8 @@ impl<F: Scalars> Record<F> {
     /// comes back.
     pub fn apply(self, b: &mut Blocks) -> Result<Step, (Record<F>, NoMemory)>
         requires fits { Fits b.old self.foot }
-        requires over { IsOver (F.ops self.f) b.old }
-        ensures removal { OnOk result (IsRemoval (F.ops self.f) b.old self.foot.x self.foot.y (matrix_of self.inverse) b.new) }
+        requires over { IsBlockComplex (F.ops self.f) (complex_in b.old) }
+        ensures removal { OnOk result (IsRemoval (F.ops self.f) (complex_in b.old) self.foot.x self.foot.y (matrix_of self.inverse) (complex_in b.new)) }
         ensures flags { OnOk result (KeepsFlags b.old self.foot.x self.foot.y b.new) }
         ensures step { IfOk result (IsStepOf self) }
         ensures err { OnErr result (b.new ≡ b.old) }
@@ -35,8 +37,8 @@ impl<F: Scalars> Record<F> {
     /// Makes the removal; without memory nothing has changed.
     fn remove(&self, b: &mut Blocks) -> Result<(), NoMemory>
         requires fits { Fits b.old self.now.foot }
-        requires over { IsOver (F.ops self.now.f) b.old }
-        ensures removed { OnOk result (IsRemoval (F.ops self.now.f) b.old self.now.foot.x self.now.foot.y (matrix_of self.now.inverse) b.new
+        requires over { IsBlockComplex (F.ops self.now.f) (complex_in b.old) }
+        ensures removed { OnOk result (IsRemoval (F.ops self.now.f) (complex_in b.old) self.now.foot.x self.now.foot.y (matrix_of self.now.inverse) (complex_in b.new)
             × KeepsFlags b.old self.now.foot.x self.now.foot.y b.new) }
         ensures err { OnErr result (b.new ≡ b.old) }
     {

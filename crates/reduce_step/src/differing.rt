@@ -1,6 +1,6 @@
 ghost use Rattle.std.specs.Prelude.{◌≡◌, ◌<◌, ◌≤◌, ◌↔◌, ◌∷◌, ◌⊎◌, ℕ, true, false, length, option_map, slice_index_or, take, IsTrue, MatchResult};
 ghost use Rattle.rising_lists.specs.Rising.{IsRising, has, keys};
-ghost use Rattle.block_sparse.specs.BlockComplexes.{cells};
+ghost use Rattle.block_complexes.specs.BlockComplexes.{cells};
 ghost use Rattle.block_sparse.specs.Grids.{AreSized};
 ghost use Rattle.reduce_step.specs.Differences.{Found, FoundResized, FoundUnlisted, IsBefore, IsEarlier, IsGained, IsReached, IsResized, IsSized, IsSameAt};
 

@@ -1,6 +1,7 @@
 ghost use Rattle.std.specs.Prelude.{◌≡◌, ◌∷◌, [], true, is_some, IfOk};
 ghost use Rattle.rising_lists.specs.Rising.{IsRising, keys};
-ghost use Rattle.block_sparse.specs.BlockComplexes.{StandsAt, held, size_of};
+ghost use Rattle.block_complexes.specs.BlockComplexes.{size_of};
+ghost use Rattle.block_sparse.specs.StoredBlocks.{StandsAt, held, complex_in};
 ghost use Rattle.block_sparse.specs.Grids.{AreSized, width};
 ghost use Rattle.reduce_step.specs.Parts.{AreParts, IsJoinedBlock, sized_others};
 
@@ -40,7 +41,7 @@ pub struct Footprint {
 impl Footprint {
     ghost use Rattle.std.specs.Prelude.{◌↔◌, IsTrue};
     ghost use Rattle.dense_blocks.specs.Field.{Ops};
-    ghost use Rattle.block_sparse.specs.Cochains.{IsOver};
+    ghost use Rattle.block_complexes.specs.BlockComplexes.{IsBlockComplex};
     ghost use Rattle.reduce_step.specs.Footprints.{IsFootprint, IsOverField};
 
     /// The footprint of the pair (`x`, `y`), where a square block stands.
@@ -51,7 +52,7 @@ impl Footprint {
         requires stands { is_some (held b.now x y) ≡ true }
         requires square { size_of b.now.live y ≡ size_of b.now.live x }
         ensures copied { IfOk result (IsFootprint b.now x y) }
-        ensures over { IfOk result (λ foot. (K : Ops) → IsOver K b.now → IsOverField K foot) }
+        ensures over { IfOk result (λ foot. (K : Ops) → IsBlockComplex K (complex_in b.now) → IsOverField K foot) }
     {
         let left = others(alloc, b, b.row(y), x)?;
         let below = others(alloc, b, b.column(x), y)?;

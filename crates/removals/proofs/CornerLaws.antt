@@ -1,22 +1,16 @@
 -- The matrices of a block complex, and of what is left of it without a pair of cells.
-use Rattle.std.proofs.Common.{◌≡◌, ◌≢◌, ℕ, ◌+◌, Bool, true, false, cond, not, ◌||◌, ◌&&◌, refl, sym, ap, ap₂, ◌∙◌, subst, arith, ◌⊎◌, inl, inr, List, [], ◌∷◌, filter, eqb, Option, Some, None, All}
-use Rattle.std.specs.Option.{is_some}
+use Rattle.std.proofs.Common.{◌≡◌, ℕ, Bool, true, false, cond, not, ◌||◌, ◌&&◌, refl, sym, ap, ap₂, ◌∙◌, subst, arith, ◌⊎◌, inl, inr, List, [], ◌∷◌, filter, eqb, Option, None}
 use Rattle.std.proofs.lemmas.Bool.{eq-eqb, ne_eqb, cases_eq}
 use Rattle.dense_blocks.specs.Field.{Ops, IsField}
-use Rattle.dense_blocks.specs.Vectors.{AllScalars, plus, negative}
+use Rattle.dense_blocks.specs.Vectors.{plus, negative}
 use Rattle.dense_blocks.specs.Matrices.{applied, product, zero_matrix, matrix_sum, matrix_negative}
-use Rattle.dense_blocks.specs.Blocks.{matrix_of}
-use Rattle.dense_blocks.specs.declared.block.Block.{Block}
 use Rattle.dense_blocks.proofs.Shapes.{Matrix, to_matrix}
-use Rattle.dense_blocks.proofs.BlockLaws.{block-entries, block-matrix}
-use Rattle.dense_blocks.proofs.MatrixLaws.{zero_matrix-matrix, matrix_sum-matrix, matrix_negative-matrix, product-matrix, matrix_sum-zero_matrix, matrix_negative-zero_matrix, product-zero_matrix, zero_matrix-product, matrix_sum-applied, matrix_negative-applied, product-applied}
-use Rattle.rising_lists.specs.Rising.{has, entry_of}
-use Rattle.block_sparse.specs.BlockComplexes.{BlockComplex, AreConsecutive, cells, of_cell, degree_of, size_of, held, matrix, matrix_or, standing}
-use Rattle.block_sparse.specs.Cochains.{IsOver}
-use Rattle.block_sparse.specs.Invariants.{IsSound}
-use Rattle.block_sparse.proofs.ScalarBlocks.{flat-all, held-between, matrix-none, not-held}
+use Rattle.dense_blocks.proofs.MatrixLaws.{matrix_sum-matrix, matrix_negative-matrix, product-matrix, matrix_sum-zero_matrix, matrix_negative-zero_matrix, product-zero_matrix, zero_matrix-product, matrix_sum-applied, matrix_negative-applied, product-applied}
+use Rattle.rising_lists.specs.Rising.{has}
+use Rattle.block_complexes.specs.BlockComplexes.{BlockComplex, AreConsecutive, cells, of_cell, degree_of, size_of}
+use Rattle.block_complexes.proofs.FullLaws.{IsFull}
 use Rattle.removals.specs.Removals.{corner, is_corner, without, IsRemoval}
-use Rattle.removals.proofs.Sums.{is_other}
+use Rattle.block_complexes.proofs.Sums.{is_other}
 
 -- a corner of which one block is zero stays
 module _ (K : Ops) (F : IsField K) (l m k n : ℕ) (A C a B : List (List ℕ)) (hA : Matrix K l n A) (ha : Matrix K m k a) where
@@ -94,88 +88,68 @@ module _ (x y : ℕ) where
       go false (inl e) f rest = let bad : false ≡ true = sym f ∙ ap (is_other x y) e ∙ h in cc
       go false (inr n) f rest = rw (ne_eqb l.0 c n) rest
 
--- the matrices of a block complex with scalars of a field
-module _ (K : Ops) (F : IsField K) (v : BlockComplex) (sound : IsSound v.live v.rows v.columns) (over : IsOver K v) where
+-- the matrices of a full block complex
+module _ (K : Ops) (F : IsField K) (v : BlockComplex) (full : IsFull K v) where
   abbrev size : ℕ → ℕ
   size c = size_of v.live c
-
-  pub shape : (s t : ℕ) → Matrix K (size t) (size s) (matrix v s t)
-  shape s t = go (entry_of v.rows t s) refl (over s t)
-    where
-      go : (o : Option Block) → entry_of v.rows t s ≡ o
-          → All (AllScalars K) (matrix_or (standing o (entry_of v.columns s t)) (zero_matrix (size t) (size s)))
-          → Matrix K (size t) (size s) (matrix_or (standing o (entry_of v.columns s t)) (zero_matrix (size t) (size s)))
-      go None e all = zero_matrix-matrix K F (size t) (size s)
-      go (Some b) e all =
-          let fit = sound.blocks_fit s t b e in
-          subst (λ n. Matrix K (size t) n (matrix_of b)) fit.cols
-          (subst (λ m. Matrix K m b.cols (matrix_of b)) fit.rows
-          (block-matrix K b (subst (AllScalars K) (block-entries b) (flat-all K (matrix_of b) all))))
-
-  pub matrix-zero : (s t : ℕ) → degree_of v.live t ≢ degree_of v.live s + 1 → matrix v s t ≡ zero_matrix (size t) (size s)
-  matrix-zero s t n = go (is_some (held v s t)) refl
-    where
-      go : (b : Bool) → is_some (held v s t) ≡ b → matrix v s t ≡ zero_matrix (size t) (size s)
-      go true e = absurd (n (held-between v sound s t e).degrees)
-      go false e = matrix-none K v s t (not-held (held v s t) e)
 
   -- M(s, t) - M(x, t) a M(s, y)
   module _ (x y : ℕ) (a : List (List ℕ)) (a-shape : Matrix K (size x) (size y) a) where
     pub corner-shape : (s t : ℕ) → Matrix K (size t) (size s) (corner K v x y a s t)
     corner-shape s t =
-        let taken = product K (size s) (matrix v x t) (product K (size s) a (matrix v s y)) in
-        matrix_sum-matrix K F (size t) (size s) (matrix v s t) (matrix_negative K taken) (shape s t)
+        let taken = product K (size s) (v.matrix x t) (product K (size s) a (v.matrix s y)) in
+        matrix_sum-matrix K F (size t) (size s) (v.matrix s t) (matrix_negative K taken) (full.shape s t)
         (matrix_negative-matrix K F (size t) (size s) taken
-        (product-matrix K F (size t) (size x) (size s) (matrix v x t) (product K (size s) a (matrix v s y)) (shape x t)
-        (product-matrix K F (size x) (size y) (size s) a (matrix v s y) a-shape (shape s y))))
+        (product-matrix K F (size t) (size x) (size s) (v.matrix x t) (product K (size s) a (v.matrix s y)) (full.shape x t)
+        (product-matrix K F (size x) (size y) (size s) a (v.matrix s y) a-shape (full.shape s y))))
 
-    pub corner-zero_row : (s t : ℕ) → matrix v s y ≡ zero_matrix (size y) (size s) → corner K v x y a s t ≡ matrix v s t
-    corner-zero_row s t = corner-without-row K F (size t) (size x) (size y) (size s) (matrix v s t) (matrix v x t) a (matrix v s y) (shape s t) a-shape (shape x t)
+    pub corner-zero_row : (s t : ℕ) → v.matrix s y ≡ zero_matrix (size y) (size s) → corner K v x y a s t ≡ v.matrix s t
+    corner-zero_row s t = corner-without-row K F (size t) (size x) (size y) (size s) (v.matrix s t) (v.matrix x t) a (v.matrix s y) (full.shape s t) a-shape (full.shape x t)
 
-    pub corner-zero_column : (s t : ℕ) → matrix v x t ≡ zero_matrix (size t) (size x) → corner K v x y a s t ≡ matrix v s t
+    pub corner-zero_column : (s t : ℕ) → v.matrix x t ≡ zero_matrix (size t) (size x) → corner K v x y a s t ≡ v.matrix s t
     corner-zero_column s t e =
-        corner-without-column K F (size t) (size x) (size y) (size s) (matrix v s t) (matrix v x t) a (matrix v s y) (shape s t) a-shape e (shape s y)
+        corner-without-column K F (size t) (size x) (size y) (size s) (v.matrix s t) (v.matrix x t) a (v.matrix s y) (full.shape s t) a-shape e (full.shape s y)
 
     -- it is M(s, t) at each pair that is no corner
-    pub no-corner : AreConsecutive v.live x y → (s t : ℕ) → is_corner v.live x y s t ≡ false → corner K v x y a s t ≡ matrix v s t
+    pub no-corner : AreConsecutive v.live x y → (s t : ℕ) → is_corner v.live x y s t ≡ false → corner K v x y a s t ≡ v.matrix s t
     no-corner pair s t e = go (cases_eq (degree_of v.live s) (degree_of v.live x)) (cases_eq (degree_of v.live t) (degree_of v.live y))
       where
         go : (degree_of v.live s ≡ degree_of v.live x) ⊎ (degree_of v.live s ≡ degree_of v.live x → ⊥)
-            → (degree_of v.live t ≡ degree_of v.live y) ⊎ (degree_of v.live t ≡ degree_of v.live y → ⊥) → corner K v x y a s t ≡ matrix v s t
+            → (degree_of v.live t ≡ degree_of v.live y) ⊎ (degree_of v.live t ≡ degree_of v.live y → ⊥) → corner K v x y a s t ≡ v.matrix s t
         go (inl p) (inl q) =
             let bad : true ≡ false = sym (ap₂ ◌&&◌ (eq-eqb (degree_of v.live s) (degree_of v.live x) p) (eq-eqb (degree_of v.live t) (degree_of v.live y) q)) ∙ e in cc
-        go (inl p) (inr q) = corner-zero_column s t (matrix-zero x t (λ d. q (d ∙ sym pair.degrees)))
-        go (inr p) d = corner-zero_row s t (matrix-zero s y (λ up. p (omega (arith, up, pair.degrees))))
+        go (inl p) (inr q) = corner-zero_column s t (full.apart x t (λ d. q (d ∙ sym pair.degrees)))
+        go (inr p) d = corner-zero_row s t (full.apart s y (λ up. p (omega (arith, up, pair.degrees))))
 
     pub corner-applied : (s t : ℕ) (z : List ℕ) → applied K (corner K v x y a s t) z
-        ≡ plus K (applied K (matrix v s t) z) (negative K (applied K (matrix v x t) (applied K a (applied K (matrix v s y) z))))
+        ≡ plus K (applied K (v.matrix s t) z) (negative K (applied K (v.matrix x t) (applied K a (applied K (v.matrix s y) z))))
     corner-applied s t z =
         let n = size s in
-        let back = product K n a (matrix v s y) in
-        let back-shape : Matrix K (size x) n back = product-matrix K F (size x) (size y) n a (matrix v s y) a-shape (shape s y) in
-        let away = product K n (matrix v x t) back in
-        let away-shape : Matrix K (size t) n away = product-matrix K F (size t) (size x) n (matrix v x t) back (shape x t) back-shape in
-        matrix_sum-applied K F (size t) n (matrix v s t) (matrix_negative K away) z (shape s t) (matrix_negative-matrix K F (size t) n away away-shape)
-        ∙ ap (plus K (applied K (matrix v s t) z))
+        let back = product K n a (v.matrix s y) in
+        let back-shape : Matrix K (size x) n back = product-matrix K F (size x) (size y) n a (v.matrix s y) a-shape (full.shape s y) in
+        let away = product K n (v.matrix x t) back in
+        let away-shape : Matrix K (size t) n away = product-matrix K F (size t) (size x) n (v.matrix x t) back (full.shape x t) back-shape in
+        matrix_sum-applied K F (size t) n (v.matrix s t) (matrix_negative K away) z (full.shape s t) (matrix_negative-matrix K F (size t) n away away-shape)
+        ∙ ap (plus K (applied K (v.matrix s t) z))
         (matrix_negative-applied K F away z
-        ∙ ap (negative K) (product-applied K F (size x) n (matrix v x t) back z back-shape
-        ∙ ap (applied K (matrix v x t)) (product-applied K F (size y) n a (matrix v s y) z (shape s y))))
+        ∙ ap (negative K) (product-applied K F (size x) n (v.matrix x t) back z back-shape
+        ∙ ap (applied K (v.matrix x t)) (product-applied K F (size y) n a (v.matrix s y) z (full.shape s y))))
 
   -- after a removal that stands at each pair that is left
   module _ (x y : ℕ) (a : List (List ℕ)) (w : BlockComplex) (removal : IsRemoval K v x y a w) where
     pub inverse-shape : Matrix K (size x) (size y) a
     inverse-shape = subst (λ n. Matrix K (size x) n a) (sym removal.square) (to_matrix K (size x) (size x) a removal.inverse.shape)
 
-    pub matrix-left : (s t : ℕ) → has s (cells w.live) ≡ true → has t (cells w.live) ≡ true → matrix w s t ≡ corner K v x y a s t
-    matrix-left s t hs ht = removal.matrices s t hs ht ∙ go (is_corner v.live x y s t) refl
+    pub matrix-left : (s t : ℕ) → has s (cells w.live) ≡ true → has t (cells w.live) ≡ true → w.matrix s t ≡ corner K v x y a s t
+    matrix-left s t hs ht = removal.matrices s t (record { from = hs; to = ht }) ∙ go (is_corner v.live x y s t) refl
       where
-        go : (b : Bool) → is_corner v.live x y s t ≡ b → cond b (corner K v x y a s t) (matrix v s t) ≡ corner K v x y a s t
+        go : (b : Bool) → is_corner v.live x y s t ≡ b → cond b (corner K v x y a s t) (v.matrix s t) ≡ corner K v x y a s t
         go true e = refl
         go false e = sym (no-corner x y a inverse-shape removal.pair s t e)
 
-    pub left-shape : (s t : ℕ) → has s (cells w.live) ≡ true → has t (cells w.live) ≡ true → Matrix K (size t) (size s) (matrix w s t)
+    pub left-shape : (s t : ℕ) → has s (cells w.live) ≡ true → has t (cells w.live) ≡ true → Matrix K (size t) (size s) (w.matrix s t)
     left-shape s t hs ht = subst (Matrix K (size t) (size s)) (sym (matrix-left s t hs ht)) (corner-shape x y a inverse-shape s t)
 
     pub left-applied : (s t : ℕ) (z : List ℕ) → has s (cells w.live) ≡ true → has t (cells w.live) ≡ true
-        → applied K (matrix w s t) z ≡ plus K (applied K (matrix v s t) z) (negative K (applied K (matrix v x t) (applied K a (applied K (matrix v s y) z))))
+        → applied K (w.matrix s t) z ≡ plus K (applied K (v.matrix s t) z) (negative K (applied K (v.matrix x t) (applied K a (applied K (v.matrix s y) z))))
     left-applied s t z hs ht = ap (λ A. applied K A z) (matrix-left s t hs ht) ∙ corner-applied x y a inverse-shape s t z

@@ -1,10 +1,4 @@
-pub mod Sums
 pub mod CornerLaws
-pub mod DifferentialLaws
-pub mod ComplexLaws
+pub mod SameRemovals
 pub mod RemovalLaws
-pub mod PartLaws
-pub mod HeldLaws
-pub mod JoinedCorners
-pub mod JoinedScalars
-pub mod AppliedLaws
+pub mod ReductionLaws

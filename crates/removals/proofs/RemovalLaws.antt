@@ -1,33 +1,36 @@
 -- A removal keeps that the coboundary of each coboundary is zero.
-use Rattle.std.proofs.Common.{◌≡◌, ℕ, Bool, true, false, List, All, refl, sym, ap, ap₂, ◌∙◌, subst, filter}
-use Rattle.std.specs.Option.{is_some}
+use Rattle.std.proofs.Common.{◌≡◌, ◌≢◌, ◌≤◌, All, ℕ, ◌+◌, Bool, true, false, cond, not, eqb, List, refl, sym, ap, ap₂, ◌∙◌, subst, filter}
+use Rattle.std.specs.Prelude.{◌==◌}
+use Rattle.std.proofs.lemmas.Bool.{and_parts, eqb-true}
+use Rattle.std.proofs.lemmas.List.Elements.{All-filter}
 use Rattle.dense_blocks.specs.Field.{Ops, IsField}
-use Rattle.dense_blocks.specs.Vectors.{AllScalars, zeros, plus, negative}
-use Rattle.dense_blocks.specs.Matrices.{applied, product, zero_matrix}
-use Rattle.dense_blocks.proofs.Shapes.{Vector, Matrix, matrix-rows}
+use Rattle.dense_blocks.specs.Vectors.{zeros, plus, negative}
+use Rattle.dense_blocks.specs.Matrices.{IsMatrix, applied, product, zero_matrix}
+use Rattle.dense_blocks.proofs.Shapes.{Vector, Matrix, from_matrix}
 use Rattle.dense_blocks.proofs.VectorLaws.{plus-vector, negative-vector, plus-negative, negative-plus, negative-negative, negative-zeros, negative-unique, zeros-plus-zeros}
 use Rattle.dense_blocks.proofs.MatrixLaws.{applied-vector, applied-plus, applied-negative, applied-zeros, applied-inverse, inverse-applied}
 use Rattle.cochain_vec.proofs.PathLaws.{sum_over, sum_over-vector, sum_over-same, sum_over-plus}
-use Rattle.rising_lists.specs.Rising.{has}
-use Rattle.block_sparse.specs.BlockComplexes.{BlockComplex, cells, size_of, held, matrix}
-use Rattle.block_sparse.specs.Cochains.{IsOver}
-use Rattle.block_sparse.specs.Invariants.{IsSound}
-use Rattle.block_sparse.proofs.ScalarBlocks.{held-between, none-scalars, not-held}
-use Rattle.removals.specs.Differentials.{IsDifferential, matrix_sum_over}
-use Rattle.removals.specs.Removals.{IsRemoval}
-use Rattle.removals.specs.Laws.{RemovalKeepsScalars, RemovalKeepsDifferential, RemovalKeepsCochainComplex, DifferentialIsCochainComplex}
-use Rattle.removals.proofs.Sums.{is_other, sum_over-equal, sum_over-negative, applied-sum_over, sum_over-apart}
-use Rattle.removals.proofs.CornerLaws.{cells-without, has-without, of_cell-without, shape, inverse-shape, left-shape, left-applied}
-use Rattle.removals.proofs.DifferentialLaws.{between-zero, zero-between}
-use Rattle.removals.proofs.ComplexLaws.{differential-complex, complex-differential}
+use Rattle.rising_lists.specs.Rising.{IsRising, has}
+use Rattle.block_complexes.specs.BlockComplexes.{BlockComplex, AreBothLive, IsBlockComplex, cells, degree_of, size_of}
+use Rattle.block_complexes.specs.Differentials.{IsDifferential, matrix_sum_over}
+use Rattle.block_complexes.proofs.SameLaws.{same-differential}
+use Rattle.block_complexes.proofs.FullLaws.{IsFull, filled, filled-full, same-filled}
+use Rattle.block_complexes.proofs.WithoutLaws.{rising-without}
+use Rattle.block_complexes.proofs.ComplexLaws.{differential_is_cochain_complex}
+use Rattle.removals.specs.Removals.{IsRemoval, corner, is_corner}
+use Rattle.removals.specs.Laws.{RemovalKeepsBlockComplex, RemovalKeepsDifferential, RemovalKeepsCochainComplex}
+use Rattle.removals.proofs.SameRemovals.{removal-same-before}
+use Rattle.block_complexes.proofs.Sums.{is_other, sum_over-equal, sum_over-negative, applied-sum_over, sum_over-apart}
+use Rattle.removals.proofs.CornerLaws.{cells-without, has-without, of_cell-without, without-twice, inverse-shape, left-shape, left-applied}
+use Rattle.block_complexes.proofs.DifferentialLaws.{between-zero, zero-between}
 
-module _ (K : Ops) (F : IsField K) (v : BlockComplex) (sound : IsSound v.live v.rows v.columns) (over : IsOver K v)
+module _ (K : Ops) (F : IsField K) (v : BlockComplex) (full : IsFull K v)
     (x y : ℕ) (a : List (List ℕ)) (w : BlockComplex) (removal : IsRemoval K v x y a w) where
   abbrev size : ℕ → ℕ
   size c = size_of v.live c
 
   abbrev M : ℕ → ℕ → List (List ℕ)
-  M s t = matrix v s t
+  M s t = v.matrix s t
 
   abbrev IsLive : ℕ → Type 0
   IsLive c = has c (cells v.live) ≡ true
@@ -45,10 +48,10 @@ module _ (K : Ops) (F : IsField K) (v : BlockComplex) (sound : IsSound v.live v.
   cells-left = ap cells removal.live ∙ cells-without x y v.live
 
   M-shape : (s t : ℕ) → Matrix K (size t) (size s) (M s t)
-  M-shape = shape K F v sound over
+  M-shape = full.shape
 
   a-shape : Matrix K (size x) (size y) a
-  a-shape = inverse-shape K F v sound over x y a w removal
+  a-shape = inverse-shape K F v full x y a w removal
 
   applied-shape : (s t : ℕ) (z : List ℕ) → Vector K (size t) (applied K (M s t) z)
   applied-shape s t z = applied-vector K F (size t) (size s) (M s t) z (M-shape s t)
@@ -95,7 +98,7 @@ module _ (K : Ops) (F : IsField K) (v : BlockComplex) (sound : IsSound v.live v.
       where
         through-zero : (p : ℕ) → IsLive p → (r : List ℕ) → sum_over K (size q) (λ t. applied K (M t q) (applied K (M p t) r)) (cells v.live) ≡ zeros (size q)
         through-zero p hp r =
-            between-zero K F size M (cells v.live) (λ s t hs ht. M-shape s t) p q hp hq (closed p q hp hq) r
+            between-zero K F size M (cells v.live) (λ s t hs ht. M-shape s t) p q hp hq (closed p q (record { from = hp; to = hq })) r
 
     -- and so over the cells that are left it is the negative of what comes through x
     onward-left : (q : ℕ) → IsLive q → sum_over K (size q) (onward q) (cells w.live) ≡ negative K (onward q x)
@@ -105,7 +108,7 @@ module _ (K : Ops) (F : IsField K) (v : BlockComplex) (sound : IsSound v.live v.
         let none : onward q y ≡ zeros n = ap (applied K (M y q)) value-at_y ∙ applied-zeros K F (size y) n (size y) (M y q) (M-shape y q) in
         negative-unique K F n (onward q x) (sum_over K n (onward q) (cells w.live)) (term-vector x) (sum_over-vector K F n (onward q) (cells w.live) term-vector)
         (ap (λ ks. plus K (onward q x) (sum_over K n (onward q) ks)) cells-left
-        ∙ sym (sum_over-apart K F n (onward q) term-vector x y none (cells v.live) sound.live_cells.rising removal.pair.from)
+        ∙ sym (sum_over-apart K F n (onward q) term-vector x y none (cells v.live) full.rising removal.pair.from)
         ∙ onward-zero q hq)
 
     -- what the corners take away from the sum is just that
@@ -125,44 +128,69 @@ module _ (K : Ops) (F : IsField K) (v : BlockComplex) (sound : IsSound v.live v.
         ∙ applied-negative K F (M x u) (value x))
         ∙ negative-negative K F n (onward u x) (applied-shape x u (value x))
 
-    left-zero : (u : ℕ) → IsLeft u → sum_over K (size u) (λ t. applied K (matrix w t u) (applied K (matrix w s t) z)) (cells w.live) ≡ zeros (size u)
+    left-zero : (u : ℕ) → IsLeft u → sum_over K (size u) (λ t. applied K (w.matrix t u) (applied K (w.matrix s t) z)) (cells w.live) ≡ zeros (size u)
     left-zero u hu =
         let n = size u in
         let taken : ℕ → List ℕ = λ t. negative K (applied K (M x u) (applied K a (onward y t))) in
-        sum_over-equal K F n (λ t. applied K (matrix w t u) (applied K (matrix w s t) z)) (λ t. plus K (onward u t) (taken t)) (cells w.live)
-        (λ t ht. ap (applied K (matrix w t u)) (left-applied K F v sound over x y a w removal s t z hs ht)
-        ∙ left-applied K F v sound over x y a w removal t u (value t) ht hu)
+        sum_over-equal K F n (λ t. applied K (w.matrix t u) (applied K (w.matrix s t) z)) (λ t. plus K (onward u t) (taken t)) (cells w.live)
+        (λ t ht. ap (applied K (w.matrix t u)) (left-applied K F v full x y a w removal s t z hs ht)
+        ∙ left-applied K F v full x y a w removal t u (value t) ht hu)
         ∙ sum_over-plus K F n (onward u) taken (cells w.live)
         ∙ ap₂ (plus K) (onward-left u (left-live u hu).0) (taken-left u)
         ∙ negative-plus K F n (onward u x) (applied-shape x u (value x))
 
   keeps_differential : IsDifferential K v → IsDifferential K w
-  keeps_differential closed s u hs hu =
-      ap₂ (λ m n. matrix_sum_over K m n (λ t. product K n (matrix w t u) (matrix w s t)) (cells w.live)) (left-size u hu) (left-size s hs)
-      ∙ zero-between K F size (λ s t. matrix w s t) (cells w.live) (left-shape K F v sound over x y a w removal) s u hs hu
+  keeps_differential closed s u l =
+      let hs : IsLeft s = l.from in
+      let hu : IsLeft u = l.to in
+      ap₂ (λ m n. matrix_sum_over K m n (λ t. product K n (w.matrix t u) (w.matrix s t)) (cells w.live)) (left-size u hu) (left-size s hs)
+      ∙ zero-between K F size (λ s t. w.matrix s t) (cells w.live) (left-shape K F v full x y a w removal) s u hs hu
       (λ z h. left-zero closed s hs z u hu)
       ∙ sym (ap₂ zero_matrix (left-size u hu) (left-size s hs))
 
-  -- what is left has scalars of the field
-  left-over : IsSound w.live w.rows w.columns → IsOver K w
-  left-over left_sound s t = go (is_some (held w s t)) refl
-    where
-      go : (b : Bool) → is_some (held w s t) ≡ b → All (AllScalars K) (matrix w s t)
-      go true e =
-          let pair = held-between w left_sound s t e in
-          λ i d l. (matrix-rows K (size t) (size s) (matrix w s t) (left-shape K F v sound over x y a w removal s t pair.from pair.to) i d l).scalars
-      go false e = none-scalars K w s t F (not-held (held w s t) e)
+  abbrev degree : ℕ → ℕ
+  degree c = degree_of v.live c
 
-pub removal_keeps_scalars : RemovalKeepsScalars
-removal_keeps_scalars K v w x y a F sound left_sound over removal = left-over K F v sound over x y a w removal left_sound
+  left-degree : (c : ℕ) → IsLeft c → degree_of w.live c ≡ degree c
+  left-degree c h = ap (λ live. degree_of live c) removal.live ∙ of_cell-without x y (λ l. l.1) v.live c (left-live c h).1
+
+  -- between cells that are not of consecutive degree it stays zero
+  left-apart : (s t : ℕ) → AreBothLive w.live s t → degree t ≢ degree s + 1 → w.matrix s t ≡ zero_matrix (size t) (size s)
+  left-apart s t l n = removal.matrices s t l ∙ go (is_corner v.live x y s t) refl
+    where
+      go : (b : Bool) → is_corner v.live x y s t ≡ b → cond b (corner K v x y a s t) (M s t) ≡ zero_matrix (size t) (size s)
+      go true e =
+          let p = and_parts (degree s == degree x) (degree t == degree y) e in
+          absurd (n (eqb-true (degree t) (degree y) p.1 ∙ removal.pair.degrees ∙ ap (λ d. d + 1) (sym (eqb-true (degree s) (degree x) p.0))))
+      go false e = full.apart s t n
+
+  -- what is left is a block complex
+  keeps_block_complex : IsBlockComplex K w
+  keeps_block_complex = record {
+    rising = subst (λ live. IsRising (cells live)) (without-twice x y v.live ∙ sym removal.live)
+        (rising-without y (filter (λ l. not (eqb l.0 x)) v.live) (rising-without x v.live full.rising));
+    sizes = subst (All (λ l. 1 ≤ l.2)) (sym removal.live) (All-filter (λ l. is_other x y l.0) (λ l. 1 ≤ l.2) v.live full.sizes);
+    matrices = λ s t l.
+        subst (λ n. IsMatrix K n (size_of w.live s) (w.matrix s t)) (sym (left-size t l.to))
+        (subst (λ n. IsMatrix K (size t) n (w.matrix s t)) (sym (left-size s l.from))
+        (from_matrix K (size t) (size s) (w.matrix s t) (left-shape K F v full x y a w removal s t l.from l.to)));
+    apart = λ s t l n.
+        left-apart s t l (λ e. n (left-degree t l.to ∙ e ∙ ap (λ d. d + 1) (sym (left-degree s l.from))))
+        ∙ sym (ap₂ zero_matrix (left-size t l.to) (left-size s l.from));
+  }
+
+pub removal_keeps_block_complex : RemovalKeepsBlockComplex
+removal_keeps_block_complex K v w x y a F is removal =
+    let same = same-filled v in
+    keeps_block_complex K F (filled v) (filled-full K F v is) x y a w (removal-same-before K v (filled v) x y a w same removal)
 
 pub removal_keeps_differential : RemovalKeepsDifferential
-removal_keeps_differential K v w x y a F sound left_sound over removal = keeps_differential K F v sound over x y a w removal
-
-pub differential_is_cochain_complex : DifferentialIsCochainComplex
-differential_is_cochain_complex K v F sound over = (differential-complex K F v sound over, complex-differential K F v sound over)
+removal_keeps_differential K v w x y a F is removal closed =
+    let same = same-filled v in
+    keeps_differential K F (filled v) (filled-full K F v is) x y a w (removal-same-before K v (filled v) x y a w same removal)
+    (same-differential K v (filled v) same closed)
 
 pub removal_keeps_cochain_complex : RemovalKeepsCochainComplex
-removal_keeps_cochain_complex K v w x y a F sound left_sound over removal closed =
-    differential-complex K F w left_sound (left-over K F v sound over x y a w removal left_sound)
-    (keeps_differential K F v sound over x y a w removal (complex-differential K F v sound over closed))
+removal_keeps_cochain_complex K v w x y a F is removal closed =
+    (differential_is_cochain_complex K w F (removal_keeps_block_complex K v w x y a F is removal)).0
+    (removal_keeps_differential K v w x y a F is removal ((differential_is_cochain_complex K v F is).1 closed))

@@ -1,3 +1,3 @@
-pub mod Differentials
 pub mod Removals
+pub mod Reductions
 pub mod Laws

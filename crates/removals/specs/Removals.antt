@@ -1,15 +1,14 @@
 -- The removal of a pair of cells from a block complex.
-use Rattle.std.specs.Prelude.{◌≡◌, ◌==◌, ◌&&◌, ◌||◌, ℕ, Bool, true, false, List, filter, not, if◌then◌else◌, is_some}
+use Rattle.std.specs.Prelude.{◌≡◌, ◌==◌, ◌&&◌, ◌||◌, ℕ, Bool, List, filter, not, if◌then◌else◌}
 use Rattle.dense_blocks.specs.Field.{Ops}
 use Rattle.dense_blocks.specs.Matrices.{product, matrix_sum, matrix_negative, IsInverse}
-use Rattle.rising_lists.specs.Rising.{has}
-use Rattle.block_sparse.specs.BlockComplexes.{BlockComplex, AreConsecutive, cells, degree_of, size_of, held, matrix, flag_of}
+use Rattle.block_complexes.specs.BlockComplexes.{BlockComplex, AreBothLive, AreConsecutive, degree_of, size_of}
 
 -- M(s, t) - M(x, t) a M(s, y), where M(s, t) is the matrix from s to t
 abbrev pub corner : Ops → BlockComplex → ℕ → ℕ → List (List ℕ) → ℕ → ℕ → List (List ℕ)
 corner K v x y a s t =
     let n = size_of v.live s in
-    matrix_sum K (matrix v s t) (matrix_negative K (product K n (matrix v x t) (product K n a (matrix v s y))))
+    matrix_sum K (v.matrix s t) (matrix_negative K (product K n (v.matrix x t) (product K n a (v.matrix s y))))
 
 -- s has the degree of x, and t that of y
 abbrev pub is_corner : List (ℕ × ℕ × ℕ) → ℕ → ℕ → ℕ → ℕ → Bool
@@ -24,12 +23,7 @@ without live x y = filter (λ l. not (l.0 == x || l.0 == y)) live
 pub record IsRemoval (K : Ops) (v : BlockComplex) (x y : ℕ) (a : List (List ℕ)) (w : BlockComplex) : Type 0 where
   pub pair : AreConsecutive v.live x y
   pub square : size_of v.live y ≡ size_of v.live x
-  pub inverse : IsInverse K (size_of v.live x) (matrix v x y) a
+  pub inverse : IsInverse K (size_of v.live x) (v.matrix x y) a
   pub live : w.live ≡ without v.live x y
-  pub matrices : (s t : ℕ) → has s (cells w.live) ≡ true → has t (cells w.live) ≡ true
-      → matrix w s t ≡ (if is_corner v.live x y s t then corner K v x y a s t else matrix v s t)
-
--- between cells that are left, the flag is cleared where blocks from s to y and from x to t have stood, and stays elsewhere
-abbrev pub KeepsFlags : BlockComplex → ℕ → ℕ → BlockComplex → Type 0
-KeepsFlags v x y w = (s t : ℕ) → has s (cells w.live) ≡ true → has t (cells w.live) ≡ true
-    → flag_of (held w s t) ≡ (if is_some (held v s y) && is_some (held v x t) then false else flag_of (held v s t))
+  pub matrices : (s t : ℕ) → AreBothLive w.live s t
+      → w.matrix s t ≡ (if is_corner v.live x y s t then corner K v x y a s t else v.matrix s t)

@@ -7,6 +7,6 @@
 mod laws;
 
 pub use laws::{
-    differential_is_cochain_complex, removal_keeps_cochain_complex, removal_keeps_differential,
-    removal_keeps_scalars,
+    removal_keeps_block_complex, removal_keeps_cochain_complex, removal_keeps_differential,
+    removals_keep_all, removals_leave_one,
 };

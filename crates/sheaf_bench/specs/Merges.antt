@@ -1,7 +1,7 @@
 -- Cells between which a joined matrix may be put.
 use Rattle.std.specs.Prelude.{◌≡◌, ◌+◌, ℕ, true, List}
 use Rattle.rising_lists.specs.Rising.{has, keys}
-use Rattle.block_sparse.specs.BlockComplexes.{degree_of}
+use Rattle.block_complexes.specs.BlockComplexes.{degree_of}
 use Rattle.block_sparse.specs.Grids.{AreSized}
 
 -- the cells are live with their sizes, and those below are one degree above those on the left

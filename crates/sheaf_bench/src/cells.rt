@@ -1,6 +1,7 @@
 ghost use Rattle.std.specs.Prelude.{◌≡◌, ◌≤◌, IfOk};
 ghost use Rattle.dense_blocks.specs.Field.{Ops};
-ghost use Rattle.block_sparse.specs.Cochains.{IsOver};
+ghost use Rattle.block_complexes.specs.BlockComplexes.{IsBlockComplex};
+ghost use Rattle.block_sparse.specs.StoredBlocks.{complex_in};
 
 use crate::checksums::{blocks_checksum, entry_checksum, mixed};
 use crate::failure::Failure;
@@ -9,17 +10,17 @@ use crate::sheaves::torus_sheaf;
 use crate::torus::rows_of;
 use block_sparse::Blocks;
 use cell_complex::Complex;
-use coboundary::{full, start_is_over_the_field};
+use coboundary::{full, start_is_block_complex};
 use dense_blocks::Scalars;
 use sheaf_data::Sheaf;
 use std::alloc::{AllocError as NoMemory, Global};
 use std::rt::Clock;
 
-/// The block complex of a sheaf, whose blocks have scalars of its field.
+/// The block complex of a sheaf, over its field.
 pub(crate) fn start<F: Scalars>(alloc: Global, sheaf: &Sheaf<F>) -> Result<Blocks, NoMemory>
-    ensures { IfOk result (λ b. IsOver (F.ops sheaf.now.field) b) }
+    ensures { IfOk result (λ b. IsBlockComplex (F.ops sheaf.now.field) (complex_in b)) }
 {
-    start_is_over_the_field();
+    start_is_block_complex();
     let _cells = sheaf.draft().complex.dims();
     let blocks = full(alloc, sheaf)?;
     Ok(blocks)

@@ -1,5 +1,6 @@
 ghost use Rattle.std.specs.Prelude.{◌≡◌, ◌≤◌, true, is_some, IfOk, OnOk};
-ghost use Rattle.block_sparse.specs.BlockComplexes.{held, size_of};
+ghost use Rattle.block_complexes.specs.BlockComplexes.{size_of};
+ghost use Rattle.block_sparse.specs.StoredBlocks.{held};
 ghost use Rattle.sheaf_bench.specs.Merges.{MayJoin};
 
 use crate::checksums::blocks_checksum;

@@ -1,8 +1,9 @@
 ghost use Rattle.std.specs.Prelude.{◌≡◌, ◌≤◌, ℕ, true, IfOk, OnOk};
 ghost use Rattle.block_sparse.specs.Candidates.{is_candidate};
-ghost use Rattle.block_sparse.specs.Cochains.{IsOver};
+ghost use Rattle.block_complexes.specs.BlockComplexes.{IsBlockComplex};
 ghost use Rattle.reduce_step.specs.Differences.{Fits};
 ghost use Rattle.sheaf_bench.specs.Reductions.{IsOfField};
+ghost use Rattle.block_sparse.specs.StoredBlocks.{complex_in};
 
 use crate::cells::start;
 use crate::checksums::mixed;
@@ -16,7 +17,7 @@ use dense_blocks::Scalars;
 use field_table::Field;
 use pair_find::next_candidate;
 use reduce_step::{Finish, Footprint, Record};
-use removals::removal_keeps_scalars;
+use removals::removal_keeps_block_complex;
 use sheaf_data::Sheaf;
 use sheaf_text::read;
 use std::alloc::{AllocError as NoMemory, Global};
@@ -42,8 +43,8 @@ fn try_pair<F: Scalars>(
     pair: (u32, u32),
 ) -> Result<Tried, Failure>
     requires candidate { is_candidate b.old pair.0 pair.1 ≡ true }
-    requires over { IsOver (F.ops f.now) b.old }
-    ensures { OnOk result (IsOver (F.ops f.now) b.new) }
+    requires over { IsBlockComplex (F.ops f.now) (complex_in b.old) }
+    ensures { OnOk result (IsBlockComplex (F.ops f.now) (complex_in b.new)) }
 {
     let finish = finish(alloc, f, b, pair)?;
     match finish {
@@ -67,7 +68,7 @@ fn finish<F: Scalars>(
     pair: (u32, u32),
 ) -> Result<Finish<F>, NoMemory>
     requires candidate { is_candidate b.now pair.0 pair.1 ≡ true }
-    requires over { IsOver (F.ops f.now) b.now }
+    requires over { IsBlockComplex (F.ops f.now) (complex_in b.now) }
     ensures { IfOk result (IsOfField f.now) }
 {
     let foot = Footprint::copy(alloc, b, pair.0, pair.1)?;
@@ -79,8 +80,8 @@ fn finish<F: Scalars>(
 
 /// Makes a removal.
 fn remove<F: Scalars>(b: &mut Blocks, made: Record<F>) -> Result<Tried, Failure>
-    requires { IsOver (F.ops made.f) b.old }
-    ensures { OnOk result (IsOver (F.ops made.f) b.new) }
+    requires { IsBlockComplex (F.ops made.f) (complex_in b.old) }
+    ensures { OnOk result (IsBlockComplex (F.ops made.f) (complex_in b.new)) }
 {
     let tried = removed(&made.foot);
     match made.fits(b) {
@@ -95,16 +96,12 @@ fn remove<F: Scalars>(b: &mut Blocks, made: Record<F>) -> Result<Tried, Failure>
 /// Applies a record that fits.
 fn apply<F: Scalars>(b: &mut Blocks, made: Record<F>) -> Result<(), NoMemory>
     requires fits { Fits b.old made.foot }
-    requires over { IsOver (F.ops made.f) b.old }
-    ensures { OnOk result (IsOver (F.ops made.f) b.new) }
+    requires over { IsBlockComplex (F.ops made.f) (complex_in b.old) }
+    ensures { OnOk result (IsBlockComplex (F.ops made.f) (complex_in b.new)) }
 {
-    removal_keeps_scalars();
-    let _old = b.live();
+    removal_keeps_block_complex();
     match made.apply(b) {
-        Ok(_) => {
-            let _new = b.live();
-            Ok(())
-        }
+        Ok(_) => Ok(()),
         Err((_, fault)) => Err(fault),
     }
 }
@@ -134,8 +131,8 @@ fn step<F: Scalars>(
     b: &mut Blocks,
     from: (u32, u32),
 ) -> Result<Option<Tried>, Failure>
-    requires { IsOver (F.ops f.now) b.old }
-    ensures { OnOk result (IsOver (F.ops f.now) b.new) }
+    requires { IsBlockComplex (F.ops f.now) (complex_in b.old) }
+    ensures { OnOk result (IsBlockComplex (F.ops f.now) (complex_in b.new)) }
 {
     match next_candidate(b, from) {
         Some(pair) => Ok(Some(try_pair(alloc, f, b, pair)?)),
@@ -145,7 +142,7 @@ fn step<F: Scalars>(
 
 /// Tries the candidates in order until there is none.
 fn reduce<F: Scalars>(alloc: Global, f: &F, b: &mut Blocks) -> Result<Reduced, Failure>
-    requires { IsOver (F.ops f.now) b.old }
+    requires { IsBlockComplex (F.ops f.now) (complex_in b.old) }
 {
     let mut from = (0, 0);
     let mut pairs: u64 = 0;
@@ -226,7 +223,7 @@ fn time_searches<R: Clock + AllocGlobal, F: Scalars>(
     f: &F,
     b: &mut Blocks,
 ) -> Result<Searches, Failure>
-    requires { IsOver (F.ops f.now) b.old }
+    requires { IsBlockComplex (F.ops f.now) (complex_in b.old) }
 {
     let mut from = (0, 0);
     let mut searches = Searches {

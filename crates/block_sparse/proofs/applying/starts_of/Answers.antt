@@ -2,8 +2,8 @@ use Rattle.std.proofs.Common.{◌≡◌, ◌∙◌, ◌+◌, ◌<◌, ℕ, ap, l
 use Rattle.std.proofs.lemmas.Bool.{cases_lt}
 use Rattle.std.proofs.lemmas.List.{get_or_push, get_or_append_left}
 use Rattle.cochain_vec.specs.Complexes.{total_size}
-use Rattle.block_sparse.specs.Cochains.{of_degree}
-use Rattle.block_sparse.proofs.DegreeLaws.{start-next, start-within}
+use Rattle.block_complexes.specs.Cochains.{of_degree}
+use Rattle.block_complexes.proofs.DegreeLaws.{start-next, start-within}
 use Rattle.block_sparse.proofs.applying.starts_of.Goals as goal
 
 pub overflow_add-start : goal.overflow_add-start

@@ -1,8 +1,8 @@
 use Rattle.std.proofs.Common.{◌∙◌, ◌+◌, ◌<◌, ◌≤◌, ℕ, ap, length, arith}
 use Rattle.std.proofs.lemmas.List.{take_all}
 use Rattle.cochain_vec.specs.Complexes.{total_size}
-use Rattle.block_sparse.specs.Cochains.{of_degree}
-use Rattle.block_sparse.proofs.DegreeLaws.{start-next, start-within}
+use Rattle.block_complexes.specs.Cochains.{of_degree}
+use Rattle.block_complexes.proofs.DegreeLaws.{start-next, start-within}
 use Rattle.block_sparse.proofs.applying.total_of.Goals as goal
 
 pub overflow_add-total : goal.overflow_add-total

@@ -1,9 +1,9 @@
 use Rattle.std.proofs.Common.{◌≡◌, ◌∙◌, ◌<◌, ℕ, ap, sym, length, take, drop, get_or, refl, arith}
 use Rattle.std.proofs.lemmas.List.{get_or_read_under}
 use Rattle.cochain_vec.specs.Complexes.{total_size, value_at}
-use Rattle.block_sparse.specs.Cochains.{of_degree}
-use Rattle.block_sparse.proofs.LiveLaws.{of_cell-at}
-use Rattle.block_sparse.proofs.DegreeLaws.{value-place, value-within}
+use Rattle.block_complexes.specs.Cochains.{of_degree}
+use Rattle.block_complexes.proofs.LiveLaws.{of_cell-at}
+use Rattle.block_complexes.proofs.DegreeLaws.{value-place, value-within}
 use Rattle.block_sparse.proofs.applying.value_of.Goals as goal
 
 pub part-requires : goal.part-requires

@@ -1,8 +1,8 @@
 use Rattle.std.proofs.Common.{ap, ◌∙◌, sym, arith}
 use Rattle.rising_lists.specs.Rising.{has}
 use Rattle.rising_lists.proofs.Keyed.{has-at}
-use Rattle.block_sparse.specs.BlockComplexes.{cells}
-use Rattle.block_sparse.proofs.LiveLaws.{cell-at, length-cells, of_cell-at}
+use Rattle.block_complexes.specs.BlockComplexes.{cells}
+use Rattle.block_complexes.proofs.LiveLaws.{cell-at, length-cells, of_cell-at}
 use Rattle.block_sparse.proofs.blocks.cell_in.Goals as goal
 
 pub returns-in-Some : goal.returns-in-Some

@@ -1,7 +1,7 @@
 use Rattle.std.proofs.Common.{◌<◌, ◌+◌, ◌-◌, ◌/◌, ℕ, length, arith}
 use Rattle.rising_lists.proofs.Keyed.{rising_le}
-use Rattle.block_sparse.specs.BlockComplexes.{cells}
-use Rattle.block_sparse.proofs.LiveLaws.{cell-at, length-cells}
+use Rattle.block_complexes.specs.BlockComplexes.{cells}
+use Rattle.block_complexes.proofs.LiveLaws.{cell-at, length-cells}
 use Rattle.block_sparse.proofs.blocks.count_below.Goals as goal
 
 pub loop-low-preserved-then-live-middle : goal.loop-low-preserved-then-live-middle

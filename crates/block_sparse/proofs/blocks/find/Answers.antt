@@ -1,5 +1,5 @@
 use Rattle.std.proofs.Common.{arith}
-use Rattle.block_sparse.proofs.LiveLaws.{absent-at}
+use Rattle.block_complexes.proofs.LiveLaws.{absent-at}
 use Rattle.block_sparse.proofs.blocks.find.Goals as goal
 use Rattle.block_sparse.proofs.blocks.find.Goals.{else-at-live-via-then-at-live+else-live-at, else-at-live-via-else-at-live}
 

@@ -1,5 +1,5 @@
 use Rattle.std.proofs.Common.{◌∙◌, sym}
-use Rattle.block_sparse.proofs.RemovalLaws.{without-at, without-absent}
+use Rattle.block_complexes.proofs.WithoutLaws.{without-at, without-absent}
 use Rattle.block_sparse.proofs.blocks.remove_live.Goals as goal
 
 pub returns-in-Some : goal.returns-in-Some

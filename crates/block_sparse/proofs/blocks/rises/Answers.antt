@@ -1,7 +1,7 @@
 use Rattle.std.proofs.Common.{true, false, ◌≡◌, ◌<◌, ◌-◌, ℕ, length, get_or, arith, inl, inr, subst}
 use Rattle.std.proofs.lemmas.Bool.{cases_lt}
-use Rattle.block_sparse.specs.BlockComplexes.{cells}
-use Rattle.block_sparse.proofs.LiveLaws.{cell-at, length-cells}
+use Rattle.block_complexes.specs.BlockComplexes.{cells}
+use Rattle.block_complexes.proofs.LiveLaws.{cell-at, length-cells}
 use Rattle.block_sparse.proofs.blocks.rises.Goals as goal
 
 pub loop-i-preserved : goal.loop-i-preserved

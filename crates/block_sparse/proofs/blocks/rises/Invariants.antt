@@ -1,5 +1,5 @@
 use Rattle.std.proofs.Common.{◌<◌, ℕ, get_or}
-use Rattle.block_sparse.specs.BlockComplexes.{cells}
+use Rattle.block_complexes.specs.BlockComplexes.{cells}
 use Rattle.block_sparse.proofs.blocks.rises.Given as goal
 
 abbrev pub invariant-loop-i : goal.invariant-loop-i

@@ -1,5 +1,5 @@
 use Rattle.std.proofs.Common.{sym}
-use Rattle.block_sparse.proofs.LiveLaws.{of_cell-absent}
+use Rattle.block_complexes.proofs.LiveLaws.{of_cell-absent}
 use Rattle.block_sparse.proofs.blocks.size_in.Goals as goal
 
 pub returns-in-None : goal.returns-in-None

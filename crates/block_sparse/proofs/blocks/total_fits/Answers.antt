@@ -1,5 +1,5 @@
 use Rattle.std.proofs.Common.{true, false, ◌≡◌, ◌<◌, ◌+◌, ℕ, length, arith}
-use Rattle.block_sparse.proofs.LiveLaws.{total-next, total-take}
+use Rattle.block_complexes.proofs.LiveLaws.{total-next, total-take}
 use Rattle.block_sparse.proofs.blocks.total_fits.Goals as goal
 
 pub loop-cell-preserved : goal.loop-cell-preserved

@@ -1,5 +1,5 @@
 use Rattle.std.proofs.Common.{◌≡◌, ◌≤◌, take}
-use Rattle.block_sparse.specs.BlockComplexes.{total_size}
+use Rattle.block_complexes.specs.BlockComplexes.{total_size}
 use Rattle.block_sparse.proofs.blocks.total_fits.Given as goal
 
 abbrev pub invariant-loop-cell : goal.invariant-loop-cell

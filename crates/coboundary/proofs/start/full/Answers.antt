@@ -1,11 +1,12 @@
 -- The live cells, and all faces put.
 use Rattle.std.proofs.Common.{◌≡◌, length, sym, ap, ◌∙◌, subst, arith}
-use Rattle.cell_complex.specs.Complexes.{AreCells}
-use Rattle.sheaf_data.specs.Sheaves.{SheafData, AreStalks}
-use Rattle.block_sparse.specs.BlockComplexes.{AreLive, held}
-use Rattle.coboundary.specs.Start.{AreFirstPut, IsStart}
+use Rattle.cell_complex.specs.Complexes.{AreCells, IsComplex}
+use Rattle.sheaf_data.specs.Sheaves.{SheafData, AreStalks, IsSheaf}
+use Rattle.block_sparse.specs.StoredBlocks.{held, AreLive}
+use Rattle.coboundary.specs.Put.{AreFirstPut, IsStart}
 use Rattle.coboundary.proofs.LiveLaws.{live_cells-live}
 use Rattle.coboundary.proofs.StartLaws.{first-put-all}
+use Rattle.coboundary.proofs.StoredStart.{stored-start}
 use Rattle.coboundary.proofs.start.full.Goals as goal
 
 pub of_cells-requires : goal.of_cells-requires
@@ -26,7 +27,9 @@ returns g c =
     subst (λ (x : SheafData g.row.F.Denot). length x.blocks ≡ length x.complex.faces) (sym c.draft-draft.ensures.draft) c.draft-draft.ensures.sheaf.restrictions.shapes.count in
     let faces : length c.draft.inside.complex.faces ≡ length d.complex.faces = ap (λ (x : SheafData g.row.F.Denot). length x.complex.faces) c.draft.view_is in
     let all : c.loop-place.place ≡ length d.complex.faces = omega (arith, c.face_count-place-end.ensures.count) in
-    subst (λ (x : SheafData g.row.F.Denot). IsStart (g.F.Scalars.ops x.field) x.complex x.stalks x.blocks v) c.draft-draft.ensures.draft (record {
-      live = c.loop-place.invariant.live;
-      faces = first-put-all K d.complex d.blocks (held v) same (subst (λ n. AreFirstPut K d.complex d.blocks n (held v)) all c.loop-place.invariant.first);
-    })
+    let complex : IsComplex d.complex = subst (λ (x : SheafData g.row.F.Denot). IsComplex x.complex) c.draft.view_is c.dims.ensures.complex in
+    let sheaf : IsSheaf K d.complex d.stalks d.blocks =
+    subst (λ (x : SheafData g.row.F.Denot). IsSheaf (g.F.Scalars.ops x.field) x.complex x.stalks x.blocks) (sym c.draft-draft.ensures.draft) c.draft-draft.ensures.sheaf in
+    subst (λ (x : SheafData g.row.F.Denot). IsStart (g.F.Scalars.ops x.field) x.complex x.stalks x.blocks v) c.draft-draft.ensures.draft
+    (stored-start K (g.met.F.Scalars.is_field d.field) d.complex d.stalks d.blocks v complex sheaf c.loop-place.invariant.live
+    (first-put-all K d.complex d.blocks (held v) same (subst (λ n. AreFirstPut K d.complex d.blocks n (held v)) all c.loop-place.invariant.first)))

@@ -1,7 +1,8 @@
 use Rattle.std.proofs.Common.{◌≡◌}
 use Rattle.sheaf_data.specs.Betti.{numbered}
-use Rattle.block_sparse.specs.BlockComplexes.{held}
-use Rattle.coboundary.specs.Start.{with_stalks, AreFirstPut}
+use Rattle.block_sparse.specs.StoredBlocks.{held}
+use Rattle.coboundary.specs.Start.{with_stalks}
+use Rattle.coboundary.specs.Put.{AreFirstPut}
 use Rattle.coboundary.proofs.start.full.Given as goal
 
 abbrev pub invariant-loop-place : goal.invariant-loop-place

@@ -4,7 +4,7 @@ use Rattle.std.proofs.lemmas.Result.{on_ok_weaker}
 use Rattle.dense_blocks.specs.Blocks.{matrix_of, IsBlock}
 use Rattle.sheaf_data.specs.Sheaves.{SheafData}
 use Rattle.sheaf_data.specs.Betti.{signed}
-use Rattle.block_sparse.specs.BlockComplexes.{Fits, held}
+use Rattle.block_sparse.specs.StoredBlocks.{Fits, held}
 use Rattle.block_sparse.specs.Lists.{with_block}
 use Rattle.coboundary.proofs.PutLaws.{next_face, next-placed, next-fits}
 use Rattle.coboundary.proofs.StartLaws.{first-put-more, first-put-empty}

@@ -2,8 +2,8 @@ use Rattle.std.proofs.Common.{◌≡◌, ℕ, ◌∙◌, ap, arith, inl, inr}
 use Rattle.std.proofs.Math.Dec.{leb}
 use Rattle.std.proofs.lemmas.Bool.{cases_Bool, le-leb}
 use Rattle.rising_lists.specs.Rising.{has}
-use Rattle.block_sparse.specs.BlockComplexes.{cells}
-use Rattle.block_sparse.proofs.LiveLaws.{of_cell-absent}
+use Rattle.block_complexes.specs.BlockComplexes.{cells}
+use Rattle.block_complexes.proofs.LiveLaws.{of_cell-absent}
 use Rattle.reduce_step.proofs.DifferenceLaws.{live-size, not-both}
 use Rattle.reduce_step.proofs.differing.is_live.Goals as goal
 

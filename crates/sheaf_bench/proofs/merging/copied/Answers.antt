@@ -1,5 +1,4 @@
-use Rattle.std.proofs.Common.{◌≡◌, ℕ}
-use Rattle.removals.proofs.AppliedLaws.{listed-degrees}
+use Rattle.reduce_step.proofs.AppliedLaws.{listed-degrees}
 use Rattle.sheaf_bench.proofs.merging.copied.Goals as goal
 
 pub returns : goal.returns

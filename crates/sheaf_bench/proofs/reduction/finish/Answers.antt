@@ -1,4 +1,4 @@
-use Rattle.std.proofs.Common.{◌≡◌, ℕ}
+use Rattle.std.proofs.Common.{ℕ}
 use Rattle.sheaf_bench.proofs.StepLaws.{candidate-stands, candidate-square, finishes-field}
 use Rattle.sheaf_bench.proofs.reduction.finish.Goals as goal
 

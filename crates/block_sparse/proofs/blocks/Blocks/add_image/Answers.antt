@@ -9,14 +9,16 @@ use Rattle.dense_blocks.proofs.VectorLaws.{plus-vector, plus-zeros, scaled-one}
 use Rattle.dense_blocks.proofs.MatrixLaws.{zero_matrix-applied}
 use Rattle.cochain_vec.specs.Complexes.{value_at}
 use Rattle.cochain_vec.proofs.CoboundaryLaws.{applied-rows}
-use Rattle.block_sparse.specs.BlockComplexes.{matrix, size_of}
-use Rattle.block_sparse.specs.Cochains.{of_degree}
-use Rattle.block_sparse.proofs.ScalarBlocks.{block-rows, block-scalars, matrix-none, value-scalars}
+use Rattle.block_complexes.specs.BlockComplexes.{size_of}
+use Rattle.block_sparse.specs.StoredBlocks.{matrix}
+use Rattle.block_complexes.specs.Cochains.{of_degree}
+use Rattle.block_sparse.proofs.ScalarBlocks.{block-rows, matrix-none, value-scalars}
+use Rattle.block_sparse.proofs.StoredLaws.{standing-scalars}
 use Rattle.block_sparse.proofs.blocks.Blocks.add_image.Goals as goal
 
 pub apply-requires-clause-a_scalars : goal.apply-requires-clause-a_scalars
 apply-requires-clause-a_scalars g c =
-    block-scalars (g.F.Scalars.ops c.args.f.now) c.args.self.now c.args.s c.args.t c.in-Some.block.now c.in-Some.ensures (c.requires.scalars c.args.s c.args.t)
+    standing-scalars (g.F.Scalars.ops c.args.f.now) c.args.self.now c.requires.scalars c.args.s c.args.t c.in-Some.block.now c.in-Some.ensures
 
 pub apply-requires-clause-v_scalars : goal.apply-requires-clause-v_scalars
 apply-requires-clause-v_scalars g c =

@@ -8,13 +8,14 @@ use Rattle.cochain_vec.proofs.CoboundaryLaws.{coboundary-cochain}
 use Rattle.dense_blocks.proofs.Shapes.{from_vector}
 use Rattle.rising_lists.specs.Rising.{has}
 use Rattle.rising_lists.proofs.Keyed.{has-at}
-use Rattle.block_sparse.specs.BlockComplexes.{BlockComplex, cells, degree_of, size_of}
+use Rattle.block_complexes.specs.BlockComplexes.{cells, degree_of, size_of}
+use Rattle.block_sparse.specs.StoredBlocks.{StoredBlocks, complex_in}
 use Rattle.block_sparse.specs.Invariants.{IsSound}
-use Rattle.block_sparse.proofs.SumLaws.{rows_fit}
+use Rattle.block_complexes.proofs.SumLaws.{rows_fit}
 use Rattle.block_sparse.proofs.ScalarBlocks.{matrix-size_of}
-use Rattle.block_sparse.specs.Cochains.{complex_of, of_degree}
-use Rattle.block_sparse.proofs.LiveLaws.{cell-at, length-cells, of_cell-at}
-use Rattle.block_sparse.proofs.DegreeLaws.{parts-next}
+use Rattle.block_complexes.specs.Cochains.{complex_of, of_degree}
+use Rattle.block_complexes.proofs.LiveLaws.{cell-at, length-cells, of_cell-at}
+use Rattle.block_complexes.proofs.DegreeLaws.{parts-next}
 use Rattle.block_sparse.proofs.blocks.Blocks.apply.Goals as goal
 
 pub add_part-requires-clause-live : goal.add_part-requires-clause-live
@@ -54,7 +55,7 @@ loop-cell-preserved g c =
     let inside : i < length live = omega arith in
     let cell = get_or live i (0, 0, 0) in
     let old = c.loop-cell.all.items in
-    let piece : ℕ → Cell → List ℕ = λ j t. sum_into K (complex_of v).arrows (value_at (of_degree j v.live) c.args.z.now) t.size t.cell in
+    let piece : ℕ → Cell → List ℕ = λ j t. sum_into K (complex_of (complex_in v)).arrows (value_at (of_degree j v.live) c.args.z.now) t.size t.cell in
     let grown : c.add_part.new.all.items ≡ old ++ flat_map (piece k) (of_degree (k + 1) (cell ∷ [])) =
     c.in_ok-add_part.ensures ∙ ap (λ j. old ++ flat_map (piece j) (of_degree (j + 1) (cell ∷ []))) c.in_ok-starts.ensures.degree in
     grown
@@ -68,7 +69,7 @@ returns-clause-coboundary g c =
     let k = c.args.k in
     let live = c.live-live.result.now in
     let end : length live ≤ c.loop-cell.cell-index = omega arith in
-    let piece : Cell → List ℕ = λ t. sum_into K (complex_of v).arrows (value_at (of_degree k v.live) c.args.z.now) t.size t.cell in
+    let piece : Cell → List ℕ = λ t. sum_into K (complex_of (complex_in v)).arrows (value_at (of_degree k v.live) c.args.z.now) t.size t.cell in
     c.loop-cell.invariant
     ∙ ap (λ l. flat_map piece (of_degree (k + 1) l)) (take_all c.loop-cell.cell-index live end ∙ c.live-live.ensures.live)
     ∙ ap (λ j. flat_map piece (of_degree j v.live)) (add-one k)
@@ -80,8 +81,8 @@ returns-clause-cochain g c =
     let v = c.args.self.now in
     let k = c.args.k in
     let z = c.args.z.now in
-    let C = complex_of v in
-    let sound : IsSound v.live v.rows v.columns = subst (λ (v : BlockComplex). IsSound v.live v.rows v.columns) c.self.view_is c.self.invariant in
-    let fits = rows_fit v sound.live_cells.rising (matrix-size_of v sound) in
+    let C = complex_of (complex_in v) in
+    let sound : IsSound v.live v.rows v.columns = subst (λ (v : StoredBlocks). IsSound v.live v.rows v.columns) c.self.view_is c.self.invariant in
+    let fits = rows_fit (complex_in v) sound.live_cells.rising (matrix-size_of v sound) in
     subst (λ j. IsCochain K C j c.loop-cell.all.items) (sym (add-one k))
     (subst (IsCochain K C (suc k)) (sym (returns-clause-coboundary g c)) (from_vector K (coordinates C (suc k)) (coboundary K C k z) (coboundary-cochain K F C fits k z)))

@@ -1,7 +1,8 @@
 use Rattle.std.proofs.Common.{◌≡◌, ◌≢◌, ◌<◌, ℕ, ap, ap₂, ◌∙◌, sym, subst, refl, true, false, length, get_or, take, arith, inl, inr, rules}
 use Rattle.std.proofs.lemmas.Bool.{cases_lt}
 use Rattle.dense_blocks.specs.Blocks.{matrix_of}
-use Rattle.block_sparse.specs.BlockComplexes.{held, size_of}
+use Rattle.block_complexes.specs.BlockComplexes.{size_of}
+use Rattle.block_sparse.specs.StoredBlocks.{held}
 use Rattle.block_sparse.specs.Grids.{width, window, block_matrix, nonzero}
 use Rattle.block_sparse.proofs.Windows.{width-next, width-within}
 use Rattle.block_sparse.proofs.blocks.Blocks.is_row.Goals as goal

@@ -1,6 +1,6 @@
 use Rattle.std.proofs.Common.{◌≡◌, ◌≢◌, ◌<◌, ℕ, get_or, take}
 use Rattle.dense_blocks.specs.Blocks.{matrix_of}
-use Rattle.block_sparse.specs.BlockComplexes.{held}
+use Rattle.block_sparse.specs.StoredBlocks.{held}
 use Rattle.block_sparse.specs.Grids.{width, window, block_matrix, nonzero}
 use Rattle.block_sparse.proofs.blocks.Blocks.is_row.Given as goal
 

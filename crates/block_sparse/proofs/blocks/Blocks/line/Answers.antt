@@ -1,6 +1,6 @@
 use Rattle.std.proofs.Common.{ap, ◌∙◌}
 use Rattle.rising_lists.specs.Rising.{has}
-use Rattle.block_sparse.specs.BlockComplexes.{cells}
+use Rattle.block_complexes.specs.BlockComplexes.{cells}
 use Rattle.block_sparse.proofs.blocks.Blocks.line.Goals as goal
 
 pub line-requires : goal.line-requires

@@ -7,10 +7,11 @@ use Rattle.dense_blocks.proofs.Shapes.{from_vector}
 use Rattle.dense_blocks.proofs.VectorLaws.{zeros-vector}
 use Rattle.cochain_vec.specs.Complexes.{value_at}
 use Rattle.cochain_vec.proofs.PathLaws.{sum_over}
-use Rattle.block_sparse.specs.BlockComplexes.{BlockComplex, matrix, size_of}
-use Rattle.block_sparse.specs.Cochains.{of_degree}
+use Rattle.block_complexes.specs.BlockComplexes.{size_of}
+use Rattle.block_sparse.specs.StoredBlocks.{StoredBlocks, matrix}
+use Rattle.block_complexes.specs.Cochains.{of_degree}
 use Rattle.block_sparse.specs.Invariants.{IsSound}
-use Rattle.block_sparse.proofs.SumLaws.{sum_over-next}
+use Rattle.block_complexes.proofs.SumLaws.{sum_over-next}
 use Rattle.block_sparse.proofs.ScalarBlocks.{sum_into-row}
 use Rattle.block_sparse.proofs.blocks.Blocks.part_at.Goals as goal
 
@@ -45,7 +46,7 @@ returns g c =
     let row = c.row-s-items.result.now in
     let end : length row ≤ c.loop-s.s-index = omega arith in
     let value : ℕ → List ℕ = value_at (of_degree c.args.starts.now.degree v.live) c.args.z.now in
-    let sound : IsSound v.live v.rows v.columns = subst (λ (v : BlockComplex). IsSound v.live v.rows v.columns) c.self.view_is c.self.invariant in
+    let sound : IsSound v.live v.rows v.columns = subst (λ (v : StoredBlocks). IsSound v.live v.rows v.columns) c.self.view_is c.self.invariant in
     c.loop-s.invariant.sum
     ∙ ap (sum_over K (size_of v.live t) (λ s. applied K (matrix v s t) (value s))) (take_all c.loop-s.s-index row end)
     ∙ sym (sum_into-row K (g.met.F.Scalars.is_field c.args.f.now) v sound value t row c.requires.live c.row-s-items.ensures.rising c.row-s-items.ensures.cells)

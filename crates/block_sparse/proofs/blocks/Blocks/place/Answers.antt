@@ -1,7 +1,8 @@
 use Rattle.std.proofs.Common.{◌≡◌, ℕ, ap, ◌∙◌, sym, subst, List, ◌∷◌, [], arith}
 use Rattle.dense_blocks.specs.Blocks.{matrix_of}
 use Rattle.dense_blocks.proofs.Cutting.{Sized}
-use Rattle.block_sparse.specs.BlockComplexes.{held, size_of}
+use Rattle.block_complexes.specs.BlockComplexes.{size_of}
+use Rattle.block_sparse.specs.StoredBlocks.{held}
 use Rattle.block_sparse.specs.Grids.{part, placed}
 use Rattle.block_sparse.proofs.GridLaws.{at_pair, part-whole}
 use Rattle.block_sparse.proofs.Windows.{sized-cut}

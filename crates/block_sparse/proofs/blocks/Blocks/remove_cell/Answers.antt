@@ -1,6 +1,6 @@
 use Rattle.std.proofs.Common.{ap, ◌∙◌, sym, cond, None, ◌||◌, eqb, subst}
 use Rattle.rising_lists.specs.Rising.{entry_of}
-use Rattle.block_sparse.specs.BlockComplexes.{held}
+use Rattle.block_sparse.specs.StoredBlocks.{held}
 use Rattle.block_sparse.specs.Invariants.{IsSound}
 use Rattle.block_sparse.proofs.RemovalLaws.{sound-without, held-without, some-mark}
 use Rattle.block_sparse.proofs.blocks.Blocks.remove_cell.Goals as goal

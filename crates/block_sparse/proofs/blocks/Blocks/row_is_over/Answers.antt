@@ -3,7 +3,7 @@ use Rattle.std.proofs.lemmas.Bool.{cases_Bool}
 use Rattle.dense_blocks.specs.Vectors.{AllScalars}
 use Rattle.rising_lists.specs.Rising.{has}
 use Rattle.rising_lists.proofs.Keyed.{place_of}
-use Rattle.block_sparse.specs.BlockComplexes.{held, matrix}
+use Rattle.block_sparse.specs.StoredBlocks.{held, matrix}
 use Rattle.block_sparse.proofs.ScalarBlocks.{none-scalars, not-held}
 use Rattle.block_sparse.proofs.blocks.Blocks.row_is_over.Goals as goal
 

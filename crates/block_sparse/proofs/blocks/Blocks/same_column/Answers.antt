@@ -2,7 +2,7 @@ use Rattle.std.proofs.Common.{◌≡◌, ℕ, ap, ◌∙◌, sym, true, false, �
 use Rattle.dense_blocks.specs.Blocks.{matrix_of}
 use Rattle.dense_blocks.proofs.Cutting.{Sized}
 use Rattle.block_sparse.proofs.Windows.{sized-cut}
-use Rattle.block_sparse.specs.BlockComplexes.{held}
+use Rattle.block_sparse.specs.StoredBlocks.{held}
 use Rattle.block_sparse.specs.Grids.{width, segment, nonzero}
 use Rattle.block_sparse.proofs.CompareLaws.{all-same, same-at, same-listed, rows-window, rows-absent}
 use Rattle.block_sparse.proofs.blocks.Blocks.same_column.Goals as goal

@@ -1,7 +1,7 @@
 use Rattle.std.proofs.Common.{◌≡◌, ℕ, ap, ◌∙◌, sym, true, false, length}
 use Rattle.dense_blocks.specs.Blocks.{matrix_of}
 use Rattle.dense_blocks.proofs.BlockLaws.{block-size}
-use Rattle.block_sparse.specs.BlockComplexes.{held}
+use Rattle.block_sparse.specs.StoredBlocks.{held}
 use Rattle.block_sparse.specs.Grids.{columns_of, nonzero}
 use Rattle.block_sparse.proofs.CompareLaws.{all-same, same-at, same-listed, columns-window, columns-absent}
 use Rattle.block_sparse.proofs.blocks.Blocks.same_row.Goals as goal

@@ -1,7 +1,8 @@
 use Rattle.std.proofs.Common.{◌≡◌, ◌+◌, subst, ap, ◌∙◌, sym, cond, ◌&&◌}
 use Rattle.dense_blocks.specs.Blocks.{matrix_of}
 use Rattle.rising_lists.specs.Rising.{has, keys}
-use Rattle.block_sparse.specs.BlockComplexes.{cells, held, degree_of}
+use Rattle.block_complexes.specs.BlockComplexes.{cells, degree_of}
+use Rattle.block_sparse.specs.StoredBlocks.{held}
 use Rattle.block_sparse.specs.Grids.{part, placed, AreSized}
 use Rattle.block_sparse.proofs.GridLaws.{is_done, held-done, sound-done, sized-live}
 use Rattle.block_sparse.proofs.blocks.Blocks.set_grid.Goals as goal

@@ -1,6 +1,6 @@
 use Rattle.std.proofs.Common.{◌<◌, ◌≤◌, ◌+◌, ℕ, ap, ◌∙◌, sym, length, drop, drop-cons, add-one, arith, suc, ◌∷◌}
 use Rattle.dense_blocks.specs.Blocks.{matrix_of}
-use Rattle.block_sparse.specs.BlockComplexes.{held}
+use Rattle.block_sparse.specs.StoredBlocks.{held}
 use Rattle.block_sparse.specs.Lists.{with_block, with_blocks}
 use Rattle.block_sparse.proofs.RemovalLaws.{with_blocks-same, drop-done}
 use Rattle.block_sparse.proofs.blocks.Blocks.with_all.Goals as goal

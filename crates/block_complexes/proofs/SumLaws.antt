@@ -15,9 +15,9 @@ use Rattle.cochain_vec.proofs.CoboundaryLaws.{applied-rows}
 use Rattle.cochain_vec.proofs.PathLaws.{sum_over, sum_over-filter}
 use Rattle.rising_lists.specs.Rising.{IsRising, has}
 use Rattle.rising_lists.proofs.Keyed.{rising_tail, rising_head, rising_cons, head-absent, place_of}
-use Rattle.block_sparse.specs.BlockComplexes.{BlockComplex, cells, matrix, size_of}
-use Rattle.block_sparse.specs.Cochains.{cell_of, complex_of}
-use Rattle.block_sparse.proofs.LiveLaws.{of_cell-at}
+use Rattle.block_complexes.specs.BlockComplexes.{BlockComplex, cells, size_of}
+use Rattle.block_complexes.specs.Cochains.{cell_of, complex_of}
+use Rattle.block_complexes.proofs.LiveLaws.{of_cell-at}
 
 pub rising-filter : (p : ℕ → Bool) (ks : List ℕ) → IsRising ks → IsRising (filter p ks)
 rising-filter p [] r = r
@@ -95,19 +95,19 @@ module _ (K : Ops) (F : IsField K) (n : ℕ) (f : ℕ → List ℕ) where
 
 -- the matrices from some cells to one
 abbrev to_cell : BlockComplex → List ℕ → ℕ → List Arrow
-to_cell v ss u = map (λ s. record { from = s; to = u; matrix = matrix v s u }) ss
+to_cell v ss u = map (λ s. record { from = s; to = u; matrix = v.matrix s u }) ss
 
-all-matrices : (v : BlockComplex) (P : Arrow → Type 0) (ss us : List ℕ) → All (λ u. (s : ℕ) → P (record { from = s; to = u; matrix = matrix v s u })) us
+all-matrices : (v : BlockComplex) (P : Arrow → Type 0) (ss us : List ℕ) → All (λ u. (s : ℕ) → P (record { from = s; to = u; matrix = v.matrix s u })) us
     → All P (flat_map (to_cell v ss) us)
 all-matrices v P ss [] h = All-nil P
 all-matrices v P ss (u ∷ us) h =
-    let Into : ℕ → Type 0 = λ u. (s : ℕ) → P (record { from = s; to = u; matrix = matrix v s u }) in
+    let Into : ℕ → Type 0 = λ u. (s : ℕ) → P (record { from = s; to = u; matrix = v.matrix s u }) in
     All-append P (to_cell v ss u) (flat_map (to_cell v ss) us)
-    (All-map P (λ s. record { from = s; to = u; matrix = matrix v s u }) ss (λ i d l. All-head Into u us h (get_or ss i d)))
+    (All-map P (λ s. record { from = s; to = u; matrix = v.matrix s u }) ss (λ i d l. All-head Into u us h (get_or ss i d)))
     (all-matrices v P ss us (All-tail Into u us h))
 
 -- each matrix into a live cell has a row for each coordinate of the cell
-pub rows_fit : (v : BlockComplex) → IsRising (cells v.live) → ((s t : ℕ) → length (matrix v s t) ≡ size_of v.live t) → RowsFit (complex_of v)
+pub rows_fit : (v : BlockComplex) → IsRising (cells v.live) → ((s t : ℕ) → length (v.matrix s t) ≡ size_of v.live t) → RowsFit (complex_of v)
 rows_fit v rises sized =
     All-map (λ (t : Cell). All (λ (a : Arrow). a.to ≡ t.cell → length a.matrix ≡ t.size) (complex_of v).arrows) cell_of v.live
     (All-from_get_or (λ (l : ℕ × ℕ × ℕ). All (λ (a : Arrow). a.to ≡ l.0 → length a.matrix ≡ l.2) (complex_of v).arrows) v.live (0, 0, 0)
@@ -116,12 +116,12 @@ rows_fit v rises sized =
     (λ j d m s e. sized s (get_or (cells v.live) j d) ∙ of_cell-at (λ l. l.2) v.live i (get_or (cells v.live) j d) rises inside (sym e))))
 
 -- the sum into a live cell of n coordinates
-module _ (K : Ops) (F : IsField K) (v : BlockComplex) (value : ℕ → List ℕ) (n t : ℕ) (rows : (s : ℕ) → length (matrix v s t) ≡ n) where
+module _ (K : Ops) (F : IsField K) (v : BlockComplex) (value : ℕ → List ℕ) (n t : ℕ) (rows : (s : ℕ) → length (v.matrix s t) ≡ n) where
   abbrev pub arriving : ℕ → List ℕ
-  arriving s = applied K (matrix v s t) (value s)
+  arriving s = applied K (v.matrix s t) (value s)
 
   pub arriving-vector : (s : ℕ) → Vector K n (arriving s)
-  arriving-vector s = applied-rows K F n (matrix v s t) (value s) (rows s)
+  arriving-vector s = applied-rows K F n (v.matrix s t) (value s) (rows s)
 
   into-other : (ss : List ℕ) (u : ℕ) (others : List Arrow) → u ≢ t → sum_into K (to_cell v ss u ++ others) value n t ≡ sum_into K others value n t
   into-other [] u others apart = refl

@@ -11,7 +11,8 @@ use Rattle.dense_blocks.specs.Matrices.{product, matrix_sum, matrix_negative}
 use Rattle.dense_blocks.proofs.VectorLaws.{nil-plus, plus-nil, zeros-append, zeros-size}
 use Rattle.dense_blocks.proofs.Cutting.{Sized, sized-size}
 use Rattle.rising_lists.specs.Rising.{has, keys}
-use Rattle.block_sparse.specs.BlockComplexes.{BlockComplex, cells, size_of, matrix}
+use Rattle.block_complexes.specs.BlockComplexes.{cells, size_of}
+use Rattle.block_sparse.specs.StoredBlocks.{StoredBlocks, matrix, complex_in}
 use Rattle.removals.specs.Removals.{corner}
 use Rattle.block_sparse.specs.Grids.{AreSized, width, segment, part, columns_of}
 
@@ -149,12 +150,12 @@ listed_size-live live (l ∷ ls) h c m = go (eqb l.0 c) (eqb-true l.0 c) m (list
     go false e m later = later m
 
 -- C, r and c join the matrices of v from the left to below, from the left to y, and from x to below; then C - c (a r) joins the corners
-pub joined-corners : (K : Ops) (v : BlockComplex) (x y m n k l : ℕ) (left below : List (ℕ × ℕ)) (C c a r : List (List ℕ)) → AreSized v.live left
+pub joined-corners : (K : Ops) (v : StoredBlocks) (x y m n k l : ℕ) (left below : List (ℕ × ℕ)) (C c a r : List (List ℕ)) → AreSized v.live left
     → ((s t : ℕ) → has s (keys left) ≡ true → has t (keys below) ≡ true → part left below C s t ≡ matrix v s t)
     → ((s : ℕ) → has s (keys left) ≡ true → part left ((y, m) ∷ []) r s y ≡ matrix v s y) → Sized m l r
     → ((t : ℕ) → has t (keys below) ≡ true → part ((x, n) ∷ []) below c x t ≡ matrix v x t) → Sized k n c
     → (s t : ℕ) → has s (keys left) ≡ true → has t (keys below) ≡ true
-    → part left below (matrix_sum K C (matrix_negative K (product K (width left) c (product K (width left) a r)))) s t ≡ corner K v x y a s t
+    → part left below (matrix_sum K C (matrix_negative K (product K (width left) c (product K (width left) a r)))) s t ≡ corner K (complex_in v) x y a s t
 joined-corners K v x y m n k l left below C c a r sized C-is r-is r-sized c-is c-sized s t hs ht =
     let column : segment below c t ≡ matrix v x t = sym (part-left_one below x n k c t c-sized) ∙ c-is t ht in
     let row : columns_of left r s ≡ matrix v s y = sym (part-below_one left y m l r s r-sized) ∙ r-is s hs in

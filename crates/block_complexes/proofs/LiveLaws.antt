@@ -4,7 +4,7 @@ use Rattle.std.proofs.lemmas.Bool.{eq-eqb, ne_eqb, cases_lt}
 use Rattle.std.proofs.lemmas.List.{get_or-map, length-map}
 use Rattle.rising_lists.specs.Rising.{IsRising, has}
 use Rattle.rising_lists.proofs.Keyed.{rising_tail, rising_head, has-absent}
-use Rattle.block_sparse.specs.BlockComplexes.{cells, of_cell, total_size}
+use Rattle.block_complexes.specs.BlockComplexes.{cells, of_cell, total_size}
 
 pub cell-at : (live : List (ℕ × ℕ × ℕ)) (i : ℕ) → i < length live → get_or (cells live) i 0 ≡ (get_or live i (0, 0, 0)).0
 cell-at live i l = get_or-map (λ l. l.0) live i (0, 0, 0) 0 l

@@ -6,16 +6,16 @@ use Rattle.dense_blocks.specs.Blocks.{matrix_of}
 use Rattle.dense_blocks.specs.declared.block.Block.{Block}
 use Rattle.dense_blocks.proofs.Cutting.{Sized}
 use Rattle.rising_lists.specs.Rising.{has, keys}
-use Rattle.block_sparse.specs.BlockComplexes.{BlockComplex}
+use Rattle.block_sparse.specs.StoredBlocks.{StoredBlocks, complex_in}
 use Rattle.block_sparse.specs.Grids.{width, part, AreSized, IsJoined}
 use Rattle.block_sparse.proofs.Windows.{sized-cut}
 use Rattle.removals.specs.Removals.{corner}
-use Rattle.removals.proofs.Sums.{has-head}
-use Rattle.removals.proofs.PartLaws.{joined-corners}
+use Rattle.block_complexes.proofs.Sums.{has-head}
+use Rattle.reduce_step.proofs.JoinedParts.{joined-corners}
 
 -- the joined matrices around a pair of cells x and y: that of the corners, the column from x, which has n coordinates, and the row to
 -- y, which has m
-pub record AreAround (v : BlockComplex) (left below : List (ℕ × ℕ)) (x y m n : ℕ) (corners column row : Block) : Type 0 where
+pub record AreAround (v : StoredBlocks) (left below : List (ℕ × ℕ)) (x y m n : ℕ) (corners column row : Block) : Type 0 where
   pub sized : AreSized v.live left
   pub corners_are : IsJoined v left below (matrix_of corners)
   pub corners_cols : corners.cols ≡ width left
@@ -28,11 +28,11 @@ sized-block : (b : Block) → Sized b.rows b.cols (matrix_of b)
 sized-block b = sized-cut b.rows b.cols b.entries (omega (arith, b.full))
 
 -- the part from s to t of C - c (a r) is M(s, t) - M(x, t) a M(s, y)
-pub part-reduced : (K : Ops) (v : BlockComplex) (left below : List (ℕ × ℕ)) (x y m n : ℕ) (corners column row : Block) (a : List (List ℕ))
+pub part-reduced : (K : Ops) (v : StoredBlocks) (left below : List (ℕ × ℕ)) (x y m n : ℕ) (corners column row : Block) (a : List (List ℕ))
     → AreAround v left below x y m n corners column row → (s t : ℕ) → has s (keys left) ≡ true → has t (keys below) ≡ true
     → part left below
     (matrix_sum K (matrix_of corners) (matrix_negative K (product K corners.cols (matrix_of column) (product K corners.cols a (matrix_of row))))) s t
-    ≡ corner K v x y a s t
+    ≡ corner K (complex_in v) x y a s t
 part-reduced K v left below x y m n corners column row a h s t hs ht =
     let C : List (List ℕ) = matrix_of corners in
     let c : List (List ℕ) = matrix_of column in

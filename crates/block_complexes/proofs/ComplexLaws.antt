@@ -17,15 +17,16 @@ use Rattle.cochain_vec.proofs.CoboundaryLaws.{size_at, RowsInto, sum_into-vector
 use Rattle.cochain_vec.proofs.PathLaws.{sum_over, sum_over-vector, sum_over-same, sum_over-zeros, sum_over-plus, joined-zeros, value-joined}
 use Rattle.rising_lists.specs.Rising.{IsRising, has}
 use Rattle.rising_lists.proofs.Keyed.{has-at}
-use Rattle.block_sparse.specs.BlockComplexes.{BlockComplex, cells, degree_of, size_of, matrix}
-use Rattle.block_sparse.specs.Cochains.{IsOver, complex_of, cell_of, of_degree}
-use Rattle.block_sparse.specs.Invariants.{IsSound}
-use Rattle.block_sparse.proofs.LiveLaws.{cell-at, length-cells, of_cell-at}
-use Rattle.block_sparse.proofs.SumLaws.{sum_into-live, sum_over-some}
-use Rattle.removals.specs.Differentials.{IsDifferential}
-use Rattle.removals.proofs.Sums.{sum_over-equal, applied-sum_over}
-use Rattle.removals.proofs.CornerLaws.{shape, matrix-zero}
-use Rattle.removals.proofs.DifferentialLaws.{between-zero, zero-between}
+use Rattle.block_complexes.specs.BlockComplexes.{BlockComplex, cells, degree_of, size_of}
+use Rattle.block_complexes.specs.Cochains.{complex_of, cell_of, of_degree}
+use Rattle.block_complexes.proofs.LiveLaws.{cell-at, length-cells, of_cell-at}
+use Rattle.block_complexes.proofs.SumLaws.{sum_into-live, sum_over-some}
+use Rattle.block_complexes.specs.Differentials.{IsDifferential}
+use Rattle.block_complexes.specs.Laws.{DifferentialIsCochainComplex}
+use Rattle.block_complexes.proofs.Sums.{sum_over-equal, applied-sum_over}
+use Rattle.block_complexes.proofs.SameLaws.{same-sym, same-complex, same-differential}
+use Rattle.block_complexes.proofs.FullLaws.{IsFull, filled, filled-full, same-filled}
+use Rattle.block_complexes.proofs.DifferentialLaws.{between-zero, zero-between}
 
 -- a cell of this degree among the live cells
 record IsOfDegree (live : List (ℕ × ℕ × ℕ)) (k : ℕ) (u : Cell) : Type 0 where
@@ -120,7 +121,7 @@ module _ (K : Ops) (F : IsField K) (cs : List Cell) (s n : ℕ) (z : List ℕ) (
       value-joined K F arrow (λ p. z) cs p alone-parts
       ∙ ap (λ b. cond b (plus K (applied K (identity n) z) (zeros (size_at cs p))) (zeros (size_at cs p))) (ne_eqb s p (λ e. apart (sym e)))
 
-module _ (K : Ops) (F : IsField K) (v : BlockComplex) (sound : IsSound v.live v.rows v.columns) (over : IsOver K v) where
+module _ (K : Ops) (F : IsField K) (v : BlockComplex) (full : IsFull K v) where
   abbrev C : CellularComplex
   C = complex_of v
 
@@ -128,16 +129,16 @@ module _ (K : Ops) (F : IsField K) (v : BlockComplex) (sound : IsSound v.live v.
   size c = size_of v.live c
 
   abbrev M : ℕ → ℕ → List (List ℕ)
-  M s t = matrix v s t
+  M s t = v.matrix s t
 
   abbrev IsLive : ℕ → Type 0
   IsLive c = has c (cells v.live) ≡ true
 
   rises : IsRising (cells v.live)
-  rises = sound.live_cells.rising
+  rises = full.rising
 
   M-shape : (s t : ℕ) → Matrix K (size t) (size s) (M s t)
-  M-shape = shape K F v sound over
+  M-shape = full.shape
 
   -- at t the sum over the live cells s of M(s, t) times the value at s
   abbrev arrives : (ℕ → List ℕ) → ℕ → List ℕ
@@ -189,13 +190,13 @@ module _ (K : Ops) (F : IsField K) (v : BlockComplex) (sound : IsSound v.live v.
         same t h = elim (cases_eq (degree_of v.live t) (suc k)) [
           | inl d ↦ ap (applied K (M t u)) (next-is t h d)
           | inr n ↦
-              let none = matrix-zero K F v sound over t u (λ up. n (omega (arith, up, e))) in
+              let none = full.apart t u (λ up. n (omega (arith, up, e))) in
               ap (λ A. applied K A (next t)) none ∙ zero_matrix-applied K F (size u) (size t) (next t)
               ∙ sym (ap (λ A. applied K A (arrives value t)) none ∙ zero_matrix-applied K F (size u) (size t) (arrives value t))
         ]
 
   passes-zero : IsDifferential K v → (s u : ℕ) → IsLive s → IsLive u → (z : List ℕ) → passes s u z ≡ zeros (size u)
-  passes-zero closed s u hs hu z = between-zero K F size M (cells v.live) (λ s t hs ht. M-shape s t) s u hs hu (closed s u hs hu) z
+  passes-zero closed s u hs hu z = between-zero K F size M (cells v.live) (λ s t hs ht. M-shape s t) s u hs hu (closed s u (record { from = hs; to = hu })) z
 
   pub differential-complex : IsDifferential K v → IsCochainComplex K C
   differential-complex closed k z is = joined-zeros (λ (u : Cell). sum_into K C.arrows (next k z) u.size u.cell) (cells_of C (suc (suc k))) at_cell
@@ -218,10 +219,10 @@ module _ (K : Ops) (F : IsField K) (v : BlockComplex) (sound : IsSound v.live v.
       each : (t : ℕ) → applied K (M t u) (applied K (M s t) z) ≡ zeros (size u)
       each t = elim (cases_eq (degree_of v.live t) (suc (degree_of v.live s))) [
         | inl d ↦
-            ap (λ A. applied K A (applied K (M s t) z)) (matrix-zero K F v sound over t u (λ up. apart (omega (arith, up, d))))
+            ap (λ A. applied K A (applied K (M s t) z)) (full.apart t u (λ up. apart (omega (arith, up, d))))
             ∙ zero_matrix-applied K F (size u) (size t) (applied K (M s t) z)
         | inr n ↦
-            ap (applied K (M t u)) (ap (λ A. applied K A z) (matrix-zero K F v sound over s t (λ up. n (omega (arith, up)))) ∙ zero_matrix-applied K F (size t) (size s) z)
+            ap (applied K (M t u)) (ap (λ A. applied K A z) (full.apart s t (λ up. n (omega (arith, up)))) ∙ zero_matrix-applied K F (size t) (size s) z)
             ∙ applied-zeros K F (size t) (size u) (size t) (M t u) (M-shape t u)
       ]
 
@@ -281,10 +282,19 @@ module _ (K : Ops) (F : IsField K) (v : BlockComplex) (sound : IsSound v.live v.
             ∙ applied-zeros K F (size t) (size u) (size t) (M t u) (M-shape t u))
 
   pub complex-differential : IsCochainComplex K C → IsDifferential K v
-  complex-differential closed s u hs hu = zero-between K F size M (cells v.live) (λ s t hs ht. M-shape s t) s u hs hu each
+  complex-differential closed s u l = zero-between K F size M (cells v.live) (λ s t hs ht. M-shape s t) s u l.from l.to each
     where
       each : (z : List ℕ) → Vector K (size s) z → passes s u z ≡ zeros (size u)
       each z hz = elim (cases_eq (degree_of v.live u) (suc (suc (degree_of v.live s)))) [
-        | inl two ↦ passes-two closed s u hs hu z hz two
+        | inl two ↦ passes-two closed s u l.from l.to z hz two
         | inr apart ↦ passes-nothing s u z apart
       ]
+
+pub differential_is_cochain_complex : DifferentialIsCochainComplex
+differential_is_cochain_complex K v F is =
+    let full = filled-full K F v is in
+    let same = same-complex v (filled v) (same-filled v) in (
+      λ closed. subst (IsCochainComplex K) same (differential-complex K F (filled v) full (same-differential K v (filled v) (same-filled v) closed)),
+      λ closed. same-differential K (filled v) v (same-sym v (filled v) (same-filled v))
+          (complex-differential K F (filled v) full (subst (IsCochainComplex K) (sym same) closed)),
+    )

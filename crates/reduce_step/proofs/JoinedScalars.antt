@@ -1,8 +1,8 @@
 -- A joined matrix of blocks with scalars of a field holds scalars of it: the parts at the listed cells cover it.
-use Rattle.std.proofs.Common.{◌≡◌, ℕ, zero, suc, ◌<◌, Bool, true, false, cond, eqb, List, [], ◌∷◌, length, map, take, drop, get_or, All, refl, sym, ap, ◌∙◌, subst, arith, length-drop}
-use Rattle.std.proofs.lemmas.Bool.{eq-eqb, ne_eqb}
+use Rattle.std.proofs.Common.{◌≡◌, ℕ, zero, suc, ◌<◌, ◌||◌, inl, inr, Bool, true, false, cond, eqb, List, [], ◌∷◌, length, map, take, drop, get_or, All, refl, sym, ap, ◌∙◌, subst, arith, length-drop}
+use Rattle.std.proofs.lemmas.Bool.{eq-eqb, ne_eqb, cases_eq}
 use Rattle.std.proofs.lemmas.List.{take-append-drop, get_or-map, length-map}
-use Rattle.std.proofs.lemmas.List.Elements.{All-append, All-nil, All-take, All-drop}
+use Rattle.std.proofs.lemmas.List.Elements.{All-append, All-nil, All-take, All-drop, All-head, All-tail}
 use Rattle.dense_blocks.specs.Field.{Ops}
 use Rattle.dense_blocks.specs.Vectors.{AllScalars}
 use Rattle.dense_blocks.specs.Blocks.{matrix_of}
@@ -11,12 +11,13 @@ use Rattle.dense_blocks.proofs.BlockLaws.{block-entries, block-size}
 use Rattle.dense_blocks.proofs.Cutting.{Sized}
 use Rattle.rising_lists.specs.Rising.{IsRising, has, keys}
 use Rattle.rising_lists.proofs.Keyed.{rising_tail, head-absent}
-use Rattle.block_sparse.specs.BlockComplexes.{BlockComplex}
-use Rattle.block_sparse.specs.Cochains.{IsOver}
-use Rattle.block_sparse.specs.Grids.{width, segment, IsJoined}
+use Rattle.block_sparse.specs.StoredBlocks.{StoredBlocks, complex_in}
+use Rattle.block_complexes.specs.BlockComplexes.{IsBlockComplex, cells, size_of}
+use Rattle.block_sparse.specs.Grids.{width, segment, IsJoined, AreSized}
 use Rattle.block_sparse.proofs.ScalarBlocks.{flat-all}
+use Rattle.block_sparse.proofs.StoredLaws.{live-scalars}
 use Rattle.block_sparse.proofs.Windows.{sized-cut}
-use Rattle.removals.proofs.Sums.{has-head, has-tail}
+use Rattle.block_complexes.proofs.Sums.{has-head, has-tail}
 
 module _ {A : Type 0} (P : A → Type 0) where
   -- what all items have, those of each cell have, and the other way round
@@ -52,7 +53,28 @@ sized-all (suc m) n [] h i d l = absurd h
 sized-all (suc m) n (r ∷ A) h zero d l = h.0
 sized-all (suc m) n (r ∷ A) h (suc i) d l = sized-all m n A h.1 i d (omega arith)
 
-module _ (K : Ops) (v : BlockComplex) (left below : List (ℕ × ℕ)) (b : Block) (over : IsOver K v) (rl : IsRising (keys left)) (rb : IsRising (keys below))
+-- all listed cells are live
+abbrev pub AreAllLive : List (ℕ × ℕ × ℕ) → List (ℕ × ℕ) → Type 0
+AreAllLive live ls = (c : ℕ) → has c (keys ls) ≡ true → has c (cells live) ≡ true
+
+pub sized-live : (live : List (ℕ × ℕ × ℕ)) (ls : List (ℕ × ℕ)) → AreSized live ls → AreAllLive live ls
+sized-live live [] h c e = cc
+sized-live live (l ∷ ls) h c e = elim (cases_eq l.0 c) [
+  | inl f ↦ subst (λ k. has k (cells live) ≡ true) f (All-head (IsSized live) l ls h).0
+  | inr n ↦ sized-live live ls (All-tail (IsSized live) l ls h) c (sym (ap (λ b. b || has c (keys ls)) (ne_eqb l.0 c n)) ∙ e)
+]
+  where
+    IsSized : List (ℕ × ℕ × ℕ) → ℕ × ℕ → Type 0
+    IsSized live l = (has l.0 (cells live) ≡ true) × (size_of live l.0 ≡ l.1)
+
+pub one-live : (live : List (ℕ × ℕ × ℕ)) (x n : ℕ) → has x (cells live) ≡ true → AreAllLive live ((x, n) ∷ [])
+one-live live x n h c e = elim (cases_eq x c) [
+  | inl f ↦ subst (λ k. has k (cells live) ≡ true) f h
+  | inr d ↦ let bad : false ≡ true = sym (ap (λ b. b || false) (ne_eqb x c d)) ∙ e in cc
+]
+
+module _ (K : Ops) (v : StoredBlocks) (left below : List (ℕ × ℕ)) (b : Block) (over : IsBlockComplex K (complex_in v)) (rl : IsRising (keys left)) (rb : IsRising (keys below))
+    (on_left : AreAllLive v.live left) (is_below : AreAllLive v.live below)
     (wide : b.cols ≡ width left) (high : b.rows ≡ width below) (joined : IsJoined v left below (matrix_of b)) where
   abbrev rows : ℕ → List (List ℕ)
   rows t = segment below (matrix_of b) t
@@ -68,7 +90,7 @@ module _ (K : Ops) (v : BlockComplex) (left below : List (ℕ × ℕ)) (b : Bloc
       at_s : (s : ℕ) → has s (keys left) ≡ true → AllScalars K (segment left (get_or (rows t) i d) s)
       at_s s hs =
           let cut_at : List ℕ → List ℕ = λ row. segment left row s in
-          let all : All (AllScalars K) (map cut_at (rows t)) = subst (All (AllScalars K)) (sym (joined s t hs ht)) (over s t) in
+          let all : All (AllScalars K) (map cut_at (rows t)) = subst (All (AllScalars K)) (sym (joined s t hs ht)) (live-scalars K v over s t (record { from = on_left s hs; to = is_below t ht })) in
           subst (AllScalars K) (get_or-map cut_at (rows t) i d [] l) (all i [] (omega (arith, l, length-map (rows t) cut_at)))
 
   pub joined-scalars : AllScalars K b.entries

@@ -10,7 +10,7 @@ use Rattle.dense_blocks.proofs.MatrixLaws.{applied-plus, applied-zeros, zero_mat
 use Rattle.cochain_vec.proofs.PathLaws.{sum_over, sum_over-vector}
 use Rattle.rising_lists.specs.Rising.{IsRising, has}
 use Rattle.rising_lists.proofs.Keyed.{rising_tail, head-absent}
-use Rattle.removals.specs.Differentials.{matrix_sum_over}
+use Rattle.block_complexes.specs.Differentials.{matrix_sum_over}
 
 -- listed cells
 pub has-head : (k : ℕ) (ks : List ℕ) → has k (k ∷ ks) ≡ true

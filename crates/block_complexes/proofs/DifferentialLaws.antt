@@ -7,8 +7,8 @@ use Rattle.dense_blocks.proofs.Shapes.{Vector, Matrix}
 use Rattle.dense_blocks.proofs.MatrixLaws.{product-matrix, product-applied, zero_matrix-matrix, zero_matrix-applied, matrix-ext}
 use Rattle.cochain_vec.proofs.PathLaws.{sum_over}
 use Rattle.rising_lists.specs.Rising.{has}
-use Rattle.removals.specs.Differentials.{matrix_sum_over}
-use Rattle.removals.proofs.Sums.{sum_over-equal, matrix_sum_over-matrix, matrix_sum_over-applied}
+use Rattle.block_complexes.specs.Differentials.{matrix_sum_over}
+use Rattle.block_complexes.proofs.Sums.{sum_over-equal, matrix_sum_over-matrix, matrix_sum_over-applied}
 
 -- a matrix from each listed cell to each
 module _ (K : Ops) (F : IsField K) (size : ℕ → ℕ) (M : ℕ → ℕ → List (List ℕ)) (ks : List ℕ)

@@ -9,10 +9,10 @@ use Rattle.cochain_vec.specs.declared.cell.Cell.{Cell}
 use Rattle.cochain_vec.specs.Complexes.{total_size, value_at}
 use Rattle.rising_lists.specs.Rising.{IsRising, has}
 use Rattle.rising_lists.proofs.Keyed.{rising_tail, rising_head}
-use Rattle.block_sparse.specs.BlockComplexes.{cells}
-use Rattle.block_sparse.specs.BlockComplexes as blocks
-use Rattle.block_sparse.specs.Cochains.{cell_of, of_degree}
-use Rattle.block_sparse.proofs.LiveLaws.{cell-at, length-cells, total-take}
+use Rattle.block_complexes.specs.BlockComplexes.{cells}
+use Rattle.block_complexes.specs.BlockComplexes as blocks
+use Rattle.block_complexes.specs.Cochains.{cell_of, of_degree}
+use Rattle.block_complexes.proofs.LiveLaws.{cell-at, length-cells, total-take}
 
 -- one cell more
 of_degree-next : (k : ℕ) (live : List (ℕ × ℕ × ℕ)) (i : ℕ) (d : ℕ × ℕ × ℕ) → i < length live

@@ -6,18 +6,19 @@ use Rattle.std.proofs.lemmas.Bool.{and_parts}
 use Rattle.dense_blocks.specs.Field.{Ops, IsField}
 use Rattle.dense_blocks.specs.Matrices.{IsInverse}
 use Rattle.rising_lists.specs.Rising.{has, keys}
-use Rattle.block_sparse.specs.BlockComplexes.{BlockComplex, AreConsecutive, cells, degree_of, size_of, held, matrix}
+use Rattle.block_complexes.specs.BlockComplexes.{AreConsecutive, cells, degree_of, size_of, IsBlockComplex}
+use Rattle.block_sparse.specs.StoredBlocks.{StoredBlocks, held, matrix, complex_in}
 use Rattle.block_sparse.specs.Grids.{part, placed}
-use Rattle.block_sparse.specs.Cochains.{IsOver}
 use Rattle.block_sparse.specs.Invariants.{IsSound}
 use Rattle.block_sparse.proofs.ScalarBlocks.{held-between}
-use Rattle.removals.specs.Removals.{corner, without, IsRemoval, KeepsFlags}
-use Rattle.removals.proofs.Sums.{is_other}
+use Rattle.removals.specs.Removals.{corner, without, IsRemoval}
+use Rattle.block_sparse.specs.Flags.{KeepsFlags}
+use Rattle.block_complexes.proofs.Sums.{is_other}
 use Rattle.removals.proofs.CornerLaws.{has-without, without-twice, spared}
-use Rattle.removals.proofs.HeldLaws.{written-removal, written-flags}
+use Rattle.reduce_step.proofs.HeldLaws.{written-removal, written-flags}
 
 -- the three steps: the parts of N are put at the listed cells of v, then the cell x is taken out, and then the cell y
-pub record AreSteps (v grid first w : BlockComplex) (x y : ℕ) (left below : List (ℕ × ℕ)) (N : List (List ℕ)) : Type 0 where
+pub record AreSteps (v grid first w : StoredBlocks) (x y : ℕ) (left below : List (ℕ × ℕ)) (N : List (List ℕ)) : Type 0 where
   pub grid_live : grid.live ≡ v.live
   pub grid_held : (s t : ℕ) → held grid s t ≡ (if has s (keys left) && has t (keys below) then placed (part left below N s t) else held v s t)
   pub first_live : first.live ≡ filter (λ l. not (l.0 == x)) grid.live
@@ -26,17 +27,17 @@ pub record AreSteps (v grid first w : BlockComplex) (x y : ℕ) (left below : Li
   pub second_held : (s t : ℕ) → held w s t ≡ (if s == y || t == y then None else held first s t)
 
 -- a block stands from x to y; on the left are the other cells from which blocks go to y, below the other cells to which blocks go from x
-pub record AreListed (v : BlockComplex) (x y : ℕ) (left below : List (ℕ × ℕ)) : Type 0 where
+pub record AreListed (v : StoredBlocks) (x y : ℕ) (left below : List (ℕ × ℕ)) : Type 0 where
   pub stands : is_some (held v x y) ≡ true
   pub on_left : (s : ℕ) → has s (keys left) ≡ (is_some (held v s y) && not (s == x))
   pub is_below : (t : ℕ) → has t (keys below) ≡ (is_some (held v x t) && not (t == y))
 
 -- the block is square and a its inverse; the parts of N, which are the new corners, are put at these cells, and x and y are taken out
-pub record IsApplied (K : Ops) (v : BlockComplex) (x y : ℕ) (a : List (List ℕ)) (left below : List (ℕ × ℕ)) (N : List (List ℕ)) (grid first w : BlockComplex) : Type 0 where
+pub record IsApplied (K : Ops) (v : StoredBlocks) (x y : ℕ) (a : List (List ℕ)) (left below : List (ℕ × ℕ)) (N : List (List ℕ)) (grid first w : StoredBlocks) : Type 0 where
   pub listed : AreListed v x y left below
   pub square : size_of v.live y ≡ size_of v.live x
   pub inverse : IsInverse K (size_of v.live x) (matrix v x y) a
-  pub corners : (s t : ℕ) → has s (keys left) ≡ true → has t (keys below) ≡ true → part left below N s t ≡ corner K v x y a s t
+  pub corners : (s t : ℕ) → has s (keys left) ≡ true → has t (keys below) ≡ true → part left below N s t ≡ corner K (complex_in v) x y a s t
   pub steps : AreSteps v grid first w x y left below N
 
 -- a cell that is neither of two
@@ -53,15 +54,15 @@ and_not b c e = ap (λ d. b && not d) e ∙ go b
     go false = refl
 
 -- the cells below have one degree more than those on the left
-pub listed-degrees : (v : BlockComplex) → IsSound v.live v.rows v.columns → (x y : ℕ) (left below : List (ℕ × ℕ)) → AreListed v x y left below
+pub listed-degrees : (v : StoredBlocks) → IsSound v.live v.rows v.columns → (x y : ℕ) (left below : List (ℕ × ℕ)) → AreListed v x y left below
     → (s t : ℕ) → has s (keys left) ≡ true → has t (keys below) ≡ true → degree_of v.live t ≡ degree_of v.live s + 1
 listed-degrees v sound x y left below h s t hs ht =
     let p = and_parts (is_some (held v s y)) (not (eqb s x)) (sym (h.on_left s) ∙ hs) in
     let q = and_parts (is_some (held v x t)) (not (eqb t y)) (sym (h.is_below t) ∙ ht) in
     omega (arith, (held-between v sound s y p.0).degrees, (held-between v sound x t q.0).degrees, (held-between v sound x y h.stands).degrees)
 
-module _ (K : Ops) (F : IsField K) (v : BlockComplex) (sound : IsSound v.live v.rows v.columns) (over : IsOver K v) (x y : ℕ) (a : List (List ℕ))
-    (left below : List (ℕ × ℕ)) (N : List (List ℕ)) (grid first w : BlockComplex) (h : IsApplied K v x y a left below N grid first w) where
+module _ (K : Ops) (F : IsField K) (v : StoredBlocks) (sound : IsSound v.live v.rows v.columns) (over : IsBlockComplex K (complex_in v)) (x y : ℕ) (a : List (List ℕ))
+    (left below : List (ℕ × ℕ)) (N : List (List ℕ)) (grid first w : StoredBlocks) (h : IsApplied K v x y a left below N grid first w) where
   pub applied-live : w.live ≡ without v.live x y
   applied-live =
       h.steps.second_live
@@ -79,7 +80,7 @@ module _ (K : Ops) (F : IsField K) (v : BlockComplex) (sound : IsSound v.live v.
       (h.listed.is_below t ∙ and_not (is_some (held v x t)) (eqb t y) (apart (eqb t x) (eqb t y) ot).1)
 
   written : (s t : ℕ) → has s (cells w.live) ≡ true → has t (cells w.live) ≡ true
-      → held w s t ≡ cond (is_some (held v s y) && is_some (held v x t)) (placed (corner K v x y a s t)) (held v s t)
+      → held w s t ≡ cond (is_some (held v s y) && is_some (held v x t)) (placed (corner K (complex_in v) x y a s t)) (held v s t)
   written s t hs ht =
       let os = other s hs in
       let ot = other t ht in
@@ -88,17 +89,17 @@ module _ (K : Ops) (F : IsField K) (v : BlockComplex) (sound : IsSound v.live v.
       ∙ spared x y s t (held grid s t) os ot
       ∙ h.steps.grid_held s t
       ∙ chosen (has s (keys left) && has t (keys below)) refl
-      ∙ ap (λ b. cond b (placed (corner K v x y a s t)) (held v s t)) (both-listed s t os ot)
+      ∙ ap (λ b. cond b (placed (corner K (complex_in v) x y a s t)) (held v s t)) (both-listed s t os ot)
     where
       chosen : (b : Bool) → (has s (keys left) && has t (keys below)) ≡ b
-          → cond b (placed (part left below N s t)) (held v s t) ≡ cond b (placed (corner K v x y a s t)) (held v s t)
+          → cond b (placed (part left below N s t)) (held v s t) ≡ cond b (placed (corner K (complex_in v) x y a s t)) (held v s t)
       chosen true e = let l = and_parts (has s (keys left)) (has t (keys below)) e in ap placed (h.corners s t l.0 l.1)
       chosen false e = refl
 
   pair : AreConsecutive v.live x y
   pair = held-between v sound x y h.listed.stands
 
-  pub applied-removal : IsRemoval K v x y a w
+  pub applied-removal : IsRemoval K (complex_in v) x y a (complex_in w)
   applied-removal = written-removal K F v sound over x y a w pair h.square h.inverse applied-live written
 
   pub applied-flags : KeepsFlags v x y w

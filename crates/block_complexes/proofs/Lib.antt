@@ -1,0 +1,9 @@
+pub mod LiveLaws
+pub mod WithoutLaws
+pub mod SumLaws
+pub mod DegreeLaws
+pub mod Sums
+pub mod DifferentialLaws
+pub mod SameLaws
+pub mod FullLaws
+pub mod ComplexLaws

@@ -1,0 +1,4 @@
+pub mod BlockComplexes
+pub mod Cochains
+pub mod Differentials
+pub mod Laws

@@ -1,5 +1,0 @@
-use Rattle.coboundary.proofs.StartCoboundaryLaws as start
-use Rattle.coboundary.proofs.laws.start_is_over_the_field.Goals as goal
-
-pub returns : goal.returns
-returns c = start.start_is_over_the_field
