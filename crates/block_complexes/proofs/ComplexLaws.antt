@@ -6,10 +6,10 @@ use Rattle.std.proofs.lemmas.Bool.{eq-eqb, ne_eqb, eqb-true, cases_eq}
 use Rattle.std.proofs.lemmas.List.Elements.{All-map, All-filter, All-from_get_or, filter_passes}
 use Rattle.dense_blocks.specs.Field.{Ops, IsField}
 use Rattle.dense_blocks.specs.Vectors.{zeros, plus}
-use Rattle.dense_blocks.specs.Matrices.{applied, identity}
+use Rattle.dense_blocks.specs.Matrices.{image_of, identity}
 use Rattle.dense_blocks.proofs.Shapes.{Vector, Matrix, matrix-size, from_vector}
 use Rattle.dense_blocks.proofs.VectorLaws.{zeros-vector, plus-zeros}
-use Rattle.dense_blocks.proofs.MatrixLaws.{applied-vector, applied-zeros, zero_matrix-applied, identity-applied, identity-matrix}
+use Rattle.dense_blocks.proofs.MatrixLaws.{image_of-vector, image_of-zeros, zero_matrix-image_of, identity-image_of, identity-matrix}
 use Rattle.cochain_vec.specs.declared.cell.Cell.{Cell}
 use Rattle.cochain_vec.specs.Complexes.{Arrow, CellularComplex, cells_of, total_size, coordinates, value_at, sum_into, coboundary}
 use Rattle.cochain_vec.specs.Cohomology.{IsCochainComplex}
@@ -23,7 +23,7 @@ use Rattle.block_complexes.proofs.LiveLaws.{cell-at, length-cells, of_cell-at}
 use Rattle.block_complexes.proofs.SumLaws.{sum_into-live, sum_over-some}
 use Rattle.block_complexes.specs.Differentials.{IsDifferential}
 use Rattle.block_complexes.specs.Laws.{DifferentialIsCochainComplex}
-use Rattle.block_complexes.proofs.Sums.{sum_over-equal, applied-sum_over}
+use Rattle.block_complexes.proofs.Sums.{sum_over-equal, image_of-sum_over}
 use Rattle.block_complexes.proofs.SameLaws.{same-sym, same-complex, same-differential}
 use Rattle.block_complexes.proofs.FullLaws.{IsFull, filled, filled-full, same-filled}
 use Rattle.block_complexes.proofs.DifferentialLaws.{between-zero, zero-between}
@@ -112,14 +112,14 @@ module _ (K : Ops) (F : IsField K) (cs : List Cell) (s n : ℕ) (z : List ℕ) (
   unfolding alone arrow
   alone-there e =
       value-joined K F arrow (λ p. z) cs s alone-parts
-      ∙ ap (λ b. cond b (plus K (applied K (identity n) z) (zeros (size_at cs s))) (zeros (size_at cs s))) (eq-eqb s s refl)
-      ∙ ap₂ (plus K) (identity-applied K F n z hz) (ap zeros e) ∙ plus-zeros K F n z hz
+      ∙ ap (λ b. cond b (plus K (image_of K (identity n) z) (zeros (size_at cs s))) (zeros (size_at cs s))) (eq-eqb s s refl)
+      ∙ ap₂ (plus K) (identity-image_of K F n z hz) (ap zeros e) ∙ plus-zeros K F n z hz
 
   pub alone-elsewhere : (p : ℕ) → p ≢ s → value_at cs alone p ≡ zeros (size_at cs p)
   unfolding alone arrow
   alone-elsewhere p apart =
       value-joined K F arrow (λ p. z) cs p alone-parts
-      ∙ ap (λ b. cond b (plus K (applied K (identity n) z) (zeros (size_at cs p))) (zeros (size_at cs p))) (ne_eqb s p (λ e. apart (sym e)))
+      ∙ ap (λ b. cond b (plus K (image_of K (identity n) z) (zeros (size_at cs p))) (zeros (size_at cs p))) (ne_eqb s p (λ e. apart (sym e)))
 
 module _ (K : Ops) (F : IsField K) (v : BlockComplex) (full : IsFull K v) where
   abbrev C : CellularComplex
@@ -142,14 +142,14 @@ module _ (K : Ops) (F : IsField K) (v : BlockComplex) (full : IsFull K v) where
 
   -- at t the sum over the live cells s of M(s, t) times the value at s
   abbrev arrives : (ℕ → List ℕ) → ℕ → List ℕ
-  arrives value t = sum_over K (size t) (λ s. applied K (M s t) (value s)) (cells v.live)
+  arrives value t = sum_over K (size t) (λ s. image_of K (M s t) (value s)) (cells v.live)
 
   abbrev passes : ℕ → ℕ → List ℕ → List ℕ
-  passes s u z = sum_over K (size u) (λ t. applied K (M t u) (applied K (M s t) z)) (cells v.live)
+  passes s u z = sum_over K (size u) (λ t. image_of K (M t u) (image_of K (M s t) z)) (cells v.live)
 
   arrives-vector : (value : ℕ → List ℕ) (t : ℕ) → Vector K (size t) (arrives value t)
   arrives-vector value t =
-      sum_over-vector K F (size t) (λ s. applied K (M s t) (value s)) (cells v.live) (λ s. applied-vector K F (size t) (size s) (M s t) (value s) (M-shape s t))
+      sum_over-vector K F (size t) (λ s. image_of K (M s t) (value s)) (cells v.live) (λ s. image_of-vector K F (size t) (size s) (M s t) (value s) (M-shape s t))
 
   sum_into-arrives : (value : ℕ → List ℕ) (t : ℕ) → IsLive t → sum_into K C.arrows value (size t) t ≡ arrives value t
   sum_into-arrives value t h = sum_into-live K F v value (size t) t (λ s. matrix-size K (size t) (size s) (M s t) (M-shape s t)) rises h
@@ -157,10 +157,10 @@ module _ (K : Ops) (F : IsField K) (v : BlockComplex) (full : IsFull K v) where
   -- twice, by the cells where it begins
   arrives-arrives : (value : ℕ → List ℕ) (u : ℕ) → arrives (arrives value) u ≡ sum_over K (size u) (λ s. passes s u (value s)) (cells v.live)
   arrives-arrives value u =
-      sum_over-same K F (size u) (λ t. applied K (M t u) (arrives value t)) (λ t. sum_over K (size u) (λ s. applied K (M t u) (applied K (M s t) (value s))) (cells v.live)) (cells v.live)
-      (λ t. applied-sum_over K F (size t) (size u) (M t u) (λ s. applied K (M s t) (value s)) (cells v.live) (M-shape t u)
-      (λ s. applied-vector K F (size t) (size s) (M s t) (value s) (M-shape s t)))
-      ∙ sum_over-swap K F (size u) (λ s t. applied K (M t u) (applied K (M s t) (value s))) (cells v.live) (cells v.live)
+      sum_over-same K F (size u) (λ t. image_of K (M t u) (arrives value t)) (λ t. sum_over K (size u) (λ s. image_of K (M t u) (image_of K (M s t) (value s))) (cells v.live)) (cells v.live)
+      (λ t. image_of-sum_over K F (size t) (size u) (M t u) (λ s. image_of K (M s t) (value s)) (cells v.live) (M-shape t u)
+      (λ s. image_of-vector K F (size t) (size s) (M s t) (value s) (M-shape s t)))
+      ∙ sum_over-swap K F (size u) (λ s t. image_of K (M t u) (image_of K (M s t) (value s))) (cells v.live) (cells v.live)
 
   parts : (k : ℕ) (value : ℕ → List ℕ) → All (λ (t : Cell). Vector K t.size (sum_into K C.arrows value t.size t.cell)) (cells_of C k)
   parts k value i d l =
@@ -184,15 +184,15 @@ module _ (K : Ops) (F : IsField K) (v : BlockComplex) (full : IsFull K v) where
 
     -- only cells one degree below give something
     next-arrives : (u : ℕ) → degree_of v.live u ≡ suc (suc k) → arrives next u ≡ sum_over K (size u) (λ s. passes s u (value s)) (cells v.live)
-    next-arrives u e = sum_over-equal K F (size u) (λ t. applied K (M t u) (next t)) (λ t. applied K (M t u) (arrives value t)) (cells v.live) same ∙ arrives-arrives value u
+    next-arrives u e = sum_over-equal K F (size u) (λ t. image_of K (M t u) (next t)) (λ t. image_of K (M t u) (arrives value t)) (cells v.live) same ∙ arrives-arrives value u
       where
-        same : (t : ℕ) → IsLive t → applied K (M t u) (next t) ≡ applied K (M t u) (arrives value t)
+        same : (t : ℕ) → IsLive t → image_of K (M t u) (next t) ≡ image_of K (M t u) (arrives value t)
         same t h = elim (cases_eq (degree_of v.live t) (suc k)) [
-          | inl d ↦ ap (applied K (M t u)) (next-is t h d)
+          | inl d ↦ ap (image_of K (M t u)) (next-is t h d)
           | inr n ↦
               let none = full.apart t u (λ up. n (omega (arith, up, e))) in
-              ap (λ A. applied K A (next t)) none ∙ zero_matrix-applied K F (size u) (size t) (next t)
-              ∙ sym (ap (λ A. applied K A (arrives value t)) none ∙ zero_matrix-applied K F (size u) (size t) (arrives value t))
+              ap (λ A. image_of K A (next t)) none ∙ zero_matrix-image_of K F (size u) (size t) (next t)
+              ∙ sym (ap (λ A. image_of K A (arrives value t)) none ∙ zero_matrix-image_of K F (size u) (size t) (arrives value t))
         ]
 
   passes-zero : IsDifferential K v → (s u : ℕ) → IsLive s → IsLive u → (z : List ℕ) → passes s u z ≡ zeros (size u)
@@ -214,16 +214,16 @@ module _ (K : Ops) (F : IsField K) (v : BlockComplex) (full : IsFull K v) where
 
   -- where the degrees are not two apart, each term is zero
   passes-nothing : (s u : ℕ) (z : List ℕ) → degree_of v.live u ≢ suc (suc (degree_of v.live s)) → passes s u z ≡ zeros (size u)
-  passes-nothing s u z apart = sum_over-zeros K F (size u) (λ t. applied K (M t u) (applied K (M s t) z)) (cells v.live) each
+  passes-nothing s u z apart = sum_over-zeros K F (size u) (λ t. image_of K (M t u) (image_of K (M s t) z)) (cells v.live) each
     where
-      each : (t : ℕ) → applied K (M t u) (applied K (M s t) z) ≡ zeros (size u)
+      each : (t : ℕ) → image_of K (M t u) (image_of K (M s t) z) ≡ zeros (size u)
       each t = elim (cases_eq (degree_of v.live t) (suc (degree_of v.live s))) [
         | inl d ↦
-            ap (λ A. applied K A (applied K (M s t) z)) (full.apart t u (λ up. apart (omega (arith, up, d))))
-            ∙ zero_matrix-applied K F (size u) (size t) (applied K (M s t) z)
+            ap (λ A. image_of K A (image_of K (M s t) z)) (full.apart t u (λ up. apart (omega (arith, up, d))))
+            ∙ zero_matrix-image_of K F (size u) (size t) (image_of K (M s t) z)
         | inr n ↦
-            ap (applied K (M t u)) (ap (λ A. applied K A z) (full.apart s t (λ up. n (omega (arith, up)))) ∙ zero_matrix-applied K F (size t) (size s) z)
-            ∙ applied-zeros K F (size t) (size u) (size t) (M t u) (M-shape t u)
+            ap (image_of K (M t u)) (ap (λ A. image_of K A z) (full.apart s t (λ up. n (omega (arith, up)))) ∙ zero_matrix-image_of K F (size t) (size s) z)
+            ∙ image_of-zeros K F (size t) (size u) (size t) (M t u) (M-shape t u)
       ]
 
   module _ (closed : IsCochainComplex K C) (s u : ℕ) (hs : IsLive s) (hu : IsLive u) (z : List ℕ) (hz : Vector K (size s) z)
@@ -256,8 +256,8 @@ module _ (K : Ops) (F : IsField K) (v : BlockComplex) (full : IsFull K v) where
         let n = size u in
         let term : ℕ → List ℕ = λ p. passes p u (value k only p) in
         let term-vector : (p : ℕ) → Vector K n (term p) =
-        λ p. sum_over-vector K F n (λ t. applied K (M t u) (applied K (M p t) (value k only p))) (cells v.live)
-        (λ t. applied-vector K F n (size t) (M t u) (applied K (M p t) (value k only p)) (M-shape t u)) in
+        λ p. sum_over-vector K F n (λ t. image_of K (M t u) (image_of K (M p t) (value k only p))) (cells v.live)
+        (λ t. image_of-vector K F n (size t) (M t u) (image_of K (M p t) (value k only p)) (M-shape t u)) in
         ap (passes s u) (sym (alone-there K F (cells_of C k) s (size s) z hz one (size-of_degree v.live k s hs refl)))
         ∙ sym (plus-zeros K F n (term s) (term-vector s))
         ∙ sym (sum_over-some K F n term (cells v.live) (s ∷ []) rises single within term-vector elsewhere)
@@ -277,9 +277,9 @@ module _ (K : Ops) (F : IsField K) (v : BlockComplex) (full : IsFull K v) where
         elsewhere q h =
             let apart : q ≢ s = λ e. let bad : true ≡ false = sym (ap (λ b. b || false) (eq-eqb s q (sym e))) ∙ h in cc in
             ap (passes q u) (alone-elsewhere K F (cells_of C k) s (size s) z hz one q apart)
-            ∙ sum_over-zeros K F (size u) (λ t. applied K (M t u) (applied K (M q t) (zeros (size_at (cells_of C k) q)))) (cells v.live)
-            (λ t. ap (applied K (M t u)) (applied-zeros K F (size_at (cells_of C k) q) (size t) (size q) (M q t) (M-shape q t))
-            ∙ applied-zeros K F (size t) (size u) (size t) (M t u) (M-shape t u))
+            ∙ sum_over-zeros K F (size u) (λ t. image_of K (M t u) (image_of K (M q t) (zeros (size_at (cells_of C k) q)))) (cells v.live)
+            (λ t. ap (image_of K (M t u)) (image_of-zeros K F (size_at (cells_of C k) q) (size t) (size q) (M q t) (M-shape q t))
+            ∙ image_of-zeros K F (size t) (size u) (size t) (M t u) (M-shape t u))
 
   pub complex-differential : IsCochainComplex K C → IsDifferential K v
   complex-differential closed s u l = zero-between K F size M (cells v.live) (λ s t hs ht. M-shape s t) s u l.from l.to each

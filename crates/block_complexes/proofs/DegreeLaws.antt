@@ -35,11 +35,11 @@ pub parts-next : (piece : Cell → List ℕ) (k : ℕ) (live : List (ℕ × ℕ 
 parts-next piece k live i d l = ap (flat_map piece) (of_degree-next k live i d l) ∙ flat_map-append piece (of_degree k (take i live)) (of_degree k (get_or live i d ∷ []))
 
 -- the cells of one degree have no more coordinates than all
-total-of_degree : (k : ℕ) (live : List (ℕ × ℕ × ℕ)) → total_size (of_degree k live) ≤ blocks.total_size live
+total-of_degree : (k : ℕ) (live : List (ℕ × ℕ × ℕ)) → total_size (of_degree k live) ≤ blocks.live_size live
 total-of_degree k [] = omega arith
 total-of_degree k (l ∷ ls) = go (eqb l.1 k) (total-of_degree k ls)
   where
-    go : (b : Bool) → total_size (of_degree k ls) ≤ blocks.total_size ls → total_size (cond b (cell_of l ∷ of_degree k ls) (of_degree k ls)) ≤ l.2 + blocks.total_size ls
+    go : (b : Bool) → total_size (of_degree k ls) ≤ blocks.live_size ls → total_size (cond b (cell_of l ∷ of_degree k ls) (of_degree k ls)) ≤ l.2 + blocks.live_size ls
     go true h = omega arith
     go false h = omega arith
 
@@ -92,5 +92,5 @@ value-absent k (x ∷ xs) z s h = go (eqb x.1 k) (eqb x.0 s) refl h (λ y m. val
     go true false f m r = rw f (r (drop x.2 z) m)
     go false false f m r = r z m
 
-pub start-within : (k : ℕ) (live : List (ℕ × ℕ × ℕ)) (i : ℕ) → total_size (of_degree k (take i live)) ≤ blocks.total_size live
+pub start-within : (k : ℕ) (live : List (ℕ × ℕ × ℕ)) (i : ℕ) → total_size (of_degree k (take i live)) ≤ blocks.live_size live
 start-within k live i = omega (arith, total-of_degree k (take i live), total-take live i)

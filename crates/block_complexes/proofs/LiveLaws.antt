@@ -4,7 +4,7 @@ use Rattle.std.proofs.lemmas.Bool.{eq-eqb, ne_eqb, cases_lt}
 use Rattle.std.proofs.lemmas.List.{get_or-map, length-map}
 use Rattle.rising_lists.specs.Rising.{IsRising, has}
 use Rattle.rising_lists.proofs.Keyed.{rising_tail, rising_head, has-absent}
-use Rattle.block_complexes.specs.BlockComplexes.{cells, of_cell, total_size}
+use Rattle.block_complexes.specs.BlockComplexes.{cells, of_cell, live_size}
 
 pub cell-at : (live : List (ℕ × ℕ × ℕ)) (i : ℕ) → i < length live → get_or (cells live) i 0 ≡ (get_or live i (0, 0, 0)).0
 cell-at live i l = get_or-map (λ l. l.0) live i (0, 0, 0) 0 l
@@ -46,15 +46,15 @@ absent-at live c at r below from other = has-absent c (cells live) (λ i l e. el
 ])
 
 -- how many coordinates the first cells have
-pub total-next : (live : List (ℕ × ℕ × ℕ)) (i : ℕ) → i < length live → total_size (take (i + 1) live) ≡ total_size (take i live) + (get_or live i (0, 0, 0)).2
-total-next live i l = ap (λ k. total_size (take k live)) (add-one i) ∙ next live i l
+pub total-next : (live : List (ℕ × ℕ × ℕ)) (i : ℕ) → i < length live → live_size (take (i + 1) live) ≡ live_size (take i live) + (get_or live i (0, 0, 0)).2
+total-next live i l = ap (λ k. live_size (take k live)) (add-one i) ∙ next live i l
   where
-    next : (live : List (ℕ × ℕ × ℕ)) (i : ℕ) → i < length live → total_size (take (suc i) live) ≡ total_size (take i live) + (get_or live i (0, 0, 0)).2
+    next : (live : List (ℕ × ℕ × ℕ)) (i : ℕ) → i < length live → live_size (take (suc i) live) ≡ live_size (take i live) + (get_or live i (0, 0, 0)).2
     next [] i l = absurd (omega arith)
     next (x ∷ xs) zero l = omega arith
     next (x ∷ xs) (suc i) l = omega (arith, next xs i (omega arith))
 
-pub total-take : (live : List (ℕ × ℕ × ℕ)) (i : ℕ) → total_size (take i live) ≤ total_size live
+pub total-take : (live : List (ℕ × ℕ × ℕ)) (i : ℕ) → live_size (take i live) ≤ live_size live
 total-take [] zero = omega arith
 total-take [] (suc i) = omega arith
 total-take (x ∷ xs) zero = omega arith

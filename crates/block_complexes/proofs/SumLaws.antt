@@ -6,12 +6,12 @@ use Rattle.std.proofs.lemmas.List.{take_more}
 use Rattle.std.proofs.lemmas.List.Elements.{All-append, All-filter, All-from_get_or, All-map, All-nil, All-tail, All-head}
 use Rattle.dense_blocks.specs.Field.{Ops, IsField}
 use Rattle.dense_blocks.specs.Vectors.{zeros, plus}
-use Rattle.dense_blocks.specs.Matrices.{applied}
+use Rattle.dense_blocks.specs.Matrices.{image_of}
 use Rattle.dense_blocks.proofs.Shapes.{Vector}
 use Rattle.dense_blocks.proofs.VectorLaws.{plus-assoc, plus-comm}
 use Rattle.cochain_vec.specs.declared.cell.Cell.{Cell}
 use Rattle.cochain_vec.specs.Complexes.{Arrow, RowsFit, sum_into}
-use Rattle.cochain_vec.proofs.CoboundaryLaws.{applied-rows}
+use Rattle.cochain_vec.proofs.CoboundaryLaws.{image_of-rows}
 use Rattle.cochain_vec.proofs.PathLaws.{sum_over, sum_over-filter}
 use Rattle.rising_lists.specs.Rising.{IsRising, has}
 use Rattle.rising_lists.proofs.Keyed.{rising_tail, rising_head, rising_cons, head-absent, place_of}
@@ -118,10 +118,10 @@ rows_fit v rises sized =
 -- the sum into a live cell of n coordinates
 module _ (K : Ops) (F : IsField K) (v : BlockComplex) (value : ℕ → List ℕ) (n t : ℕ) (rows : (s : ℕ) → length (v.matrix s t) ≡ n) where
   abbrev pub arriving : ℕ → List ℕ
-  arriving s = applied K (v.matrix s t) (value s)
+  arriving s = image_of K (v.matrix s t) (value s)
 
   pub arriving-vector : (s : ℕ) → Vector K n (arriving s)
-  arriving-vector s = applied-rows K F n (v.matrix s t) (value s) (rows s)
+  arriving-vector s = image_of-rows K F n (v.matrix s t) (value s) (rows s)
 
   into-other : (ss : List ℕ) (u : ℕ) (others : List Arrow) → u ≢ t → sum_into K (to_cell v ss u ++ others) value n t ≡ sum_into K others value n t
   into-other [] u others apart = refl

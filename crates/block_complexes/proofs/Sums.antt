@@ -3,10 +3,10 @@ use Rattle.std.proofs.Common.{◌≡◌, ℕ, Bool, true, false, cond, not, ◌|
 use Rattle.std.proofs.lemmas.Bool.{eq-eqb, ne_eqb, cases_eq}
 use Rattle.dense_blocks.specs.Field.{Ops, IsField}
 use Rattle.dense_blocks.specs.Vectors.{zeros, plus, negative}
-use Rattle.dense_blocks.specs.Matrices.{applied}
+use Rattle.dense_blocks.specs.Matrices.{image_of}
 use Rattle.dense_blocks.proofs.Shapes.{Vector, Matrix}
 use Rattle.dense_blocks.proofs.VectorLaws.{plus-left-comm, zeros-plus, negative-zeros, negative-of-plus}
-use Rattle.dense_blocks.proofs.MatrixLaws.{applied-plus, applied-zeros, zero_matrix-matrix, matrix_sum-matrix, matrix_sum-applied, zero_matrix-applied}
+use Rattle.dense_blocks.proofs.MatrixLaws.{image_of-plus, image_of-zeros, zero_matrix-matrix, matrix_sum-matrix, matrix_sum-image_of, zero_matrix-image_of}
 use Rattle.cochain_vec.proofs.PathLaws.{sum_over, sum_over-vector}
 use Rattle.rising_lists.specs.Rising.{IsRising, has}
 use Rattle.rising_lists.proofs.Keyed.{rising_tail, head-absent}
@@ -40,12 +40,12 @@ module _ (K : Ops) (F : IsField K) (n : ℕ) where
   sum_over-negative f [] = sym (negative-zeros K F n)
   sum_over-negative f (k ∷ ks) = ap (plus K (negative K (f k))) (sum_over-negative f ks) ∙ sym (negative-of-plus K F (f k) (sum_over K n f ks))
 
-  pub applied-sum_over : (m : ℕ) (A : List (List ℕ)) (f : ℕ → List ℕ) (ks : List ℕ) → Matrix K m n A → ((t : ℕ) → Vector K n (f t))
-      → applied K A (sum_over K n f ks) ≡ sum_over K m (λ t. applied K A (f t)) ks
-  applied-sum_over m A f [] h v = applied-zeros K F n m n A h
-  applied-sum_over m A f (k ∷ ks) h v =
-      applied-plus K F n A (f k) (sum_over K n f ks) (v k) (sum_over-vector K F n f ks v)
-      ∙ ap (plus K (applied K A (f k))) (applied-sum_over m A f ks h v)
+  pub image_of-sum_over : (m : ℕ) (A : List (List ℕ)) (f : ℕ → List ℕ) (ks : List ℕ) → Matrix K m n A → ((t : ℕ) → Vector K n (f t))
+      → image_of K A (sum_over K n f ks) ≡ sum_over K m (λ t. image_of K A (f t)) ks
+  image_of-sum_over m A f [] h v = image_of-zeros K F n m n A h
+  image_of-sum_over m A f (k ∷ ks) h v =
+      image_of-plus K F n A (f k) (sum_over K n f ks) (v k) (sum_over-vector K F n f ks v)
+      ∙ ap (plus K (image_of K A (f k))) (image_of-sum_over m A f ks h v)
 
   -- x is listed once; y adds nothing
   module _ (f : ℕ → List ℕ) (shape : (t : ℕ) → Vector K n (f t)) (x y : ℕ) (none : f y ≡ zeros n) where
@@ -90,10 +90,10 @@ module _ (K : Ops) (F : IsField K) (m n : ℕ) (A : ℕ → List (List ℕ)) whe
   matrix_sum_over-matrix (k ∷ ks) h =
       matrix_sum-matrix K F m n (A k) (matrix_sum_over K m n A ks) (h k (has-head k ks)) (matrix_sum_over-matrix ks (λ c l. h c (has-tail c k ks l)))
 
-  pub matrix_sum_over-applied : (z : List ℕ) (ks : List ℕ) → Each (λ t. Matrix K m n (A t)) ks
-      → applied K (matrix_sum_over K m n A ks) z ≡ sum_over K m (λ t. applied K (A t) z) ks
-  matrix_sum_over-applied z [] h = zero_matrix-applied K F m n z
-  matrix_sum_over-applied z (k ∷ ks) h =
+  pub matrix_sum_over-image_of : (z : List ℕ) (ks : List ℕ) → Each (λ t. Matrix K m n (A t)) ks
+      → image_of K (matrix_sum_over K m n A ks) z ≡ sum_over K m (λ t. image_of K (A t) z) ks
+  matrix_sum_over-image_of z [] h = zero_matrix-image_of K F m n z
+  matrix_sum_over-image_of z (k ∷ ks) h =
       let rest = λ (c : ℕ) (l : has c ks ≡ true). h c (has-tail c k ks l) in
-      matrix_sum-applied K F m n (A k) (matrix_sum_over K m n A ks) z (h k (has-head k ks)) (matrix_sum_over-matrix ks rest)
-      ∙ ap (plus K (applied K (A k) z)) (matrix_sum_over-applied z ks rest)
+      matrix_sum-image_of K F m n (A k) (matrix_sum_over K m n A ks) z (h k (has-head k ks)) (matrix_sum_over-matrix ks rest)
+      ∙ ap (plus K (image_of K (A k) z)) (matrix_sum_over-image_of z ks rest)

@@ -4,7 +4,7 @@ use Rattle.std.proofs.lemmas.Bool.{eq-eqb, ne_eqb, cases_eq}
 use Rattle.std.specs.List.{remove}
 use Rattle.rising_lists.specs.Rising.{IsRising, has}
 use Rattle.rising_lists.proofs.Keyed.{rising_tail, rising_head, rising_cons, head-absent}
-use Rattle.block_complexes.specs.BlockComplexes.{cells, of_cell, total_size}
+use Rattle.block_complexes.specs.BlockComplexes.{cells, of_cell, live_size}
 use Rattle.block_complexes.proofs.LiveLaws.{cell-at, length-cells}
 
 abbrev pub without : ℕ → List (ℕ × ℕ × ℕ) → List (ℕ × ℕ × ℕ)
@@ -65,11 +65,11 @@ rising-without c (l ∷ ls) r = go (eqb l.0 c) (rising-without c ls (rising_tail
     go true h a = h
     go false h a = rising_cons l.0 (cells (without c ls)) a h
 
-pub total-without : (c : ℕ) (live : List (ℕ × ℕ × ℕ)) → total_size (without c live) ≤ total_size live
+pub total-without : (c : ℕ) (live : List (ℕ × ℕ × ℕ)) → live_size (without c live) ≤ live_size live
 total-without c [] = omega arith
 total-without c (l ∷ ls) = go (eqb l.0 c) (total-without c ls)
   where
-    go : (b : Bool) → total_size (without c ls) ≤ total_size ls → total_size (cond (not b) (l ∷ without c ls) (without c ls)) ≤ l.2 + total_size ls
+    go : (b : Bool) → live_size (without c ls) ≤ live_size ls → live_size (cond (not b) (l ∷ without c ls) (without c ls)) ≤ l.2 + live_size ls
     go true h = omega arith
     go false h = omega arith
 

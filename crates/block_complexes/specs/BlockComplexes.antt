@@ -24,9 +24,9 @@ degree_of live c = of_cell (λ l. l.1) live c
 abbrev pub size_of : List (ℕ × ℕ × ℕ) → ℕ → ℕ
 size_of live c = of_cell (λ l. l.2) live c
 
-abbrev pub total_size : List (ℕ × ℕ × ℕ) → ℕ
-total_size [] = 0
-total_size (l ∷ ls) = l.2 + total_size ls
+abbrev pub live_size : List (ℕ × ℕ × ℕ) → ℕ
+live_size [] = 0
+live_size (l ∷ ls) = l.2 + live_size ls
 
 -- both cells are live
 pub record AreBothLive (live : List (ℕ × ℕ × ℕ)) (s t : ℕ) : Type 0 where

@@ -13,18 +13,18 @@ use Rattle.dense_blocks.proofs.VectorLaws.{zeros-size}
 use Rattle.rising_lists.specs.Rising.{ByCell, IsRising, has, keys, entry, entry_of, line_of}
 use Rattle.rising_lists.proofs.Keyed.{rising_head, rising_tail, place_of}
 use Rattle.open_columns.specs.declared.mark.Mark.{Mark}
-use Rattle.block_complexes.specs.BlockComplexes.{cells, size_of, total_size}
-use Rattle.block_sparse.specs.StoredBlocks.{StoredBlocks, is_zero, matrix, matrix_or, standing}
+use Rattle.block_complexes.specs.BlockComplexes.{cells, size_of, live_size}
+use Rattle.block_sparse.specs.StoredBlocks.{StoredBlocks, is_zero, matrix, matrix_or, stored_block}
 use Rattle.block_sparse.specs.Grids.{width, segment, part, window, IsJoined, AreSized}
-use Rattle.block_grids.specs.Joined.{corner, corner_row, joined_row, joined_rows, joined_entries, AreShaped, HaveRow}
+use Rattle.block_grids.specs.Joined.{grid_block, corner_row, joined_row, joined_rows, joined_entries, AreShaped, HaveRow}
 use Rattle.block_sparse.specs.Invariants.{IsSound}
 use Rattle.block_sparse.proofs.Windows.{sized-cut, sized-window}
 
 -- the matrix from s to t, of h rows and w columns
-pub corner-matrix : (v : StoredBlocks) (s t h w : ℕ) → size_of v.live t ≡ h → size_of v.live s ≡ w → matrix v s t ≡ corner (entry_of v.rows t s) h w
+pub corner-matrix : (v : StoredBlocks) (s t h w : ℕ) → size_of v.live t ≡ h → size_of v.live s ≡ w → matrix v s t ≡ grid_block (entry_of v.rows t s) h w
 corner-matrix v s t h w eh ew = go (entry_of v.rows t s) (entry_of v.columns s t)
   where
-    go : (o : Option Block) (m : Option Mark) → matrix_or (standing o m) (zero_matrix (size_of v.live t) (size_of v.live s)) ≡ corner o h w
+    go : (o : Option Block) (m : Option Mark) → matrix_or (stored_block o m) (zero_matrix (size_of v.live t) (size_of v.live s)) ≡ grid_block o h w
     go None m = ap₂ zero_matrix eh ew
     go (Some b) m = refl
 
@@ -83,11 +83,11 @@ zero-zeros (suc n) w (r ∷ A) s h =
 -- a part that is zero is where there is no block
 pub zero-part : (o : Option Block) (b : Block) (row h col w : ℕ) (r : Bool) → o ≡ None → row + h ≤ b.rows → col + w ≤ b.cols
     → r ≡ is_zero (window row h col w (matrix_of b))
-    → (IsTrue r → window row h col w (matrix_of b) ≡ corner o h w) × (window row h col w (matrix_of b) ≡ corner o h w → IsTrue r)
+    → (IsTrue r → window row h col w (matrix_of b) ≡ grid_block o h w) × (window row h col w (matrix_of b) ≡ grid_block o h w → IsTrue r)
 zero-part o b row h col w r none rows cols is =
     let W : List (List ℕ) = window row h col w (matrix_of b) in
     let sized : Sized h w W = sized-window row h col w b.rows b.cols (matrix_of b) (sized-cut b.rows b.cols b.entries (omega (arith, b.full))) rows cols in
-    let zeros_are : corner o h w ≡ zero_matrix h w = ap (λ p. corner p h w) none in (
+    let zeros_are : grid_block o h w ≡ zero_matrix h w = ap (λ p. grid_block p h w) none in (
       λ e. zero-zeros h w W sized (sym is ∙ e) ∙ sym zeros_are,
       λ e. is ∙ ap is_zero (e ∙ zeros_are) ∙ zeros-zero h w,
     )
@@ -96,18 +96,18 @@ zero-part o b row h col w r none rows cols is =
 abbrev pub HasShape : Option Block → ℕ → ℕ → Type 0
 HasShape o h w = (b : Block) → o ≡ Some b → (b.rows ≡ h) × (b.cols ≡ w)
 
-pub corner-sized : (o : Option Block) (h w : ℕ) → HasShape o h w → Sized h w (corner o h w)
+pub corner-sized : (o : Option Block) (h w : ℕ) → HasShape o h w → Sized h w (grid_block o h w)
 corner-sized None h w s = sized-zeros h w
 corner-sized (Some b) h w s =
     let is = s b refl in
     subst (λ m. Sized m w (matrix_of b)) is.0 (subst (λ n. Sized b.rows n (matrix_of b)) is.1 (sized-cut b.rows b.cols b.entries (omega (arith, b.full))))
 
-pub corner-row : (o : Option Block) (h w k : ℕ) → k < h → corner_row o w k ≡ get_or (corner o h w) k []
+pub corner-row : (o : Option Block) (h w k : ℕ) → k < h → corner_row o w k ≡ get_or (grid_block o h w) k []
 corner-row None h w k l = zeros-row h w k l
 corner-row (Some b) h w k l = refl
 
 corner_row-size : (o : Option Block) (h w k : ℕ) → HasShape o h w → k < h → length (corner_row o w k) ≡ w
-corner_row-size o h w k s l = ap length (corner-row o h w k l) ∙ sized-row h w (corner o h w) k (corner-sized o h w s) l
+corner_row-size o h w k s l = ap length (corner-row o h w k l) ∙ sized-row h w (grid_block o h w) k (corner-sized o h w s) l
 
 -- rows that stand have each row below their height
 pub shaped-row : (line : ByCell Block) (h k : ℕ) (left : List (ℕ × ℕ)) → AreShaped line h left → k < h → HaveRow line k left
@@ -180,19 +180,19 @@ module _ (line : ByCell Block) (h : ℕ) (size : ℕ → ℕ) where
 
   -- the columns of a listed cell are its block
   part-rows : (left : List (ℕ × ℕ)) → AreShaped line h left → All (λ x. size x.0 ≡ x.1) left → (s : ℕ) → has s (keys left) ≡ true
-      → (n : ℕ) → n ≤ h → map (λ row. segment left row s) (rows_list line left n) ≡ take n (corner (entry line s) h (size s))
+      → (n : ℕ) → n ≤ h → map (λ row. segment left row s) (rows_list line left n) ≡ take n (grid_block (entry line s) h (size s))
   part-rows left sh sz s m zero l = refl
   part-rows left sh sz s m (suc n) l =
-      let C : List (List ℕ) = corner (entry line s) h (size s) in
+      let C : List (List ℕ) = grid_block (entry line s) h (size s) in
       let count : length C ≡ h = sized-size h (size s) C (corner-sized (entry line s) h (size s) (shape-at left sh sz s m)) in
       map-append (λ row. segment left row s) (rows_list line left n) (joined_row line left n ∷ [])
       ∙ ap₂ (λ A r. A ++ r ∷ []) (part-rows left sh sz s m n (omega arith)) (segment-row left sh sz n (omega arith) s m ∙ corner-row (entry line s) h (size s) n (omega arith))
       ∙ sym (take_more C n [] (omega (arith, count))) ∙ ap (λ j. take j C) (add-one n)
 
   pub part-row : (left : List (ℕ × ℕ)) → AreShaped line h left → All (λ x. size x.0 ≡ x.1) left → (s : ℕ) → has s (keys left) ≡ true
-      → map (λ row. segment left row s) (rows_list line left h) ≡ corner (entry line s) h (size s)
+      → map (λ row. segment left row s) (rows_list line left h) ≡ grid_block (entry line s) h (size s)
   part-row left sh sz s m =
-      let C : List (List ℕ) = corner (entry line s) h (size s) in
+      let C : List (List ℕ) = grid_block (entry line s) h (size s) in
       let count : length C ≡ h = sized-size h (size s) C (corner-sized (entry line s) h (size s) (shape-at left sh sz s m)) in
       part-rows left sh sz s m h (omega arith) ∙ take_all h C (omega (arith, count))
 
@@ -284,7 +284,7 @@ shrink x xs ls h ne = λ i d l.
     let other : eqb x.0 c ≡ false = ne_eqb x.0 c (ne i d l) in
     (ap (λ b. b || has c (cells xs)) (sym other) ∙ (h i d l).0, sym (ap (λ b. cond b x.2 (size_of xs c)) other) ∙ (h i d l).1)
 
-pub width-live : (live : List (ℕ × ℕ × ℕ)) (ls : List (ℕ × ℕ)) → IsRising (cells live) → IsRising (keys ls) → AreSized live ls → width ls ≤ total_size live
+pub width-live : (live : List (ℕ × ℕ × ℕ)) (ls : List (ℕ × ℕ)) → IsRising (cells live) → IsRising (keys ls) → AreSized live ls → width ls ≤ live_size live
 width-live live [] r s h = omega arith
 width-live [] (l ∷ ls) r s h = absurd (let e : false ≡ true = (h 0 (0, 0) (omega arith)).0 in cc)
 width-live (x ∷ xs) (l ∷ ls) r s h = go (cases_eq x.0 l.0)
@@ -297,8 +297,8 @@ width-live (x ∷ xs) (l ∷ ls) r s h = go (cases_eq x.0 l.0)
     later : (i : ℕ) (d : ℕ × ℕ) → i < length ls → l.0 < (get_or ls i d).0
     later i d m = omega (arith, rising_head l.0 (keys ls) s i (omega (arith, m, length-map ls (λ s. s.0))), get_or-map (λ s. s.0) ls i d 0 m)
 
-    go : (x.0 ≡ l.0) ⊎ (x.0 ≡ l.0 → ⊥) → (All (λ l. x.0 ≢ l.0) ls → width ls ≤ total_size xs) → (All (λ l. x.0 ≢ l.0) (l ∷ ls) → width (l ∷ ls) ≤ total_size xs)
-        → width (l ∷ ls) ≤ total_size (x ∷ xs)
+    go : (x.0 ≡ l.0) ⊎ (x.0 ≡ l.0 → ⊥) → (All (λ l. x.0 ≢ l.0) ls → width ls ≤ live_size xs) → (All (λ l. x.0 ≢ l.0) (l ∷ ls) → width (l ∷ ls) ≤ live_size xs)
+        → width (l ∷ ls) ≤ live_size (x ∷ xs)
     go (inl e) f g =
         let size : x.2 ≡ l.1 = sym (ap (λ b. cond b x.2 (size_of xs l.0)) (eq-eqb x.0 l.0 e)) ∙ (h 0 (0, 0) (omega arith)).1 in
         omega (arith, size, f (λ i d m n. absurd (omega (arith, later i d m, e, n))))

@@ -9,9 +9,9 @@ use Rattle.rising_lists.specs.Rising.{ByCell, entry, line_of}
 use Rattle.block_sparse.specs.Grids.{width, window}
 
 -- the matrix of a block, or h rows of w zeros where there is none
-abbrev pub corner : Option Block → ℕ → ℕ → List (List ℕ)
-corner None h w = zero_matrix h w
-corner (Some b) h w = matrix_of b
+abbrev pub grid_block : Option Block → ℕ → ℕ → List (List ℕ)
+grid_block None h w = zero_matrix h w
+grid_block (Some b) h w = matrix_of b
 
 -- the row at k of a block, or w zeros where there is none
 abbrev pub corner_row : Option Block → ℕ → ℕ → List ℕ
@@ -42,4 +42,4 @@ joined_entries rows left below = flat_map (λ t. joined_rows (line_of rows t.0) 
 -- the part of a matrix, h rows from one on, at the i-th listed cell is the block there
 abbrev pub IsSamePart : ByCell Block → List (ℕ × ℕ) → List (List ℕ) → ℕ → ℕ → ℕ → Type 0
 IsSamePart line left A row h i = window row h (width (take i left)) (slice_index_or left i (0, 0)).1 A
-    ≡ corner (entry line (slice_index_or left i (0, 0)).0) h (slice_index_or left i (0, 0)).1
+    ≡ grid_block (entry line (slice_index_or left i (0, 0)).0) h (slice_index_or left i (0, 0)).1

@@ -3,7 +3,7 @@ ghost use Rattle.dense_blocks.specs.Blocks.{matrix_of};
 ghost use Rattle.rising_lists.specs.Rising.{IsRising, has, keys, entry, line_of};
 ghost use Rattle.block_complexes.specs.BlockComplexes.{size_of};
 ghost use Rattle.block_sparse.specs.Grids.{width, window, AreSized, IsJoined, IsFirstOther};
-ghost use Rattle.block_grids.specs.Joined.{AreShaped, corner, corner_row, joined_row, joined_rows, joined_entries, HaveRow, IsSamePart};
+ghost use Rattle.block_grids.specs.Joined.{AreShaped, grid_block, corner_row, joined_row, joined_rows, joined_entries, HaveRow, IsSamePart};
 
 use block_sparse::{Blocks, is_same_at, is_zero_at, push_all};
 use dense_blocks::{Block, Entries};
@@ -196,7 +196,7 @@ fn is_corner(
     requires shaped { (b : _) → option_copied block ≡ Some b → (b.rows ≡ height) × (b.cols ≡ width) }
     requires rows { row + height ≤ joined.now.rows }
     requires cols { col + width ≤ joined.now.cols }
-    ensures { IsTrue result ↔ (window row height col width (matrix_of joined.now) ≡ corner (option_copied block.entry) height width) }
+    ensures { IsTrue result ↔ (window row height col width (matrix_of joined.now) ≡ grid_block (option_copied block.entry) height width) }
 {
     match block {
         Some(b) => is_same_at(b, joined, row, height, col, width),

@@ -7,7 +7,7 @@ use Rattle.rising_lists.specs.Rising.{entry_of}
 use Rattle.open_columns.specs.declared.mark.Mark.{Mark}
 use Rattle.open_columns.specs.Open.{is_open}
 use Rattle.block_complexes.specs.BlockComplexes.{size_of}
-use Rattle.block_sparse.specs.StoredBlocks.{StoredBlocks, Fits, standing}
+use Rattle.block_sparse.specs.StoredBlocks.{StoredBlocks, FitsPair, stored_block}
 use Rattle.block_sparse.specs.Invariants.{IsSound, is_square}
 use Rattle.block_sparse.specs.Candidates.{is_candidate, is_unflagged}
 
@@ -27,8 +27,8 @@ open-candidate v s t sound = go (entry_of v.rows t s) (entry_of v.columns s t) (
     exchanged false true c e = e
     exchanged false false c e = refl
 
-    go : (o : Option Block) (m : Option Mark) → option_map (λ (m : Mark). m.square) m ≡ option_map is_square o → ((b : Block) → o ≡ Some b → Fits v.live s t b)
-        → is_open m ≡ (is_unflagged (standing o m) && eqb (size_of v.live s) (size_of v.live t))
+    go : (o : Option Block) (m : Option Mark) → option_map (λ (m : Mark). m.square) m ≡ option_map is_square o → ((b : Block) → o ≡ Some b → FitsPair v.live s t b)
+        → is_open m ≡ (is_unflagged (stored_block o m) && eqb (size_of v.live s) (size_of v.live t))
     go None None e fit = refl
     go None (Some m) e fit = cc
     go (Some b) None e fit = cc

@@ -9,16 +9,16 @@ use Rattle.dense_blocks.specs.Matrices.{zero_matrix}
 use Rattle.rising_lists.specs.Rising.{IsRising, has, keys}
 use Rattle.rising_lists.proofs.Keyed.{place_of, has-at, has-absent}
 use Rattle.block_complexes.specs.BlockComplexes.{size_of}
-use Rattle.block_sparse.specs.StoredBlocks.{StoredBlocks, Standing, StandsAt, held, matrix_or, is_zero}
+use Rattle.block_sparse.specs.StoredBlocks.{StoredBlocks, StoredBlock, StandsAt, block_at, matrix_or, is_zero}
 use Rattle.block_sparse.specs.Grids.{width, segment, window, columns_of, block_matrix, nonzero}
 use Rattle.dense_blocks.proofs.Cutting.{Sized}
 use Rattle.block_sparse.proofs.GridLaws.{segment-at, map-same}
 use Rattle.block_sparse.proofs.Windows.{sized-drop, width-within}
 
-pub stands-matrix : (v : StoredBlocks) (s t : ℕ) (b : Block) → StandsAt v s t b → block_matrix (held v s t) ≡ Some (matrix_of b)
-stands-matrix v s t b h = go (held v s t) (zero_matrix (size_of v.live t) (size_of v.live s)) h.is_held h.is_matrix
+pub stands-matrix : (v : StoredBlocks) (s t : ℕ) (b : Block) → StandsAt v s t b → block_matrix (block_at v s t) ≡ Some (matrix_of b)
+stands-matrix v s t b h = go (block_at v s t) (zero_matrix (size_of v.live t) (size_of v.live s)) h.is_held h.is_matrix
   where
-    go : (o : Option Standing) (Z : List (List ℕ)) → is_some o ≡ true → matrix_of b ≡ matrix_or o Z → block_matrix o ≡ Some (matrix_of b)
+    go : (o : Option StoredBlock) (Z : List (List ℕ)) → is_some o ≡ true → matrix_of b ≡ matrix_or o Z → block_matrix o ≡ Some (matrix_of b)
     go None Z e f = cc
     go (Some x) Z e f = ap Some (sym f)
 
@@ -83,16 +83,16 @@ rows-window below A m n j r sized w l =
     whole (suc k) (b ∷ B) h = ap₂ ◌∷◌ (take_all n b (omega (arith, h.0))) (whole k B h.1)
 
 -- blocks at listed cells and none elsewhere are as wanted
-module _ (ls : List (ℕ × ℕ)) (o : ℕ → Option Standing) (target : ℕ → Option (List (List ℕ))) (x : ℕ) (there : List ℕ)
+module _ (ls : List (ℕ × ℕ)) (o : ℕ → Option StoredBlock) (target : ℕ → Option (List (List ℕ))) (x : ℕ) (there : List ℕ)
     (holds : (q : ℕ) → has q there ≡ is_some (o q)) (absent : (q : ℕ) → has q (keys ls) ≡ false → target q ≡ None) where
   key : (i : ℕ) → i < length ls → (get_or ls i (0, 0)).0 ≡ get_or (keys ls) i 0
   key i l = sym (get_or-map (λ s. s.0) ls i (0, 0) 0 l)
 
-  none : (b : Option Standing) → is_some b ≡ false → block_matrix b ≡ None
+  none : (b : Option StoredBlock) → is_some b ≡ false → block_matrix b ≡ None
   none None e = refl
   none (Some b) e = cc
 
-  some : (b : Option Standing) → is_some b ≡ true → block_matrix b ≡ None → ⊥
+  some : (b : Option StoredBlock) → is_some b ≡ true → block_matrix b ≡ None → ⊥
   some None e f = let g : false ≡ true = e in cc
   some (Some b) e f = cc
 
@@ -125,7 +125,7 @@ rows-same [] (w ∷ W) n h = absurd (omega arith)
 rows-same (m ∷ M) [] n h = absurd (omega arith)
 rows-same (m ∷ M) (w ∷ W) n h = ap₂ ◌∷◌ (h 0 (omega arith)) (rows-same M W (omega arith) (λ k l. h (suc k) (omega arith)))
 
-pub same-at : (ls : List (ℕ × ℕ)) (o : ℕ → Option Standing) (target : ℕ → Option (List (List ℕ))) (x : ℕ) → ((q : ℕ) → q ≢ x → block_matrix (o q) ≡ target q)
+pub same-at : (ls : List (ℕ × ℕ)) (o : ℕ → Option StoredBlock) (target : ℕ → Option (List (List ℕ))) (x : ℕ) → ((q : ℕ) → q ≢ x → block_matrix (o q) ≡ target q)
     → (i : ℕ) → i < length ls → (get_or ls i (0, 0)).0 ≢ x → block_matrix (o (get_or ls i (0, 0)).0) ≡ target (get_or (keys ls) i 0)
 same-at ls o target x all i l ne = all (get_or ls i (0, 0)).0 ne ∙ ap target (sym (get_or-map (λ s. s.0) ls i (0, 0) 0 l))
 

@@ -6,12 +6,12 @@ use Rattle.std.proofs.lemmas.Bool.{eq-eqb, ne_eqb, cases_eq, cases_Bool}
 use Rattle.std.proofs.lemmas.List.{drop-drop, length-map, get_or-map}
 use Rattle.dense_blocks.specs.declared.block.Block.{Block}
 use Rattle.dense_blocks.proofs.Cutting.{Sized, sized-size}
-use Rattle.rising_lists.specs.Rising.{ByCell, IsRising, has, keys, look, entry, entry_of, line_of, updated}
+use Rattle.rising_lists.specs.Rising.{ByCell, IsRising, has, keys, look, entry, entry_of, line_of, entry_after}
 use Rattle.rising_lists.proofs.Keyed.{rising_tail, rising_head, place_of, has-at, look-at, look-absent}
 use Rattle.open_columns.specs.declared.mark.Mark.{Mark}
 use Rattle.block_complexes.specs.BlockComplexes.{cells, size_of, degree_of}
-use Rattle.block_sparse.specs.StoredBlocks.{standing, is_zero}
-use Rattle.block_sparse.specs.Grids.{width, segment, part, placed, window, IsPart, AreSized}
+use Rattle.block_sparse.specs.StoredBlocks.{stored_block, is_zero}
+use Rattle.block_sparse.specs.Grids.{width, segment, part, as_block, window, IsPart, AreSized}
 use Rattle.block_sparse.specs.Fresh.{mark_of, IsFreshRow, line_at, AreFreshRows, AreFreshColumns}
 use Rattle.block_sparse.specs.Invariants.{IsSound, is_square}
 
@@ -57,7 +57,7 @@ line-spared lines new outer fresh h k n = h k ∙ ap (λ x. unwrap_or x (line_of
 
 -- the value at a listed cell is the fresh one
 pub entry-updated : {T : Type 0} (old new : ByCell T) (inner : List (ℕ × ℕ)) (parts : List (Option T)) → IsRising (keys inner) → length parts ≡ length inner
-    → ((q : ℕ) → entry new q ≡ updated (keys inner) parts (entry old q) q)
+    → ((q : ℕ) → entry new q ≡ entry_after (keys inner) parts (entry old q) q)
     → (i : ℕ) → i < length inner → entry new (get_or (keys inner) i 0) ≡ get_or parts i None
 entry-updated old new inner parts r n h i l =
     let size : length (keys inner) ≡ length inner = length-map inner (λ s. s.0) in
@@ -65,7 +65,7 @@ entry-updated old new inner parts r n h i l =
     ∙ ap (λ x. unwrap_or x (entry old (get_or (keys inner) i 0))) (look-at (keys inner) parts (n ∙ sym size) r i None (omega arith))
 
 pub entry-kept : {T : Type 0} (old new : ByCell T) (inner : List (ℕ × ℕ)) (parts : List (Option T))
-    → ((q : ℕ) → entry new q ≡ updated (keys inner) parts (entry old q) q)
+    → ((q : ℕ) → entry new q ≡ entry_after (keys inner) parts (entry old q) q)
     → (q : ℕ) → has q (keys inner) ≡ false → entry new q ≡ entry old q
 entry-kept old new inner parts h q n = h q ∙ ap (λ x. unwrap_or x (entry old q)) (look-absent q (keys inner) parts n)
 
@@ -149,10 +149,10 @@ module _ (A : List (List ℕ)) (left below : List (ℕ × ℕ)) (rl : IsRising (
   is_done = record { row_in = row_in; row_out = row_out; column_in = column_in; column_out = column_out }
 
 -- what a part and its mark make
-standing-part : (p : Option Block) (h w : ℕ) (W : List (List ℕ)) → IsPart p h w W → standing p (mark_of h w W) ≡ placed W
+standing-part : (p : Option Block) (h w : ℕ) (W : List (List ℕ)) → IsPart p h w W → stored_block p (mark_of h w W) ≡ as_block W
 standing-part None h w W is = sym (ap (λ b. cond b None (Some (record { matrix = W; flagged = false }))) is)
 standing-part (Some b) h w W is =
-    ap (λ z. standing (Some b) (cond z None (Some (record { flagged = false; square = eqb h w })))) is.1
+    ap (λ z. stored_block (Some b) (cond z None (Some (record { flagged = false; square = eqb h w })))) is.1
     ∙ ap (λ M. Some (record { matrix = M; flagged = false })) is.0.matrix_is
     ∙ sym (ap (λ z. cond z None (Some (record { matrix = W; flagged = false }))) is.1)
 
@@ -201,17 +201,17 @@ module _ (A : List (List ℕ)) (left below : List (ℕ × ℕ)) (live : List (�
         t_is = sym (get_or-map (λ s. s.0) below q.at (0, 0) 0 lj) ∙ q.is;
       }
 
-  pub held-done : (s t : ℕ) → standing (entry_of rows' t s) (entry_of columns' s t)
-      ≡ cond (has s (keys left) && has t (keys below)) (placed (part left below A s t)) (standing (entry_of rows t s) (entry_of columns s t))
-  held-done s t = elim (cases_Bool (has s (keys left) && has t (keys below))) [
+  pub block_at-done : (s t : ℕ) → stored_block (entry_of rows' t s) (entry_of columns' s t)
+      ≡ cond (has s (keys left) && has t (keys below)) (as_block (part left below A s t)) (stored_block (entry_of rows t s) (entry_of columns s t))
+  block_at-done s t = elim (cases_Bool (has s (keys left) && has t (keys below))) [
     | inl e ↦
         let p = inside s t e in
-        ap (standing (entry_of rows' t s)) p.column
+        ap (stored_block (entry_of rows' t s)) p.column
         ∙ standing-part (entry_of rows' t s) (get_or below p.j (0, 0)).1 (get_or left p.i (0, 0)).1 (part left below A s t) p.row
-        ∙ sym (ap (λ b. cond b (placed (part left below A s t)) (standing (entry_of rows t s) (entry_of columns s t))) e)
+        ∙ sym (ap (λ b. cond b (as_block (part left below A s t)) (stored_block (entry_of rows t s) (entry_of columns s t))) e)
     | inr e ↦
-        ap₂ standing (done.row_out s t e) (done.column_out s t e)
-        ∙ sym (ap (λ b. cond b (placed (part left below A s t)) (standing (entry_of rows t s) (entry_of columns s t))) e)
+        ap₂ stored_block (done.row_out s t e) (done.column_out s t e)
+        ∙ sym (ap (λ b. cond b (as_block (part left below A s t)) (stored_block (entry_of rows t s) (entry_of columns s t))) e)
   ]
 
   pub sound-done : IsSound live rows columns → AreSized live left → AreSized live below
@@ -294,6 +294,6 @@ key-listed ls i l = ap (λ k. has k (keys ls)) (sym (get_or-map (λ s. s.0) ls i
 pub fresh-row : {E : Type 0} (A : List (List ℕ)) (row h : ℕ) (left : List (ℕ × ℕ)) (old : ByCell Block) (parts : List (Option Block)) (r : Result (ByCell Block) E)
     → length parts ≡ length left
     → ((i : ℕ) → i < length left → IsPart (get_or parts i None) h (get_or left i (0, 0)).1 (window row h (width (take i left)) (get_or left i (0, 0)).1 A))
-    → IfOk r (λ l. (q : ℕ) → entry l q ≡ updated (keys left) parts (entry old q) q) → IfOk r (λ l. IsFreshRow A row h left old l)
+    → IfOk r (λ l. (q : ℕ) → entry l q ≡ entry_after (keys left) parts (entry old q) q) → IfOk r (λ l. IsFreshRow A row h left old l)
 fresh-row A row h left old parts (Ok l) n are entries = record { parts = parts; count = n; are = are; entries = entries }
 fresh-row A row h left old parts (Err e) n are entries = entries

@@ -7,8 +7,8 @@ use Rattle.dense_blocks.specs.declared.block.Block.{Block}
 use Rattle.dense_blocks.specs.Blocks.{matrix_of}
 use Rattle.rising_lists.specs.Rising.{ByCell, has, entry_of}
 use Rattle.open_columns.specs.declared.mark.Mark.{Mark}
-use Rattle.block_sparse.specs.StoredBlocks.{Standing, standing, AreLive}
-use Rattle.block_sparse.specs.Grids.{placed}
+use Rattle.block_sparse.specs.StoredBlocks.{StoredBlock, stored_block, AreLive}
+use Rattle.block_sparse.specs.Grids.{as_block}
 use Rattle.block_sparse.specs.Lists.{with_block, with_blocks}
 use Rattle.block_complexes.proofs.WithoutLaws.{without, has-without, still-live, of_cell-without, rising-without, total-without}
 use Rattle.block_sparse.specs.Invariants.{IsSound, is_square}
@@ -92,9 +92,9 @@ sound-without c live rows rows' columns columns' sound same_rows same_columns in
     both_gone true x y e = refl
     both_gone false x y e = e
 
-pub held-without : (b : Bool) (x x' : Option Block) (y y' : Option Mark) → x' ≡ cond b None x → y' ≡ cond b None y → standing x' y' ≡ cond b None (standing x y)
-held-without true x x' y y' e f = ap₂ standing e f
-held-without false x x' y y' e f = ap₂ standing e f
+pub block_at-without : (b : Bool) (x x' : Option Block) (y y' : Option Mark) → x' ≡ cond b None x → y' ≡ cond b None y → stored_block x' y' ≡ cond b None (stored_block x y)
+block_at-without true x x' y y' e f = ap₂ stored_block e f
+block_at-without false x x' y y' e f = ap₂ stored_block e f
 
 -- a column notes what a row holds
 pub some-mark : (x : Option Mark) (y : Option Block) → option_map (λ (m : Mark). m.square) x ≡ option_map is_square y → is_some x ≡ is_some y
@@ -104,12 +104,12 @@ some-mark (Some x) None e = cc
 some-mark (Some x) (Some y) e = refl
 
 -- blocks put into what is the same give the same
-pub with_blocks-same : (ms : List (ℕ × ℕ × Block)) (held held' : ℕ → ℕ → Option Standing) → ((p q : ℕ) → held p q ≡ held' p q)
+pub with_blocks-same : (ms : List (ℕ × ℕ × Block)) (held held' : ℕ → ℕ → Option StoredBlock) → ((p q : ℕ) → held p q ≡ held' p q)
     → (p q : ℕ) → with_blocks held ms p q ≡ with_blocks held' ms p q
 with_blocks-same [] held held' h p q = h p q
 with_blocks-same (m ∷ ms) held held' h p q =
     with_blocks-same ms (with_block held m.0 m.1 (matrix_of m.2)) (with_block held' m.0 m.1 (matrix_of m.2))
-    (λ x y. ap (cond (eqb x m.0 && eqb y m.1) (placed (matrix_of m.2))) (h x y)) p q
+    (λ x y. ap (cond (eqb x m.0 && eqb y m.1) (as_block (matrix_of m.2))) (h x y)) p q
 
 pub drop-done : {T : Type 0} (n : ℕ) (xs : List T) → length xs ≤ n → drop n xs ≡ []
 drop-done zero [] h = refl

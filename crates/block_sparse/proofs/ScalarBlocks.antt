@@ -7,19 +7,19 @@ use Rattle.std.proofs.lemmas.Bool.{eqb-true, and_parts}
 use Rattle.std.proofs.lemmas.List.Elements.{All-head, All-tail, All-append, All-nil}
 use Rattle.dense_blocks.specs.Field.{Ops, IsField}
 use Rattle.dense_blocks.specs.Vectors.{AllScalars, IsVector, zeros}
-use Rattle.dense_blocks.specs.Matrices.{applied, zero_matrix}
+use Rattle.dense_blocks.specs.Matrices.{image_of, zero_matrix}
 use Rattle.dense_blocks.specs.Blocks.{matrix_of}
 use Rattle.dense_blocks.specs.declared.block.Block.{Block}
 use Rattle.dense_blocks.proofs.Cutting.{flat}
 use Rattle.dense_blocks.proofs.Shapes.{Vector, Matrix, matrix-rows, to_vector, vector-scalars}
 use Rattle.dense_blocks.proofs.BlockLaws.{block-entries, block-matrix, block-size}
-use Rattle.dense_blocks.proofs.MatrixLaws.{zero_matrix-matrix, zero_matrix-applied}
+use Rattle.dense_blocks.proofs.MatrixLaws.{zero_matrix-matrix, zero_matrix-image_of}
 use Rattle.cochain_vec.specs.Complexes.{sum_into, value_at, total_size}
 use Rattle.cochain_vec.proofs.PathLaws.{sum_over}
 use Rattle.cochain_vec.specs.declared.cell.Cell.{Cell}
 use Rattle.cochain_vec.proofs.CoboundaryLaws.{size_at, value-vector}
 use Rattle.block_complexes.specs.BlockComplexes.{AreConsecutive, cells, size_of}
-use Rattle.block_sparse.specs.StoredBlocks.{StoredBlocks, IsBetween, Standing, StandsAt, held, is_zero, matrix, matrix_or, standing, complex_in}
+use Rattle.block_sparse.specs.StoredBlocks.{StoredBlocks, IsBetween, StoredBlock, StandsAt, block_at, is_zero, matrix, matrix_or, stored_block, complex_in}
 use Rattle.block_complexes.specs.Cochains.{complex_of}
 use Rattle.block_sparse.specs.Invariants.{IsSound, is_square}
 use Rattle.open_columns.specs.declared.mark.Mark.{Mark}
@@ -63,17 +63,17 @@ module _ (K : Ops) (v : StoredBlocks) (s t : ℕ) where
   block-rows b h = block-size b ∙ h.fits.rows
 
   -- where none stands the matrix is zero
-  pub matrix-none : held v s t ≡ None → matrix v s t ≡ zero_matrix (size_of v.live t) (size_of v.live s)
+  pub matrix-none : block_at v s t ≡ None → matrix v s t ≡ zero_matrix (size_of v.live t) (size_of v.live s)
   matrix-none e = ap (λ o. matrix_or o (zero_matrix (size_of v.live t) (size_of v.live s))) e
 
-  pub none-scalars : IsField K → held v s t ≡ None → All (AllScalars K) (matrix v s t)
+  pub none-scalars : IsField K → block_at v s t ≡ None → All (AllScalars K) (matrix v s t)
   none-scalars F e =
       let m = size_of v.live t in let n = size_of v.live s in
       subst (All (AllScalars K)) (sym (matrix-none e)) (λ i d l. (matrix-rows K m n (zero_matrix m n) (zero_matrix-matrix K F m n) i d l).scalars)
 
-pub not-held : (o : Option Standing) → is_some o ≡ false → o ≡ None
-not-held None e = refl
-not-held (Some b) e = cc
+pub not-block_at : (o : Option StoredBlock) → is_some o ≡ false → o ≡ None
+not-block_at None e = refl
+not-block_at (Some b) e = cc
 
 zero_matrix-size : (m n : ℕ) → length (zero_matrix m n) ≡ m
 zero_matrix-size zero n = refl
@@ -81,12 +81,12 @@ zero_matrix-size (suc m) n = ap suc (zero_matrix-size m n)
 
 -- what stands goes between live cells, and has their sizes
 module _ (v : StoredBlocks) (sound : IsSound v.live v.rows v.columns) (s t : ℕ) where
-  between-live : (o : Option Block) → entry_of v.rows t s ≡ o → is_some (standing o (entry_of v.columns s t)) ≡ true → AreConsecutive v.live s t
+  between-live : (o : Option Block) → entry_of v.rows t s ≡ o → is_some (stored_block o (entry_of v.columns s t)) ≡ true → AreConsecutive v.live s t
   between-live None e h = cc
   between-live (Some b) e h = (sound.blocks_fit s t b e).between
 
-  pub held-between : is_some (held v s t) ≡ true → AreConsecutive v.live s t
-  held-between h = between-live (entry_of v.rows t s) refl h
+  pub block_at-between : is_some (block_at v s t) ≡ true → AreConsecutive v.live s t
+  block_at-between h = between-live (entry_of v.rows t s) refl h
 
   -- and is not zero
   pub row-between : is_some (entry_of v.rows t s) ≡ true → IsBetween v s t
@@ -97,7 +97,7 @@ module _ (v : StoredBlocks) (sound : IsSound v.live v.rows v.columns) (s t : ℕ
       go (Some b) m e f h = record {
         between = (sound.blocks_fit s t b e).between;
         nonzero =
-            ap₂ (λ o m. is_zero (matrix_or (standing o m) (zero_matrix (size_of v.live t) (size_of v.live s)))) e f ∙ sound.nonzero s t b e;
+            ap₂ (λ o m. is_zero (matrix_or (stored_block o m) (zero_matrix (size_of v.live t) (size_of v.live s)))) e f ∙ sound.nonzero s t b e;
       }
 
   pub column-between : is_some (entry_of v.columns s t) ≡ true → IsBetween v s t
@@ -111,19 +111,19 @@ module _ (v : StoredBlocks) (sound : IsSound v.live v.rows v.columns) (s t : ℕ
   pub matrix-size_of : length (matrix v s t) ≡ size_of v.live t
   matrix-size_of = go (entry_of v.rows t s) refl
     where
-      go : (o : Option Block) → entry_of v.rows t s ≡ o → length (matrix_or (standing o (entry_of v.columns s t)) (zero_matrix (size_of v.live t) (size_of v.live s))) ≡ size_of v.live t
+      go : (o : Option Block) → entry_of v.rows t s ≡ o → length (matrix_or (stored_block o (entry_of v.columns s t)) (zero_matrix (size_of v.live t) (size_of v.live s))) ≡ size_of v.live t
       go None e = zero_matrix-size (size_of v.live t) (size_of v.live s)
       go (Some b) e = block-size b ∙ (sound.blocks_fit s t b e).rows
 
 -- the sum into a live cell, over the cells from which a block comes
 pub sum_into-row : (K : Ops) (F : IsField K) (v : StoredBlocks) (sound : IsSound v.live v.rows v.columns) (value : ℕ → List ℕ) (t : ℕ) (row : List ℕ)
-    → has t (cells v.live) ≡ true → IsRising row → ((s : ℕ) → has s row ≡ is_some (held v s t))
-    → sum_into K (complex_of (complex_in v)).arrows value (size_of v.live t) t ≡ sum_over K (size_of v.live t) (λ s. applied K (matrix v s t) (value s)) row
+    → has t (cells v.live) ≡ true → IsRising row → ((s : ℕ) → has s row ≡ is_some (block_at v s t))
+    → sum_into K (complex_of (complex_in v)).arrows value (size_of v.live t) t ≡ sum_over K (size_of v.live t) (λ s. image_of K (matrix v s t) (value s)) row
 sum_into-row K F v sound value t row is_live rises is_row =
     let n = size_of v.live t in
     let sized : (s : ℕ) → length (matrix v s t) ≡ n = λ s. matrix-size_of v sound s t in
     sum_into-live K F (complex_in v) value n t sized sound.live_cells.rising is_live
-    ∙ sum_over-some K F n (λ s. applied K (matrix v s t) (value s)) (cells v.live) row sound.live_cells.rising rises
-    (λ s h. (held-between v sound s t (sym (is_row s) ∙ h)).from) (arriving-vector K F (complex_in v) value n t sized)
-    (λ s h. ap (λ A. applied K A (value s)) (matrix-none K v s t (not-held (held v s t) (sym (is_row s) ∙ h)))
-    ∙ zero_matrix-applied K F n (size_of v.live s) (value s))
+    ∙ sum_over-some K F n (λ s. image_of K (matrix v s t) (value s)) (cells v.live) row sound.live_cells.rising rises
+    (λ s h. (block_at-between v sound s t (sym (is_row s) ∙ h)).from) (arriving-vector K F (complex_in v) value n t sized)
+    (λ s h. ap (λ A. image_of K A (value s)) (matrix-none K v s t (not-block_at (block_at v s t) (sym (is_row s) ∙ h)))
+    ∙ zero_matrix-image_of K F n (size_of v.live s) (value s))

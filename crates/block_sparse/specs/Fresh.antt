@@ -1,7 +1,7 @@
 -- The rows and columns that a joined matrix gives.
 use Rattle.std.specs.Prelude.{◌≡◌, ◌<◌, ◌==◌, ℕ, false, List, [], Option, Some, None, if◌then◌else◌, length, take, slice_index_or}
 use Rattle.dense_blocks.specs.declared.block.Block.{Block}
-use Rattle.rising_lists.specs.Rising.{ByCell, keys, entry, updated, line_of}
+use Rattle.rising_lists.specs.Rising.{ByCell, keys, entry, entry_after, line_of}
 use Rattle.open_columns.specs.declared.mark.Mark.{Mark}
 use Rattle.block_sparse.specs.StoredBlocks.{is_zero}
 use Rattle.block_sparse.specs.Grids.{width, window, IsPart}
@@ -16,7 +16,7 @@ pub record IsFreshRow (A : List (List ℕ)) (row h : ℕ) (left : List (ℕ × �
   pub count : length parts ≡ length left
   pub are : (i : ℕ) → i < length left → IsPart (slice_index_or parts i None) h (slice_index_or left i (0, 0)).1
       (window row h (width (take i left)) (slice_index_or left i (0, 0)).1 A)
-  pub entries : (q : ℕ) → entry new q ≡ updated (keys left) parts (entry old q) q
+  pub entries : (q : ℕ) → entry new q ≡ entry_after (keys left) parts (entry old q) q
 
 -- a column once the parts of w columns of a matrix have been noted at the listed cells
 pub record IsFreshColumn (A : List (List ℕ)) (col w : ℕ) (below : List (ℕ × ℕ)) (old new : ByCell Mark) : Type 0 where
@@ -24,7 +24,7 @@ pub record IsFreshColumn (A : List (List ℕ)) (col w : ℕ) (below : List (ℕ 
   pub count : length marks ≡ length below
   pub are : (j : ℕ) → j < length below → slice_index_or marks j None
       ≡ mark_of (slice_index_or below j (0, 0)).1 w (window (width (take j below)) (slice_index_or below j (0, 0)).1 col w A)
-  pub entries : (q : ℕ) → entry new q ≡ updated (keys below) marks (entry old q) q
+  pub entries : (q : ℕ) → entry new q ≡ entry_after (keys below) marks (entry old q) q
 
 -- the line at a place of a list of lines
 abbrev pub line_at : {T : Type 0} → List (ByCell T) → ℕ → ByCell T

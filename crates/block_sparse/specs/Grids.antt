@@ -4,7 +4,7 @@ use Rattle.dense_blocks.specs.Blocks.{IsBlock}
 use Rattle.dense_blocks.specs.declared.block.Block.{Block}
 use Rattle.rising_lists.specs.Rising.{has, keys}
 use Rattle.block_complexes.specs.BlockComplexes.{cells, size_of}
-use Rattle.block_sparse.specs.StoredBlocks.{StoredBlocks, Standing, is_zero, matrix}
+use Rattle.block_sparse.specs.StoredBlocks.{StoredBlocks, StoredBlock, is_zero, matrix}
 
 -- how many coordinates cells with sizes have together
 abbrev pub width : List (ℕ × ℕ) → ℕ
@@ -25,7 +25,7 @@ abbrev pub columns_of : List (ℕ × ℕ) → List (List ℕ) → ℕ → List (
 columns_of left A s = map (λ row. segment left row s) A
 
 -- the matrix of a block that stands, if one does
-abbrev pub block_matrix : Option Standing → Option (List (List ℕ))
+abbrev pub block_matrix : Option StoredBlock → Option (List (List ℕ))
 block_matrix None = None
 block_matrix (Some b) = Some b.matrix
 
@@ -34,8 +34,8 @@ abbrev pub nonzero : List (List ℕ) → Option (List (List ℕ))
 nonzero A = if is_zero A then None else Some A
 
 -- what stands where a matrix is put: nothing if it is zero, else the block without a flag
-abbrev pub placed : List (List ℕ) → Option Standing
-placed A = if is_zero A then None else Some (record { matrix = A; flagged = false })
+abbrev pub as_block : List (List ℕ) → Option StoredBlock
+as_block A = if is_zero A then None else Some (record { matrix = A; flagged = false })
 
 -- A is the joined matrix of the blocks from the cells on the left to those below: its part at each pair is the matrix from one to the other
 abbrev pub IsJoined : StoredBlocks → List (ℕ × ℕ) → List (ℕ × ℕ) → List (List ℕ) → Type 0

@@ -5,7 +5,7 @@ use Rattle.dense_blocks.specs.declared.block.Block.{Block}
 use Rattle.rising_lists.specs.Rising.{ByCell, has, entry_of}
 use Rattle.open_columns.specs.declared.mark.Mark.{Mark}
 use Rattle.block_complexes.specs.BlockComplexes.{cells}
-use Rattle.block_sparse.specs.StoredBlocks.{Fits, is_zero, AreLive}
+use Rattle.block_sparse.specs.StoredBlocks.{FitsPair, is_zero, AreLive}
 
 abbrev pub is_square : Block → Bool
 is_square b = b.rows == b.cols
@@ -17,5 +17,5 @@ pub record IsSound (live : List (ℕ × ℕ × ℕ)) (rows : ByCell (ByCell Bloc
   pub has_row : (c : ℕ) → has c (cells live) ≡ true → has c rows.cells ≡ true
   pub has_column : (c : ℕ) → has c (cells live) ≡ true → has c columns.cells ≡ true
   pub marks : (s t : ℕ) → option_map (λ m. m.square) (entry_of columns s t) ≡ option_map is_square (entry_of rows t s)
-  pub blocks_fit : (s t : ℕ) (b : Block) → entry_of rows t s ≡ Some b → Fits live s t b
+  pub blocks_fit : (s t : ℕ) (b : Block) → entry_of rows t s ≡ Some b → FitsPair live s t b
   pub nonzero : (s t : ℕ) (b : Block) → entry_of rows t s ≡ Some b → is_zero (matrix_of b) ≡ false

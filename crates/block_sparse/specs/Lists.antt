@@ -2,14 +2,14 @@
 use Rattle.std.specs.Prelude.{◌==◌, ◌&&◌, ℕ, List, [], ◌∷◌, Option, if◌then◌else◌}
 use Rattle.dense_blocks.specs.Blocks.{matrix_of}
 use Rattle.dense_blocks.specs.declared.block.Block.{Block}
-use Rattle.block_sparse.specs.StoredBlocks.{Standing}
-use Rattle.block_sparse.specs.Grids.{placed}
+use Rattle.block_sparse.specs.StoredBlocks.{StoredBlock}
+use Rattle.block_sparse.specs.Grids.{as_block}
 
 -- what stands once a matrix has been put at a pair of cells
-abbrev pub with_block : (ℕ → ℕ → Option Standing) → ℕ → ℕ → List (List ℕ) → ℕ → ℕ → Option Standing
-with_block held s t A p q = if p == s && q == t then placed A else held p q
+abbrev pub with_block : (ℕ → ℕ → Option StoredBlock) → ℕ → ℕ → List (List ℕ) → ℕ → ℕ → Option StoredBlock
+with_block held s t A p q = if p == s && q == t then as_block A else held p q
 
 -- the same once each block of the list has been put, in order
-abbrev pub with_blocks : (ℕ → ℕ → Option Standing) → List (ℕ × ℕ × Block) → ℕ → ℕ → Option Standing
+abbrev pub with_blocks : (ℕ → ℕ → Option StoredBlock) → List (ℕ × ℕ × Block) → ℕ → ℕ → Option StoredBlock
 with_blocks held [] p q = held p q
 with_blocks held (m ∷ ms) p q = with_blocks (with_block held m.0 m.1 (matrix_of m.2)) ms p q

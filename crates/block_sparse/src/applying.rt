@@ -1,7 +1,7 @@
 ghost use Rattle.std.specs.Prelude.{◌≡◌, ◌↔◌, ◌+◌, ◌≤◌, ◌∷◌, ◌++◌, ℕ, true, [], length, take, drop, All, IfOk, OnOk, IsTrue};
 ghost use Rattle.std.specs.List.{flat_map};
 ghost use Rattle.dense_blocks.specs.Vectors.{AllScalars, IsVector, plus};
-ghost use Rattle.dense_blocks.specs.Matrices.{applied};
+ghost use Rattle.dense_blocks.specs.Matrices.{image_of};
 ghost use Rattle.rising_lists.specs.Rising.{has};
 ghost use Rattle.cochain_vec.specs.Complexes.{IsCochain, cells_of, coboundary, coordinates, sum_into, total_size, value_at};
 ghost use Rattle.block_complexes.specs.BlockComplexes.{cells, degree_of, size_of, IsBlockComplex};
@@ -133,7 +133,7 @@ impl Blocks {
         requires degree { degree_of self.now.live t ≡ starts.now.degree + 1 }
         requires sum { IsVector (F.ops f.now) (size_of self.now.live t) sum.old.items }
         ensures sum { OnOk result (sum.new.items ≡ plus (F.ops f.now) sum.old.items
-            (applied (F.ops f.now) (matrix self.now s t) (value_at (cells_of (complex_of (complex_in self.now)) starts.now.degree) z.now s))) }
+            (image_of (F.ops f.now) (matrix self.now s t) (value_at (cells_of (complex_of (complex_in self.now)) starts.now.degree) z.now s))) }
         ensures vector { OnOk result (IsVector (F.ops f.now) (size_of self.now.live t) sum.new.items) }
     {
         if let Some(block) = self.get(s, t) {

@@ -1,9 +1,9 @@
 ghost use Rattle.std.specs.Prelude.{◌≡◌, ◌==◌, ◌||◌, ◌&&◌, ◌↔◌, ◌+◌, ◌<◌, ◌≤◌, ℕ, length, slice_index, slice_index_or, true, false, None, if◌then◌else◌, not, filter, is_some, All, MatchOption, IfOk, IfErr, OnOk, OnErr, IsTrue};
 ghost use Rattle.rising_lists.specs.Rising.{IsRising, has, keys, entry_of, line_of};
 ghost use Rattle.dense_blocks.specs.Blocks.{matrix_of};
-ghost use Rattle.block_complexes.specs.BlockComplexes.{cells, degree_of, size_of, total_size};
-ghost use Rattle.block_sparse.specs.StoredBlocks.{Fits, IsBetween, StandsAt, held, flag_of, with_flag, AreLive};
-ghost use Rattle.block_sparse.specs.Grids.{width, part, placed, AreSized};
+ghost use Rattle.block_complexes.specs.BlockComplexes.{cells, degree_of, size_of, live_size};
+ghost use Rattle.block_sparse.specs.StoredBlocks.{FitsPair, IsBetween, StandsAt, block_at, flag_of, with_flag, AreLive};
+ghost use Rattle.block_sparse.specs.Grids.{width, part, as_block, AreSized};
 ghost use Rattle.open_columns.specs.Open.{FirstFrom, FirstPair};
 ghost use Rattle.block_sparse.specs.Candidates.{is_candidate};
 ghost use Rattle.block_sparse.specs.Lists.{with_block, with_blocks};
@@ -57,7 +57,7 @@ impl Blocks {
     pub fn of_cells(alloc: Global, live: &[(u32, u8, u8)]) -> Result<Blocks, NoMemory>
         requires { AreLive live.now }
         ensures live { IfOk result (λ b. b.live ≡ live.now) }
-        ensures zero { IfOk result (λ b. (s t : ℕ) → held b s t ≡ None) }
+        ensures zero { IfOk result (λ b. (s t : ℕ) → block_at b s t ≡ None) }
     {
         let cells = cells_of(alloc, live)?;
         Ok(Blocks {
@@ -103,14 +103,14 @@ impl Blocks {
 
     /// The block from `s` to `t`; none exactly where no nonzero block stands there.
     pub fn get(&self, s: u32, t: u32) -> Option<&Block>
-        ensures { MatchOption result (held self.now s t ≡ None) (λ b. StandsAt self.now s t b.now) }
+        ensures { MatchOption result (block_at self.now s t ≡ None) (λ b. StandsAt self.now s t b.now) }
     {
         self.rows.get(t, s)
     }
 
     /// Whether a block stands from `s` to `t` and has its flag set.
     pub fn flagged(&self, s: u32, t: u32) -> bool
-        ensures { result ≡ flag_of (held self.now s t) }
+        ensures { result ≡ flag_of (block_at self.now s t) }
     {
         match self.columns.get(s, t) {
             Some(mark) => mark.flagged,
@@ -129,7 +129,7 @@ impl Blocks {
     /// The cells from which a nonzero block goes to the cell `y`, rising; none if `y` is not live.
     pub fn row(&self, y: u32) -> &[u32]
         ensures rising { IsRising result.now }
-        ensures cells { (s : ℕ) → has s result.now ≡ is_some (held self.now s y) }
+        ensures cells { (s : ℕ) → has s result.now ≡ is_some (block_at self.now s y) }
         ensures blocks { (s : ℕ) → has s result.now ≡ true → IsBetween self.now s y }
     {
         self.rows.cells(y)
@@ -138,7 +138,7 @@ impl Blocks {
     /// The cells to which a nonzero block goes from the cell `x`, rising; none if `x` is not live.
     pub fn column(&self, x: u32) -> &[u32]
         ensures rising { IsRising result.now }
-        ensures cells { (t : ℕ) → has t result.now ≡ is_some (held self.now x t) }
+        ensures cells { (t : ℕ) → has t result.now ≡ is_some (block_at self.now x t) }
         ensures blocks { (t : ℕ) → has t result.now ≡ true → IsBetween self.now x t }
     {
         self.columns.cells(x)
@@ -166,10 +166,10 @@ impl Blocks {
 
     /// Sets the flag of the block that stands from `s` to `t`.
     pub fn flag(&mut self, s: u32, t: u32)
-        requires { is_some (held self.old s t) ≡ true }
+        requires { is_some (block_at self.old s t) ≡ true }
         ensures live { self.new.live ≡ self.old.live }
-        ensures held { (p q : ℕ) → held self.new p q ≡
-            (if p == s && q == t then with_flag (held self.old s t) else held self.old p q) }
+        ensures held { (p q : ℕ) → block_at self.new p q ≡
+            (if p == s && q == t then with_flag (block_at self.old s t) else block_at self.old p q) }
     {
         self.columns.flag(s, t);
     }
@@ -177,8 +177,8 @@ impl Blocks {
     /// Takes the cell and its blocks away; all else stays.
     pub fn remove_cell(&mut self, c: u32)
         ensures live { self.new.live ≡ filter (λ l. not (l.0 == c)) self.old.live }
-        ensures held { (s t : ℕ) → held self.new s t ≡
-            (if s == c || t == c then None else held self.old s t) }
+        ensures held { (s t : ℕ) → block_at self.new s t ≡
+            (if s == c || t == c then None else block_at self.old s t) }
     {
         remove_live(&mut self.live, c);
         clear(&mut self.rows, &mut self.columns, c);
@@ -206,9 +206,9 @@ impl Blocks {
         requires cols { width left.now ≡ joined.now.cols }
         requires rows { width below.now ≡ joined.now.rows }
         ensures live { OnOk result (self.new.live ≡ self.old.live) }
-        ensures held { OnOk result ((s t : ℕ) → held self.new s t ≡
-            (if has s (keys left.now) && has t (keys below.now) then placed (part left.now below.now (matrix_of joined.now) s t)
-            else held self.old s t)) }
+        ensures held { OnOk result ((s t : ℕ) → block_at self.new s t ≡
+            (if has s (keys left.now) && has t (keys below.now) then as_block (part left.now below.now (matrix_of joined.now) s t)
+            else block_at self.old s t)) }
         ensures err { OnErr result (self.new ≡ self.old) }
     {
         let alloc = *self.live.allocator();
@@ -221,7 +221,7 @@ impl Blocks {
 
     /// Whether the block may be put from `s` to `t`: both are live cells of consecutive degree whose sizes it has.
     pub fn fits(&self, s: u32, t: u32, b: &Block) -> bool
-        ensures { IsTrue result ↔ Fits self.now.live s t b.now }
+        ensures { IsTrue result ↔ FitsPair self.now.live s t b.now }
     {
         match cell_in(&self.live, s) {
             Some(from) => match cell_in(&self.live, t) {
@@ -236,7 +236,7 @@ impl Blocks {
 
     /// Whether each block of the list may be put.
     pub fn all_fit(&self, list: &[(u32, u32, Block)]) -> bool
-        ensures { IsTrue result ↔ All (λ m. Fits self.now.live m.0 m.1 m.2) list.now }
+        ensures { IsTrue result ↔ All (λ m. FitsPair self.now.live m.0 m.1 m.2) list.now }
     {
         list.iter().all(|m| self.fits(m.0, m.1, &m.2))
     }
@@ -246,9 +246,9 @@ impl Blocks {
     /// Both are live cells of consecutive degree whose sizes the block has. Fails only where memory does: then nothing has
     /// changed, and the block comes back.
     pub fn set(&mut self, s: u32, t: u32, b: Block) -> Result<(), (Block, NoMemory)>
-        requires { Fits self.old.live s t b }
+        requires { FitsPair self.old.live s t b }
         ensures live { OnOk result (self.new.live ≡ self.old.live) }
-        ensures held { OnOk result ((p q : ℕ) → held self.new p q ≡ with_block (held self.old) s t (matrix_of b) p q) }
+        ensures held { OnOk result ((p q : ℕ) → block_at self.new p q ≡ with_block (block_at self.old) s t (matrix_of b) p q) }
         ensures err { OnErr result (self.new ≡ self.old) }
         ensures back { IfErr result (λ e. e.0 ≡ b) }
     {
@@ -266,9 +266,9 @@ impl Blocks {
         &mut self,
         list: Vec<(u32, u32, Block)>,
     ) -> Result<(), (Vec<(u32, u32, Block)>, NoMemory)>
-        requires { All (λ m. Fits self.old.live m.0 m.1 m.2) list.items }
+        requires { All (λ m. FitsPair self.old.live m.0 m.1 m.2) list.items }
         ensures live { OnOk result (self.new.live ≡ self.old.live) }
-        ensures held { OnOk result ((p q : ℕ) → held self.new p q ≡ with_blocks (held self.old) list.items p q) }
+        ensures held { OnOk result ((p q : ℕ) → block_at self.new p q ≡ with_blocks (block_at self.old) list.items p q) }
         ensures err { OnErr result (self.new ≡ self.old) }
         ensures back { IfErr result (λ e. e.0.items ≡ list.items) }
     {
@@ -284,9 +284,9 @@ impl Blocks {
 
     /// Puts the block from `s` to `t`, as [`Blocks::set`] does.
     fn place(&mut self, s: u32, t: u32, b: &Block) -> Result<(), NoMemory>
-        requires { Fits self.old.live s t b.now }
+        requires { FitsPair self.old.live s t b.now }
         ensures live { OnOk result (self.new.live ≡ self.old.live) }
-        ensures held { OnOk result ((p q : ℕ) → held self.new p q ≡ with_block (held self.old) s t (matrix_of b.now) p q) }
+        ensures held { OnOk result ((p q : ℕ) → block_at self.new p q ≡ with_block (block_at self.old) s t (matrix_of b.now) p q) }
         ensures err { OnErr result (self.new ≡ self.old) }
     {
         let from = size_in(self.live(), s);
@@ -297,9 +297,9 @@ impl Blocks {
 
     /// A copy with each block of the list put in order.
     fn with_all(&self, alloc: Global, list: &[(u32, u32, Block)]) -> Result<Blocks, NoMemory>
-        requires { All (λ m. Fits self.now.live m.0 m.1 m.2) list.now }
+        requires { All (λ m. FitsPair self.now.live m.0 m.1 m.2) list.now }
         ensures live { IfOk result (λ r. r.live ≡ self.now.live) }
-        ensures held { IfOk result (λ r. (p q : ℕ) → held r p q ≡ with_blocks (held self.now) list.now p q) }
+        ensures held { IfOk result (λ r. (p q : ℕ) → block_at r p q ≡ with_blocks (block_at self.now) list.now p q) }
     {
         let mut changed = self.copy(alloc)?;
         for member in list {
@@ -344,7 +344,7 @@ fn each_fits(live: &[(u32, u8, u8)]) -> bool
 
 /// Whether the sizes sum to no more than the most coordinates of a block complex.
 fn total_fits(live: &[(u32, u8, u8)]) -> bool
-    ensures { IsTrue result ↔ (total_size live.now ≤ 4096) }
+    ensures { IsTrue result ↔ (live_size live.now ≤ 4096) }
 {
     let mut total = 0;
     for cell in live {

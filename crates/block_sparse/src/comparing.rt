@@ -2,7 +2,7 @@ ghost use Rattle.std.specs.Prelude.{◌≡◌, ◌≢◌, ◌<◌, ◌≤◌, �
 ghost use Rattle.rising_lists.specs.Rising.{IsRising, has, keys};
 ghost use Rattle.dense_blocks.specs.Blocks.{matrix_of};
 ghost use Rattle.block_complexes.specs.BlockComplexes.{size_of};
-ghost use Rattle.block_sparse.specs.StoredBlocks.{held};
+ghost use Rattle.block_sparse.specs.StoredBlocks.{block_at};
 ghost use Rattle.block_sparse.specs.Grids.{width, segment, window, columns_of, block_matrix, nonzero, AreSized};
 
 use crate::blocks::{Blocks, size_in};
@@ -21,7 +21,7 @@ impl Blocks {
         requires rows { joined.now.rows ≡ size_of self.now.live y }
         requires cols { joined.now.cols ≡ width left.now }
         ensures { IsTrue result ↔ ((s : ℕ) → s ≢ x
-            → block_matrix (held self.now s y) ≡ nonzero (columns_of left.now (matrix_of joined.now) s)) }
+            → block_matrix (block_at self.now s y) ≡ nonzero (columns_of left.now (matrix_of joined.now) s)) }
     {
         self.is_row(x, y, left, joined) && are_listed(self.row(y), x, left)
     }
@@ -37,7 +37,7 @@ impl Blocks {
         requires rows { joined.now.rows ≡ width below.now }
         requires cols { joined.now.cols ≡ size_of self.now.live x }
         ensures { IsTrue result ↔ ((t : ℕ) → t ≢ y
-            → block_matrix (held self.now x t) ≡ nonzero (segment below.now (matrix_of joined.now) t)) }
+            → block_matrix (block_at self.now x t) ≡ nonzero (segment below.now (matrix_of joined.now) t)) }
     {
         self.is_column(x, y, below, joined) && are_listed(self.column(x), y, below)
     }
@@ -58,7 +58,7 @@ impl Blocks {
         requires width { width ≡ size_of self.now.live s }
         requires rows { row + height ≤ joined.now.rows }
         requires cols { col + width ≤ joined.now.cols }
-        ensures { IsTrue result ↔ (block_matrix (held self.now s t) ≡ nonzero (window row height col width (matrix_of joined.now))) }
+        ensures { IsTrue result ↔ (block_matrix (block_at self.now s t) ≡ nonzero (window row height col width (matrix_of joined.now))) }
     {
         match self.get(s, t) {
             Some(b) => is_same_at(b, joined, row, height, col, width),
@@ -81,7 +81,7 @@ impl Blocks {
         requires width { width ≡ size_of self.now.live s }
         requires rows { height ≤ joined.now.rows }
         requires cols { col + width ≤ joined.now.cols }
-        ensures { IsTrue result ↔ (s ≢ x → block_matrix (held self.now s y) ≡ nonzero (window 0 height col width (matrix_of joined.now))) }
+        ensures { IsTrue result ↔ (s ≢ x → block_matrix (block_at self.now s y) ≡ nonzero (window 0 height col width (matrix_of joined.now))) }
     {
         s == x || self.is_part(s, y, joined, 0, height, col, width)
     }
@@ -101,7 +101,7 @@ impl Blocks {
         requires width { width ≡ size_of self.now.live x }
         requires rows { row + height ≤ joined.now.rows }
         requires cols { width ≤ joined.now.cols }
-        ensures { IsTrue result ↔ (t ≢ y → block_matrix (held self.now x t) ≡ nonzero (window row height 0 width (matrix_of joined.now))) }
+        ensures { IsTrue result ↔ (t ≢ y → block_matrix (block_at self.now x t) ≡ nonzero (window row height 0 width (matrix_of joined.now))) }
     {
         t == y || self.is_part(x, t, joined, row, height, 0, width)
     }
@@ -112,7 +112,7 @@ impl Blocks {
         requires rows { joined.now.rows ≡ size_of self.now.live y }
         requires cols { joined.now.cols ≡ width left.now }
         ensures { IsTrue result ↔ ((i : ℕ) → i < length left.now → (slice_index_or left.now i (0, 0)).0 ≢ x
-            → block_matrix (held self.now (slice_index_or left.now i (0, 0)).0 y)
+            → block_matrix (block_at self.now (slice_index_or left.now i (0, 0)).0 y)
             ≡ nonzero (window 0 joined.now.rows (width (take i left.now)) (slice_index_or left.now i (0, 0)).1 (matrix_of joined.now))) }
     {
         let height = size_in(self.live(), y);
@@ -134,7 +134,7 @@ impl Blocks {
         requires rows { joined.now.rows ≡ width below.now }
         requires cols { joined.now.cols ≡ size_of self.now.live x }
         ensures { IsTrue result ↔ ((j : ℕ) → j < length below.now → (slice_index_or below.now j (0, 0)).0 ≢ y
-            → block_matrix (held self.now x (slice_index_or below.now j (0, 0)).0)
+            → block_matrix (block_at self.now x (slice_index_or below.now j (0, 0)).0)
             ≡ nonzero (window (width (take j below.now)) (slice_index_or below.now j (0, 0)).1 0 joined.now.cols (matrix_of joined.now))) }
     {
         let size = size_in(self.live(), x);

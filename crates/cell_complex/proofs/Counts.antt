@@ -8,7 +8,7 @@ use Rattle.std.proofs.lemmas.Map.Keys.{IsDistinct-from_apart}
 use Rattle.std.proofs.lemmas.Map.Steps.{length-le_from_distinct_below}
 use Rattle.std.proofs.lemmas.Map.Views.{Contains-from_any, exact_unsigned_eq}
 use Rattle.cell_complex.specs.declared.face.Face.{Face}
-use Rattle.cell_complex.specs.Complexes.{CellComplex, IsComplex, AreApart, Fits}
+use Rattle.cell_complex.specs.Complexes.{CellComplex, IsComplex, AreApart, JoinsCells}
 
 -- the pair of cells of a face, as one number
 abbrev code : Face → ℕ
@@ -20,13 +20,13 @@ codes-differ f g p q h = ne_eqb (code f) (code g) (λ e.
     let t : f.t ≡ g.t = omega arith in
     true≢false (sym (and_from (nat_eq f.s g.s) (nat_eq f.t g.t) (eq-eqb f.s g.s s) (eq-eqb f.t g.t t)) ∙ h))
 
-codes-distinct : (dims : List ℕ) (fs : List Face) → length dims ≤ 4096 → All (Fits dims) fs → AllPairs AreApart fs → IsDistinct eqb (map code fs)
+codes-distinct : (dims : List ℕ) (fs : List Face) → length dims ≤ 4096 → All (JoinsCells dims) fs → AllPairs AreApart fs → IsDistinct eqb (map code fs)
 codes-distinct dims [] few fit apart = IsDistinct-from_apart eqb [] (λ i j d l m. absurd (omega arith))
 codes-distinct dims (f ∷ fs) few fit apart = IsDistinct-from_apart eqb (map code (f ∷ fs)) (λ i j d l m.
     let all : List Face = f ∷ fs in
     let within : j < length all = omega (arith, length-map all code) in
-    let left : Fits dims (get_or all i f) = All-get_or (Fits dims) all i f (omega arith) fit in
-    let right : Fits dims (get_or all j f) = All-get_or (Fits dims) all j f within fit in
+    let left : JoinsCells dims (get_or all i f) = All-get_or (JoinsCells dims) all i f (omega arith) fit in
+    let right : JoinsCells dims (get_or all j f) = All-get_or (JoinsCells dims) all j f within fit in
     ap₂ eqb (get_or-map code all i f d (omega arith)) (get_or-map code all j f d within)
     ∙ codes-differ (get_or all i f) (get_or all j f) (omega arith) (omega arith) (apart i j f l within))
 
@@ -35,7 +35,7 @@ pub length-faces : (c : CellComplex) → IsComplex c → length c.faces ≤ 4096
 length-faces c h =
     let below : All (λ n. n < 4096 * 4096) (map code c.faces) =
     All-map (λ n. n < 4096 * 4096) code c.faces
-    (All-weaker (Fits c.dims) (λ f. code f < 4096 * 4096) (λ f fit. let few : length c.dims ≤ 4096 = h.small.few in omega arith) c.faces h.fit) in
+    (All-weaker (JoinsCells c.dims) (λ f. code f < 4096 * 4096) (λ f fit. let few : length c.dims ≤ 4096 = h.small.few in omega arith) c.faces h.fit) in
     let few : length (map code c.faces) ≤ 4096 * 4096 = length-le_from_distinct_below (map code c.faces) (4096 * 4096)
     (codes-distinct c.dims c.faces h.small.few h.fit h.apart)
     (λ q there. All-contains (λ n. n < 4096 * 4096) (map code c.faces) q below (Contains-from_any exact_unsigned_eq q (map code c.faces) there)) in

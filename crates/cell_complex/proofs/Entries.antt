@@ -6,7 +6,7 @@ use Rattle.std.specs.Option.{option_map}
 use Rattle.std.proofs.lemmas.List.{length-map}
 use Rattle.cell_complex.specs.declared.face.Sign.{Sign}
 use Rattle.cell_complex.specs.Complexes.{joins}
-use Rattle.cell_complex.specs.Fields.{face_of}
+use Rattle.cell_complex.specs.Fields.{face_of_entry}
 
 -- whether the key is the pair of s and t
 abbrev pub is_pair : ℕ → ℕ → ℕ × ℕ → Bool
@@ -20,29 +20,29 @@ position-map : {X Y : Type 0} (p : Y → Bool) (f : X → Y) (xs : List X) → p
 position-map p f xs = ap₂ (λ i n. cond (nat_lt i n) (Some i) None) (prefix_len-map (λ y. not (p y)) f xs) (length-map xs f)
 
 module _ (s t : ℕ) where
-  pub lookup-sign : (es : List ((ℕ × ℕ) × Sign)) → lookup (is_pair s t) es ≡ option_map (λ f. f.sign) (find (joins s t) (map face_of es))
+  pub lookup-sign : (es : List ((ℕ × ℕ) × Sign)) → lookup (is_pair s t) es ≡ option_map (λ f. f.sign) (find (joins s t) (map face_of_entry es))
   lookup-sign [] = refl
   lookup-sign (e ∷ es) = by (is_pair s t e.0) (lookup-sign es)
     where
-      by : (b : Bool) → lookup (is_pair s t) es ≡ option_map (λ f. f.sign) (find (joins s t) (map face_of es))
-          → cond b (Some e.1) (lookup (is_pair s t) es) ≡ option_map (λ f. f.sign) (cond b (Some (face_of e)) (find (joins s t) (map face_of es)))
+      by : (b : Bool) → lookup (is_pair s t) es ≡ option_map (λ f. f.sign) (find (joins s t) (map face_of_entry es))
+          → cond b (Some e.1) (lookup (is_pair s t) es) ≡ option_map (λ f. f.sign) (cond b (Some (face_of_entry e)) (find (joins s t) (map face_of_entry es)))
       by true h = refl
       by false h = h
 
-  pub is_some-lookup : (es : List ((ℕ × ℕ) × Sign)) → is_some (lookup (is_pair s t) es) ≡ list_any (joins s t) (map face_of es)
+  pub is_some-lookup : (es : List ((ℕ × ℕ) × Sign)) → is_some (lookup (is_pair s t) es) ≡ list_any (joins s t) (map face_of_entry es)
   is_some-lookup [] = refl
   is_some-lookup (e ∷ es) = by (is_pair s t e.0) (is_some-lookup es)
     where
-      by : (b : Bool) → is_some (lookup (is_pair s t) es) ≡ list_any (joins s t) (map face_of es)
-          → is_some (cond b (Some e.1) (lookup (is_pair s t) es)) ≡ (b || list_any (joins s t) (map face_of es))
+      by : (b : Bool) → is_some (lookup (is_pair s t) es) ≡ list_any (joins s t) (map face_of_entry es)
+          → is_some (cond b (Some e.1) (lookup (is_pair s t) es)) ≡ (b || list_any (joins s t) (map face_of_entry es))
       by true h = refl
       by false h = h
 
-  pub position-place : (es : List ((ℕ × ℕ) × Sign)) → position (is_pair s t) (keys_of es) ≡ position (joins s t) (map face_of es)
-  position-place es = position-map (is_pair s t) (λ e. e.0) es ∙ sym (position-map (joins s t) face_of es)
+  pub position-place : (es : List ((ℕ × ℕ) × Sign)) → position (is_pair s t) (keys_of es) ≡ position (joins s t) (map face_of_entry es)
+  position-place es = position-map (is_pair s t) (λ e. e.0) es ∙ sym (position-map (joins s t) face_of_entry es)
 
 -- nothing is found where no face joins the pair
-pub none-lookup : (s t : ℕ) (es : List ((ℕ × ℕ) × Sign)) → list_any (joins s t) (map face_of es) ≡ false → lookup (is_pair s t) es ≡ None
+pub none-lookup : (s t : ℕ) (es : List ((ℕ × ℕ) × Sign)) → list_any (joins s t) (map face_of_entry es) ≡ false → lookup (is_pair s t) es ≡ None
 none-lookup s t es h = by (lookup (is_pair s t) es) (is_some-lookup s t es ∙ h)
   where
     by : (o : Option Sign) → is_some o ≡ false → o ≡ None

@@ -14,15 +14,15 @@ use Rattle.std.proofs.lemmas.Option.{get_or_from_slice_get, slice_get_within}
 use Rattle.cell_complex.specs.declared.face.Face.{Face}
 use Rattle.cell_complex.specs.declared.fault.FaceFault.{FaceFault}
 use Rattle.cell_complex.specs.declared.fault.FaceFault.TheVariants.{UnknownCell, WrongDims, TwiceFace}
-use Rattle.cell_complex.specs.Complexes.{CellComplex, AreCells, IsComplex, AreApart, Fits, joins, cells, is_face, faces_of, cofaces_of, with_face}
-use Rattle.cell_complex.specs.Verdicts.{fault_of, with_first, AllAccepted, IsFirstFault}
-use Rattle.cell_complex.specs.Fields.{IsKept}
+use Rattle.cell_complex.specs.Complexes.{CellComplex, AreCells, IsComplex, AreApart, JoinsCells, joins, all_cells, is_face, faces_of, cofaces_of, with_face}
+use Rattle.cell_complex.specs.Verdicts.{face_fault, with_first_faces, AllAccepted, IsFirstFault}
+use Rattle.cell_complex.specs.Fields.{AreNeighbourLists}
 use Rattle.cell_complex.specs.Neighbours.{with_cell}
 use Rattle.cell_complex.proofs.Numbers.{rising-range, with_cell-filter, set-map-range}
 
--- the face fits the cells, and is none of the faces
+-- the face fits the all_cells, and is none of the faces
 pub record IsNew (c : CellComplex) (f : Face) : Type 0 where
-  pub fits : Fits c.dims f
+  pub fits : JoinsCells c.dims f
   pub absent : is_face c f.s f.t ≡ false
 
 -- four tests, and the first that fails
@@ -35,7 +35,7 @@ first_of true true false d u v w x h = absurd (cc)
 first_of true false c d u v w x h = absurd (cc)
 first_of false b c d u v w x h = absurd (cc)
 
-pub new_from_none : (c : CellComplex) (f : Face) → fault_of c f ≡ None → IsNew c f
+pub new_from_none : (c : CellComplex) (f : Face) → face_fault c f ≡ None → IsNew c f
 new_from_none c f h =
     let e = first_of (nat_lt f.s (length c.dims)) (nat_lt f.t (length c.dims)) (nat_eq (slice_index c.dims f.t) (slice_index c.dims f.s + 1)) (is_face c f.s f.t)
     (UnknownCell f.s) (UnknownCell f.t) (WrongDims f.s f.t) (TwiceFace f.s f.t) h in
@@ -49,10 +49,10 @@ new_from_none c f h =
     }
 
 -- the same, of a complex as its fields show it
-pub new_shown : (all now : CellComplex) (f : Face) → all ≡ now → fault_of now f ≡ None → IsNew all f
-new_shown all now f is h = new_from_none all f (ap (λ c. fault_of c f) is ∙ h)
+pub new_shown : (all now : CellComplex) (f : Face) → all ≡ now → face_fault now f ≡ None → IsNew all f
+new_shown all now f is h = new_from_none all f (ap (λ c. face_fault c f) is ∙ h)
 
-pub none_from_new : (c : CellComplex) (f : Face) → IsNew c f → fault_of c f ≡ None
+pub none_from_new : (c : CellComplex) (f : Face) → IsNew c f → face_fault c f ≡ None
 none_from_new c f h =
     tests (nat_lt f.s (length c.dims)) (nat_lt f.t (length c.dims)) (nat_eq (slice_index c.dims f.t) (slice_index c.dims f.s + 1)) (is_face c f.s f.t)
     (lt-ltb f.s (length c.dims) h.fits.s_is_cell) (lt-ltb f.t (length c.dims) h.fits.t_is_cell) (eq-eqb (slice_index c.dims f.t) (slice_index c.dims f.s + 1) h.fits.one_up) h.absent
@@ -79,17 +79,17 @@ each_apart fs f h k d l = apart-sym f (get_or fs k d) (false_from_ne_true (joins
 pub complex-with_face : (c : CellComplex) (f : Face) → IsComplex c → IsNew c f → IsComplex (with_face c f)
 complex-with_face c f h new = record {
   small = h.small;
-  fit = All-push (Fits c.dims) c.faces f h.fit new.fits;
+  fit = All-push (JoinsCells c.dims) c.faces f h.fit new.fits;
   apart = all_pairs_push AreApart c.faces f h.apart (each_apart c.faces f new.absent);
 }
 
 -- each face is new to those before it
-pub new-with_first : (c : CellComplex) → IsComplex c → (k : ℕ) (f : Face) → slice_get c.faces k ≡ Some f → IsNew (with_first c.dims c.faces k) f
+pub new-with_first : (c : CellComplex) → IsComplex c → (k : ℕ) (f : Face) → slice_get c.faces k ≡ Some f → IsNew (with_first_faces c.dims c.faces k) f
 new-with_first c h k f at =
     let within : k < length c.faces = slice_get_within c.faces k f at in
     let is : get_or c.faces k f ≡ f = get_or_from_slice_get c.faces k f f at in
     record {
-      fits = subst (Fits c.dims) is (All-get_or (Fits c.dims) c.faces k f within h.fit);
+      fits = subst (JoinsCells c.dims) is (All-get_or (JoinsCells c.dims) c.faces k f within h.fit);
       absent = list_any_none (joins f.s f.t) (take k c.faces) (λ j d l.
           let before : j < k = omega (arith, length-take k c.faces) in
           apart-sym (get_or (take k c.faces) j d) f
@@ -102,18 +102,18 @@ new-with_first c h k f at =
 
 -- no face of a complex has a fault, after those before it
 pub accepted-complex : (c : CellComplex) → IsComplex c → AllAccepted c.dims c.faces
-accepted-complex c h k f at = none_from_new (with_first c.dims c.faces k) f (new-with_first c h k f at)
+accepted-complex c h k f at = none_from_new (with_first_faces c.dims c.faces k) f (new-with_first c h k f at)
 
 -- the fault of the face after the first n, where these make a complex
-pub first_fault : (dims : List ℕ) (faces : List Face) (n : ℕ) (f : Face) (fault : FaceFault) → IsComplex (with_first dims faces n)
-    → slice_get faces n ≡ Some f → fault_of (with_first dims faces n) f ≡ Some fault → IsFirstFault dims faces n fault
+pub first_fault : (dims : List ℕ) (faces : List Face) (n : ℕ) (f : Face) (fault : FaceFault) → IsComplex (with_first_faces dims faces n)
+    → slice_get faces n ≡ Some f → face_fault (with_first_faces dims faces n) f ≡ Some fault → IsFirstFault dims faces n fault
 first_fault dims faces n f fault h at is = record {
-  fails = λ g here. let same : g ≡ f = cc in ap (fault_of (with_first dims faces n)) same ∙ is;
+  fails = λ g here. let same : g ≡ f = cc in ap (face_fault (with_first_faces dims faces n)) same ∙ is;
   within = slice_get_within faces n f at;
-  earlier = accepted-complex (with_first dims faces n) h;
+  earlier = accepted-complex (with_first_faces dims faces n) h;
 }
 
--- the cells alone
+-- the all_cells alone
 pub complex-empty : (dims : List ℕ) → AreCells dims → IsComplex record { dims = dims; faces = [] }
 complex-empty dims h = record {
   small = h;
@@ -122,12 +122,12 @@ complex-empty dims h = record {
 }
 
 -- one face more of a list of faces
-pub with_first-more : (dims : List ℕ) (faces : List Face) (i : ℕ) (f : Face) → slice_get faces i ≡ Some f → with_face (with_first dims faces i) f ≡ with_first dims faces (i + 1)
+pub with_first-more : (dims : List ℕ) (faces : List Face) (i : ℕ) (f : Face) → slice_get faces i ≡ Some f → with_face (with_first_faces dims faces i) f ≡ with_first_faces dims faces (i + 1)
 with_first-more dims faces i f at =
     ap (λ fs. record { dims = dims; faces = fs })
     (ap (λ g. take i faces ++ g ∷ []) (sym (get_or_from_slice_get faces i f f at)) ∙ sym (take_more faces i f (slice_get_within faces i f at)))
 
-pub with_first-all : (c : CellComplex) (n : ℕ) → length c.faces ≤ n → with_first c.dims c.faces n ≡ c
+pub with_first-all : (c : CellComplex) (n : ℕ) → length c.faces ≤ n → with_first_faces c.dims c.faces n ≡ c
 with_first-all c n l = ap (λ fs. record { dims = c.dims; faces = fs }) (take_all n c.faces l)
 
 -- whether s is a face of t, with a face more
@@ -153,12 +153,12 @@ module _ (c : CellComplex) (f : Face) (new : IsNew c f) where
   faces_of-other : (t : ℕ) → t ≢ f.t → faces_of (with_face c f) t ≡ faces_of c t
   faces_of-other t ne =
       filter_agree (λ s. is_face (with_face c f) s t) (λ s. is_face c s t)
-      (λ s. is_face-with_face c f s t (and_right (nat_eq s f.s) (nat_eq t f.t) (ne_eqb t f.t ne))) (cells c)
+      (λ s. is_face-with_face c f s t (and_right (nat_eq s f.s) (nat_eq t f.t) (ne_eqb t f.t ne))) (all_cells c)
 
   cofaces_of-other : (s : ℕ) → s ≢ f.s → cofaces_of (with_face c f) s ≡ cofaces_of c s
   cofaces_of-other s ne =
       filter_agree (λ t. is_face (with_face c f) s t) (λ t. is_face c s t)
-      (λ t. is_face-with_face c f s t (and_left (nat_eq s f.s) (nat_eq t f.t) (ne_eqb s f.s ne))) (cells c)
+      (λ t. is_face-with_face c f s t (and_left (nat_eq s f.s) (nat_eq t f.t) (ne_eqb s f.s ne))) (all_cells c)
 
   faces_of-here : with_cell f.s (faces_of c f.t) ≡ faces_of (with_face c f) f.t
   faces_of-here =
@@ -173,7 +173,7 @@ module _ (c : CellComplex) (f : Face) (new : IsNew c f) where
       0 (length c.dims) (omega arith) (omega (arith, new.fits.t_is_cell))
 
 -- the lists of a complex: how many, and the list of a cell
-module _ (c : CellComplex) (below above : List (List ℕ)) (h : IsKept c below above) where
+module _ (c : CellComplex) (below above : List (List ℕ)) (h : AreNeighbourLists c below above) where
   pub below-size : length below ≡ length c.dims
   below-size = ap length h.below_is ∙ length-map-range_with_len (faces_of c) 0 (length c.dims)
 
@@ -188,7 +188,7 @@ module _ (c : CellComplex) (below above : List (List ℕ)) (h : IsKept c below a
 
   -- the lists with a new face
   pub kept-with_face : (f : Face) → IsNew c f
-      → IsKept (with_face c f) (set below f.t (with_cell f.s (get_or below f.t []))) (set above f.s (with_cell f.t (get_or above f.s [])))
+      → AreNeighbourLists (with_face c f) (set below f.t (with_cell f.s (get_or below f.t []))) (set above f.s (with_cell f.t (get_or above f.s [])))
   kept-with_face f new = record {
     complex = complex-with_face c f h.complex new;
     below_is =
@@ -200,16 +200,16 @@ module _ (c : CellComplex) (below above : List (List ℕ)) (h : IsKept c below a
   }
 
 pub faces_of-rise : (c : CellComplex) (t : ℕ) → IsStrictlyIncreasing (faces_of c t)
-faces_of-rise c t = IsStrictlyIncreasing-filter (λ s. is_face c s t) (cells c) (rising-range 0 (length c.dims))
+faces_of-rise c t = IsStrictlyIncreasing-filter (λ s. is_face c s t) (all_cells c) (rising-range 0 (length c.dims))
 
 pub cofaces_of-rise : (c : CellComplex) (s : ℕ) → IsStrictlyIncreasing (cofaces_of c s)
-cofaces_of-rise c s = IsStrictlyIncreasing-filter (λ t. is_face c s t) (cells c) (rising-range 0 (length c.dims))
+cofaces_of-rise c s = IsStrictlyIncreasing-filter (λ t. is_face c s t) (all_cells c) (rising-range 0 (length c.dims))
 
-pub kept-empty : (dims : List ℕ) → AreCells dims → IsKept record { dims = dims; faces = [] } (replicate (length dims) []) (replicate (length dims) [])
+pub kept-empty : (dims : List ℕ) → AreCells dims → AreNeighbourLists record { dims = dims; faces = [] } (replicate (length dims) []) (replicate (length dims) [])
 kept-empty dims h = record {
   complex = complex-empty dims h;
-  below_is = fill_by_all (faces_of all) (replicate n []) n [] (length-replicate n []) (λ k l. get_or-replicate n k [] [] l ∙ sym (filter-none (cells all)));
-  above_is = fill_by_all (cofaces_of all) (replicate n []) n [] (length-replicate n []) (λ k l. get_or-replicate n k [] [] l ∙ sym (filter-none (cells all)));
+  below_is = fill_by_all (faces_of all) (replicate n []) n [] (length-replicate n []) (λ k l. get_or-replicate n k [] [] l ∙ sym (filter-none (all_cells all)));
+  above_is = fill_by_all (cofaces_of all) (replicate n []) n [] (length-replicate n []) (λ k l. get_or-replicate n k [] [] l ∙ sym (filter-none (all_cells all)));
 }
   where
     all : CellComplex

@@ -2,18 +2,18 @@
 use Rattle.std.specs.Prelude.{◌≡◌, ℕ, List, map}
 use Rattle.cell_complex.specs.declared.face.Face.{Face}
 use Rattle.cell_complex.specs.declared.face.Sign.{Sign}
-use Rattle.cell_complex.specs.Complexes.{CellComplex, IsComplex, cells, faces_of, cofaces_of}
+use Rattle.cell_complex.specs.Complexes.{CellComplex, IsComplex, all_cells, faces_of, cofaces_of}
 
--- an entry of the map from pairs of cells to signs, as a face
-abbrev pub face_of : (ℕ × ℕ) × Sign → Face
-face_of e = record { s = e.0.0; t = e.0.1; sign = e.1 }
+-- an entry of the map from pairs of all_cells to signs, as a face
+abbrev pub face_of_entry : (ℕ × ℕ) × Sign → Face
+face_of_entry e = record { s = e.0.0; t = e.0.1; sign = e.1 }
 
 -- the complex with these dimensions, and these entries as its faces
-abbrev pub shown : List ℕ → List ((ℕ × ℕ) × Sign) → CellComplex
-shown dims entries = record { dims = dims; faces = map face_of entries }
+abbrev pub complex_from : List ℕ → List ((ℕ × ℕ) × Sign) → CellComplex
+complex_from dims entries = record { dims = dims; faces = map face_of_entry entries }
 
 -- a complex, with the list of the faces and the list of the cofaces of each cell
-pub record IsKept (c : CellComplex) (below above : List (List ℕ)) : Type 0 where
+pub record AreNeighbourLists (c : CellComplex) (below above : List (List ℕ)) : Type 0 where
   pub complex : IsComplex c
-  pub below_is : below ≡ map (faces_of c) (cells c)
-  pub above_is : above ≡ map (cofaces_of c) (cells c)
+  pub below_is : below ≡ map (faces_of c) (all_cells c)
+  pub above_is : above ≡ map (cofaces_of c) (all_cells c)

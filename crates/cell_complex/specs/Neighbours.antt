@@ -4,8 +4,8 @@ use Rattle.std.specs.List.{HoldsAt}
 use Rattle.cell_complex.specs.declared.neighbours.Neighbours.{Neighbours}
 
 -- the lists, in order of cells
-abbrev pub lists_of : Neighbours → List (List ℕ)
-lists_of n = map (λ v. v.items) n.lists.items
+abbrev pub neighbour_lists : Neighbours → List (List ℕ)
+neighbour_lists n = map (λ v. v.items) n.lists.items
 
 -- one element more fits into the list of the cell
 abbrev pub HasRoom : Neighbours → ℕ → Type 0

@@ -6,8 +6,8 @@ use Rattle.cell_complex.specs.declared.fault.FaceFault.TheVariants.{UnknownCell,
 use Rattle.cell_complex.specs.Complexes.{CellComplex, is_face}
 
 -- the first of these: s is no cell, t is no cell, t is not one dimension above s, s is a face of t already
-abbrev pub fault_of : CellComplex → Face → Option FaceFault
-fault_of c f =
+abbrev pub face_fault : CellComplex → Face → Option FaceFault
+face_fault c f =
     if not (nat_lt f.s (length c.dims)) then Some (UnknownCell f.s)
     else if not (nat_lt f.t (length c.dims)) then Some (UnknownCell f.t)
     else if not (slice_index c.dims f.t == slice_index c.dims f.s + 1) then Some (WrongDims f.s f.t)
@@ -15,15 +15,15 @@ fault_of c f =
     else None
 
 -- the cells with the first n of these faces
-abbrev pub with_first : List ℕ → List Face → ℕ → CellComplex
-with_first dims faces n = record { dims = dims; faces = take n faces }
+abbrev pub with_first_faces : List ℕ → List Face → ℕ → CellComplex
+with_first_faces dims faces n = record { dims = dims; faces = take n faces }
 
 -- no face has a fault, after those before it
 abbrev pub AllAccepted : List ℕ → List Face → Type 0
-AllAccepted dims faces = (k : ℕ) (f : Face) → slice_get faces k ≡ Some f → fault_of (with_first dims faces k) f ≡ None
+AllAccepted dims faces = (k : ℕ) (f : Face) → slice_get faces k ≡ Some f → face_fault (with_first_faces dims faces k) f ≡ None
 
 -- the face at the place has this fault, and no face before it has one
 pub record IsFirstFault (dims : List ℕ) (faces : List Face) (at : ℕ) (fault : FaceFault) : Type 0 where
-  pub fails : (f : Face) → slice_get faces at ≡ Some f → fault_of (with_first dims faces at) f ≡ Some fault
+  pub fails : (f : Face) → slice_get faces at ≡ Some f → face_fault (with_first_faces dims faces at) f ≡ Some fault
   pub within : at < length faces
   pub earlier : AllAccepted dims (take at faces)

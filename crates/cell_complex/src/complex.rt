@@ -1,9 +1,9 @@
 ghost use Rattle.std.specs.Prelude.{◌≡◌, ℕ, ◌<◌, ◌↔◌, [], ◌∷◌, ◌++◌, None, Some, length, map, slice_get, slice_set, nat_eq, slice_index_or, ◌&&◌, IsTrue, IfOk, OnOk, OnErr, IsErrOf};
 ghost use Rattle.std.specs.List.Sorted.{IsStrictlyIncreasing, IsNonDecreasing};
 ghost use Rattle.indexmap.specs.IndexMap.{get};
-ghost use Rattle.cell_complex.specs.Neighbours.{lists_of, with_cell};
+ghost use Rattle.cell_complex.specs.Neighbours.{neighbour_lists, with_cell};
 ghost use Rattle.cell_complex.specs.Complexes.{AreCells, IsComplex, sign, place, faces_of, cofaces_of, middles, with_face};
-ghost use Rattle.cell_complex.specs.Verdicts.{fault_of, AllAccepted, IsFirstFault};
+ghost use Rattle.cell_complex.specs.Verdicts.{face_fault, AllAccepted, IsFirstFault};
 
 use crate::face::{Face, Sign};
 use crate::fault::{AddFault, BuildFault, FaceFault};
@@ -28,14 +28,14 @@ pub struct Complex {
 
 impl Model for Complex {
     ghost use Rattle.cell_complex.specs.Complexes.{CellComplex};
-    ghost use Rattle.cell_complex.specs.Fields.{shown, IsKept};
-    ghost use Rattle.cell_complex.specs.Neighbours.{lists_of};
+    ghost use Rattle.cell_complex.specs.Fields.{complex_from, AreNeighbourLists};
+    ghost use Rattle.cell_complex.specs.Neighbours.{neighbour_lists};
 
     ghost Value = { CellComplex };
 
-    ghost view = { λ c. shown c.dims.items c.signs.entries };
+    ghost view = { λ c. complex_from c.dims.items c.signs.entries };
 
-    ghost invariant = { λ c. IsKept (shown c.dims.items c.signs.entries) (lists_of c.below) (lists_of c.above) };
+    ghost invariant = { λ c. AreNeighbourLists (complex_from c.dims.items c.signs.entries) (neighbour_lists c.below) (neighbour_lists c.above) };
 }
 
 impl Complex {
@@ -175,7 +175,7 @@ impl Complex {
     /// Why the face does not fit: the first of these that holds. `s` is no cell, `t` is no cell, `t` is not one
     /// dimension above `s`, `s` is a face of `t` already.
     pub fn fault_of(&self, face: Face) -> Option<FaceFault>
-        ensures { result ≡ fault_of self.now face }
+        ensures { result ≡ face_fault self.now face }
     {
         let Face { s, t, sign: _ } = face;
         let Some(&dim_s) = self.dims.get(s as usize) else {
@@ -201,7 +201,7 @@ impl Complex {
     pub fn add_face(&mut self, face: Face) -> Result<(), AddFault>
         ensures ok { OnOk result (self.new ≡ with_face self.old face) }
         ensures refused { (fault : FaceFault) →
-            IsErrOf result (AddFault.Face fault) ↔ (fault_of self.old face ≡ Some fault) }
+            IsErrOf result (AddFault.Face fault) ↔ (face_fault self.old face ≡ Some fault) }
         ensures err { OnErr result (self.new ≡ self.old) }
     {
         if let Some(fault) = self.fault_of(face) {
@@ -213,7 +213,7 @@ impl Complex {
 
     /// Adds a face that has no fault; without memory nothing changes.
     fn append(&mut self, face: Face) -> Result<(), NoMemory>
-        requires { fault_of self.old face ≡ None }
+        requires { face_fault self.old face ≡ None }
         ensures ok { OnOk result (self.new ≡ with_face self.old face) }
         ensures err { OnErr result (self.new ≡ self.old) }
     {
@@ -229,19 +229,19 @@ fn keep_face(
     above: &mut Neighbours,
     face: Face,
 ) -> Result<(), NoMemory>
-    requires s_is_cell { face.s < length (lists_of above.old) }
-    requires t_is_cell { face.t < length (lists_of below.old) }
-    requires below_rises { IsNonDecreasing (slice_index_or (lists_of below.old) face.t []) }
-    requires above_rises { IsNonDecreasing (slice_index_or (lists_of above.old) face.s []) }
+    requires s_is_cell { face.s < length (neighbour_lists above.old) }
+    requires t_is_cell { face.t < length (neighbour_lists below.old) }
+    requires below_rises { IsNonDecreasing (slice_index_or (neighbour_lists below.old) face.t []) }
+    requires above_rises { IsNonDecreasing (slice_index_or (neighbour_lists above.old) face.s []) }
     requires absent { get (λ p q. nat_eq p.0 q.0 && nat_eq p.1 q.1) signs.old (face.s, face.t) ≡ None }
     ensures signs { OnOk result (signs.new.entries ≡ signs.old.entries ++ ((face.s, face.t), face.sign) ∷ []) }
-    ensures below { OnOk result (lists_of below.new ≡ slice_set (lists_of below.old) face.t
-        (with_cell face.s (slice_index_or (lists_of below.old) face.t []))) }
-    ensures above { OnOk result (lists_of above.new ≡ slice_set (lists_of above.old) face.s
-        (with_cell face.t (slice_index_or (lists_of above.old) face.s []))) }
+    ensures below { OnOk result (neighbour_lists below.new ≡ slice_set (neighbour_lists below.old) face.t
+        (with_cell face.s (slice_index_or (neighbour_lists below.old) face.t []))) }
+    ensures above { OnOk result (neighbour_lists above.new ≡ slice_set (neighbour_lists above.old) face.s
+        (with_cell face.t (slice_index_or (neighbour_lists above.old) face.s []))) }
     ensures signs_err { OnErr result (signs.new.entries ≡ signs.old.entries) }
-    ensures below_err { OnErr result (lists_of below.new ≡ lists_of below.old) }
-    ensures above_err { OnErr result (lists_of above.new ≡ lists_of above.old) }
+    ensures below_err { OnErr result (neighbour_lists below.new ≡ neighbour_lists below.old) }
+    ensures above_err { OnErr result (neighbour_lists above.new ≡ neighbour_lists above.old) }
 {
     below.make_room(face.t)?;
     above.make_room(face.s)?;

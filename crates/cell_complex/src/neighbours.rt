@@ -1,6 +1,6 @@
 ghost use Rattle.std.specs.Prelude.{◌≡◌, ◌<◌, [], replicate, length, slice_index_or, slice_set, IfOk, OnOk};
 ghost use Rattle.std.specs.List.Sorted.{IsNonDecreasing};
-ghost use Rattle.cell_complex.specs.Neighbours.{lists_of, with_cell, HasRoom};
+ghost use Rattle.cell_complex.specs.Neighbours.{neighbour_lists, with_cell, HasRoom};
 
 use std::alloc::{AllocError as NoMemory, Global};
 
@@ -13,7 +13,7 @@ pub(crate) struct Neighbours {
 impl Neighbours {
     /// Empty lists, one for each of so many cells.
     pub fn of_cells(alloc: Global, count: usize) -> Result<Self, NoMemory>
-        ensures { IfOk result (λ n. lists_of n ≡ replicate count []) }
+        ensures { IfOk result (λ n. neighbour_lists n ≡ replicate count []) }
     {
         let mut lists = Vec::with_capacity(alloc, count)?;
         for _added in 0..count {
@@ -24,16 +24,16 @@ impl Neighbours {
 
     /// The list of the cell.
     pub fn list(&self, cell: u32) -> &[u32]
-        requires { cell < length (lists_of self.now) }
-        ensures { result.now ≡ slice_index_or (lists_of self.now) cell [] }
+        requires { cell < length (neighbour_lists self.now) }
+        ensures { result.now ≡ slice_index_or (neighbour_lists self.now) cell [] }
     {
         &self.lists[cell as usize]
     }
 
     /// Makes room for one cell more in the list of the cell.
     pub fn make_room(&mut self, cell: u32) -> Result<(), NoMemory>
-        requires { cell < length (lists_of self.old) }
-        ensures same { lists_of self.new ≡ lists_of self.old }
+        requires { cell < length (neighbour_lists self.old) }
+        ensures same { neighbour_lists self.new ≡ neighbour_lists self.old }
         ensures room { OnOk result (HasRoom self.new cell) }
     {
         self.lists[cell as usize].reserve(1)
@@ -41,10 +41,10 @@ impl Neighbours {
 
     /// Puts `other` in order into the rising list of the cell, where there is room.
     pub fn insert(&mut self, cell: u32, other: u32)
-        requires cell { cell < length (lists_of self.old) }
+        requires cell { cell < length (neighbour_lists self.old) }
         requires room { HasRoom self.old cell }
-        requires rising { IsNonDecreasing (slice_index_or (lists_of self.old) cell []) }
-        ensures { lists_of self.new ≡ slice_set (lists_of self.old) cell (with_cell other (slice_index_or (lists_of self.old) cell [])) }
+        requires rising { IsNonDecreasing (slice_index_or (neighbour_lists self.old) cell []) }
+        ensures { neighbour_lists self.new ≡ slice_set (neighbour_lists self.old) cell (with_cell other (slice_index_or (neighbour_lists self.old) cell [])) }
     {
         let list = &mut self.lists[cell as usize];
         let at = list.partition_point(|&x| x < other);

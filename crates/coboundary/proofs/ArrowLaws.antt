@@ -10,16 +10,16 @@ use Rattle.cell_complex.specs.declared.face.Sign.{Sign}
 use Rattle.cell_complex.specs.Complexes.{AreApart, joins}
 use Rattle.dense_blocks.specs.Field.{Ops, IsField}
 use Rattle.dense_blocks.specs.Vectors.{zeros, plus}
-use Rattle.dense_blocks.specs.Matrices.{applied}
+use Rattle.dense_blocks.specs.Matrices.{image_of}
 use Rattle.dense_blocks.specs.Blocks.{matrix_of}
 use Rattle.dense_blocks.specs.declared.block.Block.{Block}
 use Rattle.dense_blocks.proofs.Shapes.{Vector}
 use Rattle.dense_blocks.proofs.VectorLaws.{plus-zeros}
 use Rattle.square_check.proofs.Placed.{some-same}
 use Rattle.cochain_vec.specs.Complexes.{Arrow, sum_into}
-use Rattle.cochain_vec.proofs.CoboundaryLaws.{RowsInto, applied-rows}
+use Rattle.cochain_vec.proofs.CoboundaryLaws.{RowsInto, image_of-rows}
 use Rattle.cochain_vec.proofs.PathLaws.{arrows_from}
-use Rattle.sheaf_data.specs.Betti.{signed, arrow_of_face, arrows_of}
+use Rattle.sheaf_data.specs.Betti.{signed_matrix, arrow_of_face, arrows_of}
 
 pub eqb-sym : (a b : ℕ) → eqb a b ≡ eqb b a
 eqb-sym a b = go (eqb a b) (eqb b a) refl refl
@@ -64,21 +64,21 @@ module _ (K : Ops) (F : IsField K) (s t n : ℕ) (value : ℕ → List ℕ) wher
   between fs bs = sum_into K (arrows_from (arrows_of K fs bs) s) value n t
 
   between-more : (f : Face) (fs : List Face) (b : Block) (bs : List Block)
-      → between (f ∷ fs) (b ∷ bs) ≡ cond (joins s t f) (plus K (applied K (signed K f.sign (matrix_of b)) (value s)) (between fs bs)) (between fs bs)
+      → between (f ∷ fs) (b ∷ bs) ≡ cond (joins s t f) (plus K (image_of K (signed_matrix K f.sign (matrix_of b)) (value s)) (between fs bs)) (between fs bs)
   between-more f fs b bs =
       go (eqb f.s s) (eqb-true f.s s)
-      ∙ ap₂ (λ x y. cond (x && y) (plus K (applied K A (value s)) rest) rest) (eqb-sym f.s s) (eqb-sym f.t t)
+      ∙ ap₂ (λ x y. cond (x && y) (plus K (image_of K A (value s)) rest) rest) (eqb-sym f.s s) (eqb-sym f.t t)
     where
       A : List (List ℕ)
-      A = signed K f.sign (matrix_of b)
+      A = signed_matrix K f.sign (matrix_of b)
 
       rest : List ℕ
       rest = between fs bs
 
       go : (x : Bool) → (x ≡ true → f.s ≡ s)
           → sum_into K (cond x (arrow_of_face K f b ∷ arrows_from (arrows_of K fs bs) s) (arrows_from (arrows_of K fs bs) s)) value n t
-          ≡ cond (x && eqb f.t t) (plus K (applied K A (value s)) rest) rest
-      go true e = ap (λ i. cond (eqb f.t t) (plus K (applied K A (value i)) rest) rest) (e refl)
+          ≡ cond (x && eqb f.t t) (plus K (image_of K A (value s)) rest) rest
+      go true e = ap (λ i. cond (eqb f.t t) (plus K (image_of K A (value i)) rest) rest) (e refl)
       go false e = refl
 
   pub between-none : (fs : List Face) (bs : List Block) → list_any (joins s t) fs ≡ false → between fs bs ≡ zeros n
@@ -86,7 +86,7 @@ module _ (K : Ops) (F : IsField K) (s t n : ℕ) (value : ℕ → List ℕ) wher
   between-none (f ∷ fs) [] h = refl
   between-none (f ∷ fs) (b ∷ bs) h =
       let p = or_parts (joins s t f) (list_any (joins s t) fs) h in
-      between-more f fs b bs ∙ ap (λ x. cond x (plus K (applied K (signed K f.sign (matrix_of b)) (value s)) (between fs bs)) (between fs bs)) p.0
+      between-more f fs b bs ∙ ap (λ x. cond x (plus K (image_of K (signed_matrix K f.sign (matrix_of b)) (value s)) (between fs bs)) (between fs bs)) p.0
       ∙ between-none fs bs p.1
 
   -- no later face joins what the first one does
@@ -100,7 +100,7 @@ module _ (K : Ops) (F : IsField K) (s t n : ℕ) (value : ℕ → List ℕ) wher
 
   pub between-face : (fs : List Face) (bs : List Block) → length bs ≡ length fs → AllPairs AreApart fs → RowsInto (arrows_of K fs bs) n t
       → (g : Sign) (b : Block) → option_map (λ f. f.sign) (find (joins s t) fs) ≡ Some g → option_and_then (slice_get bs) (position (joins s t) fs) ≡ Some b
-      → between fs bs ≡ applied K (signed K g (matrix_of b)) (value s)
+      → between fs bs ≡ image_of K (signed_matrix K g (matrix_of b)) (value s)
   unfolding RowsInto
   between-face [] bs e h rows g b is_sign is_block = cc
   between-face (f ∷ fs) [] e h rows g b is_sign is_block = absurd (omega arith)
@@ -114,21 +114,21 @@ module _ (K : Ops) (F : IsField K) (s t n : ℕ) (value : ℕ → List ℕ) wher
       Rows a = a.to ≡ t → length a.matrix ≡ n
 
       first : List ℕ
-      first = applied K (signed K f.sign (matrix_of c)) (value s)
+      first = image_of K (signed_matrix K f.sign (matrix_of c)) (value s)
 
       go : (x : Bool) → joins s t f ≡ x
           → (option_map (λ (f : Face). f.sign) (find (joins s t) fs) ≡ Some g → option_and_then (slice_get bs) (position (joins s t) fs) ≡ Some b
-          → between fs bs ≡ applied K (signed K g (matrix_of b)) (value s))
-          → cond x (plus K first (between fs bs)) (between fs bs) ≡ applied K (signed K g (matrix_of b)) (value s)
+          → between fs bs ≡ image_of K (signed_matrix K g (matrix_of b)) (value s))
+          → cond x (plus K first (between fs bs)) (between fs bs) ≡ image_of K (signed_matrix K g (matrix_of b)) (value s)
       go true at later =
           let ends = and_parts (nat_eq s f.s) (nat_eq t f.t) at in
           let sign : Some f.sign ≡ Some g = ap (λ x. option_map (λ (f : Face). f.sign) (cond x (Some f) (find (joins s t) fs))) (sym at) ∙ is_sign in
           let block : Some c ≡ Some b = sym (at_place-front (joins s t) f fs c bs at) ∙ is_block in
           let none : between fs bs ≡ zeros n = between-none fs bs (apart f fs at (λ i d l. h 0 (suc i) d (omega arith) (omega arith))) in
           let shape : Vector K n first =
-          applied-rows K F n (signed K f.sign (matrix_of c)) (value s) (All-head Rows (arrow_of_face K f c) (arrows_of K fs bs) rows (sym (eqb-true t f.t ends.1))) in
+          image_of-rows K F n (signed_matrix K f.sign (matrix_of c)) (value s) (All-head Rows (arrow_of_face K f c) (arrows_of K fs bs) rows (sym (eqb-true t f.t ends.1))) in
           ap (plus K first) none ∙ plus-zeros K F n first shape
-          ∙ ap₂ (λ x y. applied K (signed K x (matrix_of y)) (value s)) (some-same f.sign g sign) (some-same c b block)
+          ∙ ap₂ (λ x y. image_of K (signed_matrix K x (matrix_of y)) (value s)) (some-same f.sign g sign) (some-same c b block)
       go false at later =
           later (ap (option_map (λ (f : Face). f.sign)) (sym (find-behind (joins s t) f fs at)) ∙ is_sign)
           (sym (at_place-behind (joins s t) f fs c bs at) ∙ is_block)

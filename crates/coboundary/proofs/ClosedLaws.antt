@@ -1,4 +1,4 @@
--- The coboundary of a coboundary of a sheaf is zero: between two cells are no paths of two faces, or two that cancel.
+-- The coboundary of a coboundary of a sheaf is zero: between two all_cells are no paths of two faces, or two that cancel.
 use Rattle.std.proofs.Common.{◌≡◌, ℕ, zero, suc, ◌+◌, ◌<◌, ◌≤◌, Bool, true, false, cond, ◌&&◌, ◌⊎◌, ⊎_elim, eqb, List, [], ◌∷◌, length, filter, get_or, slice_index, Some, All, refl, sym, ap, ap₂, ◌∙◌, subst, arith}
 use Rattle.std.specs.Prelude.{◌==◌}
 use Rattle.std.specs.List.{range_with_len}
@@ -7,64 +7,64 @@ use Rattle.std.proofs.lemmas.Bool.{true≢false, and_cases, eqb-true, eqb-false,
 use Rattle.std.proofs.lemmas.List.{length-map}
 use Rattle.std.proofs.lemmas.List.Elements.{All-cons, All-filter, filter_passes}
 use Rattle.cell_complex.specs.declared.face.Sign.{Sign}
-use Rattle.cell_complex.specs.Complexes.{CellComplex, IsComplex, cells, is_face, middles}
+use Rattle.cell_complex.specs.Complexes.{CellComplex, IsComplex, all_cells, is_face, middles}
 use Rattle.cell_complex.proofs.Callers.{incident_from_face}
 use Rattle.incidence_check.specs.Incidences.{HasOppositeMiddles, are_opposite, times}
 use Rattle.incidence_check.specs.Incidences as incidences
 use Rattle.dense_blocks.specs.Field.{Ops, IsField}
 use Rattle.dense_blocks.specs.Vectors.{AllScalars, zeros, plus, combination}
-use Rattle.dense_blocks.specs.Matrices.{applied, product}
+use Rattle.dense_blocks.specs.Matrices.{image_of, product}
 use Rattle.dense_blocks.specs.Blocks.{matrix_of}
 use Rattle.dense_blocks.specs.declared.block.Block.{Block}
 use Rattle.dense_blocks.proofs.Shapes.{Vector, matrix-size}
 use Rattle.dense_blocks.proofs.VectorLaws.{plus-zeros}
-use Rattle.dense_blocks.proofs.MatrixLaws.{applied-zeros}
+use Rattle.dense_blocks.proofs.MatrixLaws.{image_of-zeros}
 use Rattle.dense_blocks.proofs.BlockLaws.{block-matrix, block-matrix_at}
 use Rattle.square_check.specs.Squares.{AreRestrictions, through}
 use Rattle.square_check.proofs.Placed.{restriction-fits, face-fits, some-same, all-at}
 use Rattle.square_check.proofs.Commuting.{IsBetween, between-head, between-second, through-is}
 use Rattle.cochain_vec.specs.declared.cell.Cell.{Cell}
 use Rattle.cochain_vec.specs.Complexes.{Arrow, CellularComplex, cells_of, value_at, sum_into, RowsFit}
-use Rattle.cochain_vec.proofs.CoboundaryLaws.{size_at, RowsInto, applied-rows, sum_into-vector}
+use Rattle.cochain_vec.proofs.CoboundaryLaws.{size_at, RowsInto, image_of-rows, sum_into-vector}
 use Rattle.cochain_vec.proofs.PathLaws.{sum_over, sum_over-filter, arrows_from, ComeFrom, after, AreSizes, rows_from, coboundary-coboundary, coboundary-cocycle}
 use Rattle.sheaf_data.specs.Sheaves.{IsSheaf}
-use Rattle.sheaf_data.specs.Betti.{numbered, signed, cochain_complex_of}
+use Rattle.sheaf_data.specs.Betti.{numbered_cells, signed_matrix, cochain_complex_of}
 use Rattle.coboundary.specs.Closed.{CoboundaryOfCoboundaryIsZero, CoboundariesAreCocycles}
 use Rattle.coboundary.proofs.ArrowLaws.{between-none, between-face, all-arrows}
-use Rattle.coboundary.proofs.MiddleLaws.{signed_vector, signed-matrix, signed-twice, opposite-cancel, has_arrow}
+use Rattle.coboundary.proofs.MiddleLaws.{signed_vector, signed_matrix-matrix, signed_matrix-twice, opposite-cancel, has_arrow}
 
--- what holds of the cell at each place holds of all numbered cells
-pub all-numbered : (P : Cell → Type 0) (n : ℕ) (dims stalks : List ℕ) → length stalks ≡ length dims
-    → ((i : ℕ) → i < length dims → P (record { cell = n + i; degree = slice_index dims i; size = slice_index stalks i })) → All P (numbered n dims stalks)
-all-numbered P n [] stalks e h = λ k d l. absurd (omega arith)
-all-numbered P n (d ∷ dims) [] e h = absurd (omega arith)
-all-numbered P n (d ∷ dims) (size ∷ stalks) e h =
+-- what holds of the cell at each place holds of all numbered_cells all_cells
+pub all-numbered_cells : (P : Cell → Type 0) (n : ℕ) (dims stalks : List ℕ) → length stalks ≡ length dims
+    → ((i : ℕ) → i < length dims → P (record { cell = n + i; degree = slice_index dims i; size = slice_index stalks i })) → All P (numbered_cells n dims stalks)
+all-numbered_cells P n [] stalks e h = λ k d l. absurd (omega arith)
+all-numbered_cells P n (d ∷ dims) [] e h = absurd (omega arith)
+all-numbered_cells P n (d ∷ dims) (size ∷ stalks) e h =
     let start : n + 0 ≡ n = omega arith in
-    All-cons P (record { cell = n; degree = d; size = size }) (numbered (n + 1) dims stalks)
+    All-cons P (record { cell = n; degree = d; size = size }) (numbered_cells (n + 1) dims stalks)
     (subst (λ m. P (record { cell = m; degree = d; size = size })) start (h 0 (omega arith)))
-    (all-numbered P (n + 1) dims stalks (omega arith) (λ i l.
+    (all-numbered_cells P (n + 1) dims stalks (omega arith) (λ i l.
     let step : n + suc i ≡ (n + 1) + i = omega arith in
     subst (λ m. P (record { cell = m; degree = slice_index dims i; size = slice_index stalks i })) step (h (suc i) (omega arith))))
 
--- among the cells of its degree, a cell has its size
-size-numbered : (k n i : ℕ) (dims stalks : List ℕ) → length stalks ≡ length dims → i < length dims → slice_index dims i ≡ k
-    → size_at (filter (λ c. c.degree == k) (numbered n dims stalks)) (n + i) ≡ slice_index stalks i
+-- among the all_cells of its degree, a cell has its size
+size-numbered_cells : (k n i : ℕ) (dims stalks : List ℕ) → length stalks ≡ length dims → i < length dims → slice_index dims i ≡ k
+    → size_at (filter (λ c. c.degree == k) (numbered_cells n dims stalks)) (n + i) ≡ slice_index stalks i
 unfolding size_at
-size-numbered k n i [] stalks e l is = absurd (omega arith)
-size-numbered k n i (d ∷ dims) [] e l is = absurd (omega arith)
-size-numbered k n zero (d ∷ dims) (size ∷ stalks) e l is =
+size-numbered_cells k n i [] stalks e l is = absurd (omega arith)
+size-numbered_cells k n i (d ∷ dims) [] e l is = absurd (omega arith)
+size-numbered_cells k n zero (d ∷ dims) (size ∷ stalks) e l is =
     ap (λ b. size_at (cond b (record { cell = n; degree = d; size = size } ∷ rest) rest) (n + 0)) (eq-eqb d k is)
     ∙ ap (λ b. cond b size (size_at rest (n + 0))) (eq-eqb n (n + 0) (omega arith))
   where
     rest : List Cell
-    rest = filter (λ c. c.degree == k) (numbered (n + 1) dims stalks)
-size-numbered k n (suc i) (d ∷ dims) (size ∷ stalks) e l is =
+    rest = filter (λ c. c.degree == k) (numbered_cells (n + 1) dims stalks)
+size-numbered_cells k n (suc i) (d ∷ dims) (size ∷ stalks) e l is =
     go (eqb d k)
     ∙ ap (size_at rest) step
-    ∙ size-numbered k (n + 1) i dims stalks (omega arith) (omega arith) is
+    ∙ size-numbered_cells k (n + 1) i dims stalks (omega arith) (omega arith) is
   where
     rest : List Cell
-    rest = filter (λ c. c.degree == k) (numbered (n + 1) dims stalks)
+    rest = filter (λ c. c.degree == k) (numbered_cells (n + 1) dims stalks)
 
     step : n + suc i ≡ (n + 1) + i
     step = omega arith
@@ -111,14 +111,14 @@ module _ (K : Ops) (F : IsField K) (c : CellComplex) (stalks : List ℕ) (blocks
       let shapes = sheaf.restrictions.shapes in
       let matrix = block-matrix_at K b (size f.t) (size f.s) (shapes.rows p f b is_f is_b) (shapes.cols p f b is_f is_b)
       (all-at (λ (b : Block). AllScalars K b.entries) blocks p b sheaf.restrictions.scalars is_b) in
-      matrix-size K (size f.t) (size f.s) (signed K f.sign (matrix_of b)) (signed-matrix K F (size f.t) (size f.s) f.sign (matrix_of b) matrix) ∙ ap size e)
+      matrix-size K (size f.t) (size f.s) (signed_matrix K f.sign (matrix_of b)) (signed_matrix-matrix K F (size f.t) (size f.s) f.sign (matrix_of b) matrix) ∙ ap size e)
 
-  pub from_cells : ComeFrom W.arrows (cells c)
-  from_cells = all-arrows K (λ (a : Arrow). length (filter (λ s. a.from == s) (cells c)) ≡ 1) c.faces blocks
+  pub from_cells : ComeFrom W.arrows (all_cells c)
+  from_cells = all-arrows K (λ (a : Arrow). length (filter (λ s. a.from == s) (all_cells c)) ≡ 1) c.faces blocks
       (λ p f b is_f is_b. let fit = face-fits c complex p f is_f in once-in-range f.s 0 (length c.dims) (omega arith) (omega (arith, fit.s_is_cell)))
 
   sized : All (λ (u : Cell). (u.size ≡ size u.cell) × (u.degree ≡ slice_index c.dims u.cell)) W.cells
-  sized = all-numbered (λ (u : Cell). (u.size ≡ size u.cell) × (u.degree ≡ slice_index c.dims u.cell)) 0 c.dims stalks sheaf.one_each
+  sized = all-numbered_cells (λ (u : Cell). (u.size ≡ size u.cell) × (u.degree ≡ slice_index c.dims u.cell)) 0 c.dims stalks sheaf.one_each
       (λ i l. let start : i ≡ 0 + i = omega arith in (ap size start, ap (slice_index c.dims) start))
 
   fits : RowsFit W
@@ -141,7 +141,7 @@ module _ (K : Ops) (F : IsField K) (c : CellComplex) (stalks : List ℕ) (blocks
           let fit = face-fits c complex p f is_f in
           let start : f.s ≡ 0 + f.s = omega arith in
           ap (size_at (cells_of W (suc k))) start
-          ∙ size-numbered (suc k) 0 f.s c.dims stalks sheaf.one_each fit.s_is_cell (omega (arith, fit.one_up, ap (slice_index c.dims) e)))
+          ∙ size-numbered_cells (suc k) 0 f.s c.dims stalks sheaf.one_each fit.s_is_cell (omega (arith, fit.one_up, ap (slice_index c.dims) e)))
 
   -- from the cell s to the cell u
   module _ (value : ℕ → List ℕ) (s u : ℕ) where
@@ -165,20 +165,20 @@ module _ (K : Ops) (F : IsField K) (c : CellComplex) (stalks : List ℕ) (blocks
             let a = has_arrow c blocks same t u e in
             let none : is_face c s t ≡ false = ⊎_elim (λ (h : is_face c s t ≡ false). h) (λ (h : is_face c t u ≡ false). absurd (true≢false (sym e ∙ h))) either in
             let fit = restriction-fits K c blocks from_stalks t u a.its_block e a.block_is in
-            let A = signed K a.its_sign (matrix_of a.its_block) in
+            let A = signed_matrix K a.its_sign (matrix_of a.its_block) in
             between-face K F t u (size u) low c.faces blocks same complex.apart (rows u) a.its_sign a.its_block a.sign_is a.block_is
-            ∙ ap (applied K A) (between-none K F s t (size t) value c.faces blocks none)
-            ∙ applied-zeros K F (size t) (size u) (size t) A
-            (signed-matrix K F (size u) (size t) a.its_sign (matrix_of a.its_block) (block-matrix_at K a.its_block (size u) (size t) fit.rows fit.cols fit.scalars))
+            ∙ ap (image_of K A) (between-none K F s t (size t) value c.faces blocks none)
+            ∙ image_of-zeros K F (size t) (size u) (size t) A
+            (signed_matrix-matrix K F (size u) (size t) a.its_sign (matrix_of a.its_block) (block-matrix_at K a.its_block (size u) (size t) fit.rows fit.cols fit.scalars))
 
     -- the product of the signs times the product of the restrictions where t is between
     record Passes (t : ℕ) : Type 0 where
       its_sign : Sign
       its_matrix : List (List ℕ)
-      sign_is : incidences.product c s t u ≡ Some its_sign
+      sign_is : incidences.sign_product c s t u ≡ Some its_sign
       matrix_is : through K c blocks s t u ≡ Some its_matrix
-      vector : Vector K (size u) (applied K its_matrix (value s))
-      acts : at t ≡ signed_vector K its_sign (applied K its_matrix (value s))
+      vector : Vector K (size u) (image_of K its_matrix (value s))
+      acts : at t ≡ signed_vector K its_sign (image_of K its_matrix (value s))
 
     passes : (t : ℕ) → IsBetween c s u t → Passes t
     passes t h =
@@ -196,21 +196,21 @@ module _ (K : Ops) (F : IsField K) (c : CellComplex) (stalks : List ℕ) (blocks
           its_matrix = product K n A B;
           sign_is = ap₂ (λ a b. option_and_then (λ x. option_map (times x) b) a) low.sign_is up.sign_is;
           matrix_is = through-is K c blocks s t u low.its_block up.its_block low.block_is up.block_is;
-          vector = applied-rows K F (size u) (product K n A B) (value s) (length-map A (λ row. combination K n row B) ∙ size_is);
+          vector = image_of-rows K F (size u) (product K n A B) (value s) (length-map A (λ row. combination K n row B) ∙ size_is);
           acts =
               between-face K F t u (size u) (after K W.arrows size value s) c.faces blocks same complex.apart (rows u) up.its_sign up.its_block up.sign_is up.block_is
-              ∙ ap (applied K (signed K up.its_sign A))
+              ∙ ap (image_of K (signed_matrix K up.its_sign A))
               (between-face K F s t (size t) value c.faces blocks same complex.apart (rows t) low.its_sign low.its_block low.sign_is low.block_is)
-              ∙ signed-twice K F low.its_block.rows n low.its_sign up.its_sign A B (value s) B_is
-              (applied-rows K F (length A) A (applied K B (value s)) refl);
+              ∙ signed_matrix-twice K F low.its_block.rows n low.its_sign up.its_sign A B (value s) B_is
+              (image_of-rows K F (length A) A (image_of K B (value s)) refl);
         }
 
-    two : (a b : ℕ) → Passes a → Passes b → are_opposite (incidences.product c s a u) (incidences.product c s b u) ≡ true
+    two : (a b : ℕ) → Passes a → Passes b → are_opposite (incidences.sign_product c s a u) (incidences.sign_product c s b u) ≡ true
         → through K c blocks s a u ≡ through K c blocks s b u → sum_over K (size u) at (a ∷ b ∷ []) ≡ zeros (size u)
     two a b p q opposite e =
         let one : p.its_matrix ≡ q.its_matrix = some-same p.its_matrix q.its_matrix (sym p.matrix_is ∙ e ∙ q.matrix_is) in
-        let v = applied K p.its_matrix (value s) in
-        ap₂ (plus K) p.acts (plus-zeros K F (size u) (at b) (at-vector b) ∙ q.acts ∙ ap (λ A. signed_vector K q.its_sign (applied K A (value s))) (sym one))
+        let v = image_of K p.its_matrix (value s) in
+        ap₂ (plus K) p.acts (plus-zeros K F (size u) (at b) (at-vector b) ∙ q.acts ∙ ap (λ A. signed_vector K q.its_sign (image_of K A (value s))) (sym one))
         ∙ opposite-cancel K F (size u) p.its_sign q.its_sign v p.vector (ap₂ are_opposite (sym p.sign_is) (sym q.sign_is) ∙ opposite)
 
     both : HasOppositeMiddles c s u → sum_over K (size u) at (middles c s u) ≡ zeros (size u)
@@ -220,9 +220,9 @@ module _ (K : Ops) (F : IsField K) (c : CellComplex) (stalks : List ℕ) (blocks
         (passes m.second (between-second c s u m.first m.second [] m.middles)) m.opposite
         (subst (λ ts. All (λ t. All (λ v. through K c blocks s t u ≡ through K c blocks s v u) ts) ts) m.middles (sheaf.commutes s u) 0 0 (omega arith) 1 0 (omega arith))
 
-    cancelled : sum_over K (size u) at (cells c) ≡ zeros (size u)
+    cancelled : sum_over K (size u) at (all_cells c) ≡ zeros (size u)
     cancelled =
-        sum_over-filter K F (size u) at (λ t. is_face c s t && is_face c t u) (cells c) at-vector at-elsewhere
+        sum_over-filter K F (size u) at (λ t. is_face c s t && is_face c t u) (all_cells c) at-vector at-elsewhere
         ∙ go (middles c s u) refl
       where
         go : (ts : List ℕ) → middles c s u ≡ ts → sum_over K (size u) at (middles c s u) ≡ zeros (size u)
@@ -237,7 +237,7 @@ module _ (K : Ops) (F : IsField K) (c : CellComplex) (stalks : List ℕ) (blocks
 pub dd_zero : CoboundaryOfCoboundaryIsZero
 dd_zero K c stalks blocks F complex sheaf k z is_cochain =
     coboundary-coboundary K F (W K F c stalks blocks complex sheaf) (fits K F c stalks blocks complex sheaf) k (slice_index stalks) (sizes K F c stalks blocks complex sheaf k)
-    (cells c) (from_cells K F c stalks blocks complex sheaf) z
+    (all_cells c) (from_cells K F c stalks blocks complex sheaf) z
     (cancelled K F c stalks blocks complex sheaf (value_at (cells_of (cochain_complex_of K c stalks blocks) k) z))
 
 pub coboundaries_are_cocycles : CoboundariesAreCocycles

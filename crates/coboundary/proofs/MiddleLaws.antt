@@ -10,15 +10,15 @@ use Rattle.cell_complex.specs.declared.face.Sign.TheVariants.{Plus, Minus}
 use Rattle.cell_complex.specs.Complexes.{CellComplex, joins, is_face, sign}
 use Rattle.dense_blocks.specs.Field.{Ops, IsField}
 use Rattle.dense_blocks.specs.Vectors.{zeros, plus, negative}
-use Rattle.dense_blocks.specs.Matrices.{applied, product}
+use Rattle.dense_blocks.specs.Matrices.{image_of, product}
 use Rattle.dense_blocks.specs.declared.block.Block.{Block}
 use Rattle.dense_blocks.proofs.Shapes.{Vector, Matrix}
 use Rattle.dense_blocks.proofs.VectorLaws.{negative-negative, negative-plus, plus-negative}
-use Rattle.dense_blocks.proofs.MatrixLaws.{applied-negative, matrix_negative-applied, matrix_negative-matrix, product-applied}
+use Rattle.dense_blocks.proofs.MatrixLaws.{image_of-negative, matrix_negative-image_of, matrix_negative-matrix, product-image_of}
 use Rattle.incidence_check.specs.Incidences.{are_opposite, times}
 use Rattle.square_check.specs.Squares.{restriction}
 use Rattle.square_check.proofs.Placed.{placed}
-use Rattle.sheaf_data.specs.Betti.{signed}
+use Rattle.sheaf_data.specs.Betti.{signed_matrix}
 
 -- a vector with a sign
 abbrev pub signed_vector : Ops → Sign → List ℕ → List ℕ
@@ -26,32 +26,32 @@ signed_vector K Plus v = v
 signed_vector K Minus v = negative K v
 
 module _ (K : Ops) (F : IsField K) where
-  signed-applied : (g : Sign) (A : List (List ℕ)) (v : List ℕ) → applied K (signed K g A) v ≡ signed_vector K g (applied K A v)
-  signed-applied Plus A v = refl
-  signed-applied Minus A v = matrix_negative-applied K F A v
+  signed_matrix-image_of : (g : Sign) (A : List (List ℕ)) (v : List ℕ) → image_of K (signed_matrix K g A) v ≡ signed_vector K g (image_of K A v)
+  signed_matrix-image_of Plus A v = refl
+  signed_matrix-image_of Minus A v = matrix_negative-image_of K F A v
 
-  applied-signed : (g : Sign) (A : List (List ℕ)) (v : List ℕ) → applied K A (signed_vector K g v) ≡ signed_vector K g (applied K A v)
-  applied-signed Plus A v = refl
-  applied-signed Minus A v = applied-negative K F A v
+  image_of-signed_matrix : (g : Sign) (A : List (List ℕ)) (v : List ℕ) → image_of K A (signed_vector K g v) ≡ signed_vector K g (image_of K A v)
+  image_of-signed_matrix Plus A v = refl
+  image_of-signed_matrix Minus A v = image_of-negative K F A v
 
-  signed-signed : (n : ℕ) (g h : Sign) (v : List ℕ) → Vector K n v → signed_vector K h (signed_vector K g v) ≡ signed_vector K (times g h) v
-  signed-signed n Plus h v s = refl
-  signed-signed n Minus Plus v s = refl
-  signed-signed n Minus Minus v s = negative-negative K F n v s
+  signed_matrix-signed_matrix : (n : ℕ) (g h : Sign) (v : List ℕ) → Vector K n v → signed_vector K h (signed_vector K g v) ≡ signed_vector K (times g h) v
+  signed_matrix-signed_matrix n Plus h v s = refl
+  signed_matrix-signed_matrix n Minus Plus v s = refl
+  signed_matrix-signed_matrix n Minus Minus v s = negative-negative K F n v s
 
-  pub signed-matrix : (m n : ℕ) (g : Sign) (A : List (List ℕ)) → Matrix K m n A → Matrix K m n (signed K g A)
-  signed-matrix m n Plus A h = h
-  signed-matrix m n Minus A h = matrix_negative-matrix K F m n A h
+  pub signed_matrix-matrix : (m n : ℕ) (g : Sign) (A : List (List ℕ)) → Matrix K m n A → Matrix K m n (signed_matrix K g A)
+  signed_matrix-matrix m n Plus A h = h
+  signed_matrix-matrix m n Minus A h = matrix_negative-matrix K F m n A h
 
   -- two signs in turn are their product
-  pub signed-twice : (m n : ℕ) (g h : Sign) (A B : List (List ℕ)) (v : List ℕ) → Matrix K m n B → Vector K (length A) (applied K A (applied K B v))
-      → applied K (signed K h A) (applied K (signed K g B) v) ≡ signed_vector K (times g h) (applied K (product K n A B) v)
-  signed-twice m n g h A B v shape vector =
-      signed-applied h A (applied K (signed K g B) v)
-      ∙ ap (λ w. signed_vector K h (applied K A w)) (signed-applied g B v)
-      ∙ ap (signed_vector K h) (applied-signed g A (applied K B v))
-      ∙ signed-signed (length A) g h (applied K A (applied K B v)) vector
-      ∙ ap (signed_vector K (times g h)) (sym (product-applied K F m n A B v shape))
+  pub signed_matrix-twice : (m n : ℕ) (g h : Sign) (A B : List (List ℕ)) (v : List ℕ) → Matrix K m n B → Vector K (length A) (image_of K A (image_of K B v))
+      → image_of K (signed_matrix K h A) (image_of K (signed_matrix K g B) v) ≡ signed_vector K (times g h) (image_of K (product K n A B) v)
+  signed_matrix-twice m n g h A B v shape vector =
+      signed_matrix-image_of h A (image_of K (signed_matrix K g B) v)
+      ∙ ap (λ w. signed_vector K h (image_of K A w)) (signed_matrix-image_of g B v)
+      ∙ ap (signed_vector K h) (image_of-signed_matrix g A (image_of K B v))
+      ∙ signed_matrix-signed_matrix (length A) g h (image_of K A (image_of K B v)) vector
+      ∙ ap (signed_vector K (times g h)) (sym (product-image_of K F m n A B v shape))
 
   -- a vector with opposite signs adds up to zero
   pub opposite-cancel : (n : ℕ) (g h : Sign) (v : List ℕ) → Vector K n v → are_opposite (Some g) (Some h) ≡ true

@@ -11,13 +11,13 @@ use Rattle.dense_blocks.specs.declared.block.Block.{Block}
 use Rattle.dense_blocks.proofs.BlockLaws.{block-matrix}
 use Rattle.square_check.proofs.Placed.{face-fits, all-at}
 use Rattle.sheaf_data.specs.Sheaves.{SheafData, IsDraft}
-use Rattle.sheaf_data.specs.Betti.{numbered, signed}
-use Rattle.block_sparse.specs.StoredBlocks.{Fits}
-use Rattle.block_sparse.specs.Grids.{placed}
+use Rattle.sheaf_data.specs.Betti.{numbered_cells, signed_matrix}
+use Rattle.block_sparse.specs.StoredBlocks.{FitsPair}
+use Rattle.block_sparse.specs.Grids.{as_block}
 use Rattle.coboundary.specs.Start.{with_stalks}
 use Rattle.coboundary.proofs.LiveLaws.{fits-live}
-use Rattle.coboundary.proofs.MiddleLaws.{signed-matrix}
-use Rattle.coboundary.proofs.StartLaws.{placed-empty}
+use Rattle.coboundary.proofs.MiddleLaws.{signed_matrix-matrix}
+use Rattle.coboundary.proofs.StartLaws.{as_block-empty}
 
 -- f is the face at the place, and b its block
 pub record IsNext {F : Type 0} (K : Ops) (d : SheafData F) (place : ℕ) (f : Face) (b : Block) : Type 0 where
@@ -45,14 +45,14 @@ module _ {F : Type 0} (K : Ops) (field : IsField K) (d : SheafData F) (complex :
   scalars = all-at (λ (b : Block). AllScalars K b.entries) d.blocks place b next.fit.blocks_fit.scalars next.block_is
 
   -- a block without entries puts nothing
-  pub next-placed : length b.entries ≡ 0 → placed (signed K f.sign (matrix_of b)) ≡ None
-  next-placed e =
-      placed-empty K b.rows b.cols (signed K f.sign (matrix_of b)) (signed-matrix K field b.rows b.cols f.sign (matrix_of b) (block-matrix K b scalars))
+  pub next-as_block : length b.entries ≡ 0 → as_block (signed_matrix K f.sign (matrix_of b)) ≡ None
+  next-as_block e =
+      as_block-empty K b.rows b.cols (signed_matrix K f.sign (matrix_of b)) (signed_matrix-matrix K field b.rows b.cols f.sign (matrix_of b) (block-matrix K b scalars))
       (omega (arith, b.full))
 
   -- and one with entries goes between live cells
-  pub next-fits : (made : Block) → IsBlock made b.rows b.cols (signed K f.sign (matrix_of b)) → length b.entries ≢ 0
-      → Fits (with_stalks (numbered 0 d.complex.dims d.stalks)) f.s f.t made
+  pub next-fits : (made : Block) → IsBlock made b.rows b.cols (signed_matrix K f.sign (matrix_of b)) → length b.entries ≢ 0
+      → FitsPair (with_stalks (numbered_cells 0 d.complex.dims d.stalks)) f.s f.t made
   next-fits made is some =
       let shapes = next.fit.blocks_fit.shapes in
       fits-live d.complex.dims d.stalks next.fit.stalks_fit.one_each f made (face-fits d.complex complex place f next.face_is)

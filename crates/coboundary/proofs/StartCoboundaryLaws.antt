@@ -13,12 +13,12 @@ use Rattle.cell_complex.specs.Complexes as complexes
 use Rattle.cell_complex.proofs.Callers.{incident_from_face}
 use Rattle.dense_blocks.specs.Field.{Ops, IsField}
 use Rattle.dense_blocks.specs.Vectors.{IsVector, zeros}
-use Rattle.dense_blocks.specs.Matrices.{applied, zero_matrix}
+use Rattle.dense_blocks.specs.Matrices.{image_of, zero_matrix}
 use Rattle.dense_blocks.specs.Blocks.{matrix_of}
 use Rattle.dense_blocks.specs.declared.block.Block.{Block}
 use Rattle.dense_blocks.proofs.VectorLaws.{dot-nil}
 use Rattle.dense_blocks.proofs.Shapes.{Matrix, matrix-size, from_matrix}
-use Rattle.dense_blocks.proofs.MatrixLaws.{zero_matrix-matrix, zero_matrix-applied}
+use Rattle.dense_blocks.proofs.MatrixLaws.{zero_matrix-matrix, zero_matrix-image_of}
 use Rattle.dense_blocks.proofs.BlockLaws.{block-matrix_at}
 use Rattle.square_check.specs.Squares.{restriction}
 use Rattle.square_check.proofs.Placed.{restriction-fits}
@@ -35,13 +35,13 @@ use Rattle.block_complexes.proofs.LiveLaws.{cell-at, length-cells, of_cell-at}
 use Rattle.block_complexes.proofs.SumLaws.{arriving, arriving-vector, sum_into-live, sum_over-some}
 use Rattle.block_complexes.proofs.DegreeLaws.{value-absent}
 use Rattle.sheaf_data.specs.Sheaves.{IsSheaf}
-use Rattle.sheaf_data.specs.Betti.{numbered, signed, cochain_complex_of}
+use Rattle.sheaf_data.specs.Betti.{numbered_cells, signed_matrix, cochain_complex_of}
 use Rattle.coboundary.specs.Start.{face_matrix, or_zeros, start_complex, with_stalks}
 use Rattle.coboundary.specs.StartCoboundary.{StartIsBlockComplex, StartHasTheCoboundary, StartIsCochainComplex, StartHasTheCohomology}
 use Rattle.coboundary.proofs.ArrowLaws.{between-none, between-face}
-use Rattle.coboundary.proofs.MiddleLaws.{has_arrow, signed-matrix}
-use Rattle.coboundary.proofs.ClosedLaws.{all-numbered, from_stalks, rows, from_cells, dd_zero}
-use Rattle.coboundary.proofs.LiveLaws.{numbered-rising, with_stalks-rising, with_stalks-sizes}
+use Rattle.coboundary.proofs.MiddleLaws.{has_arrow, signed_matrix-matrix}
+use Rattle.coboundary.proofs.ClosedLaws.{all-numbered_cells, from_stalks, rows, from_cells, dd_zero}
+use Rattle.coboundary.proofs.LiveLaws.{numbered_cells-rising, with_stalks-rising, with_stalks-sizes}
 
 not-found : {X : Type 0} (p : X → Bool) (xs : List X) → list_any p xs ≡ false → find p xs ≡ None
 not-found p [] h = refl
@@ -73,7 +73,7 @@ cells-of-rows (c ∷ cs) = ap (λ t. c ∷ t) (cells-of-rows cs)
 
 -- v has the live cells and the matrices of the start complex
 record IsStartAt (K : Ops) (c : CellComplex) (stalks : List ℕ) (blocks : List Block) (v : BlockComplex) : Type 0 where
-  live : v.live ≡ with_stalks (numbered 0 c.dims stalks)
+  live : v.live ≡ with_stalks (numbered_cells 0 c.dims stalks)
   matrices : (s t : ℕ) → v.matrix s t ≡ or_zeros (face_matrix K c blocks s t) (size_of v.live t) (size_of v.live s)
 
 starts : (K : Ops) (c : CellComplex) (stalks : List ℕ) (blocks : List Block) → IsStartAt K c stalks blocks (start_complex K c stalks blocks)
@@ -107,7 +107,7 @@ module _ (K : Ops) (F : IsField K) (c : CellComplex) (stalks : List ℕ) (blocks
       subst (All (λ (l : ℕ × ℕ × ℕ). (l.0 < length c.dims) × (l.2 ≡ size l.0) × (l.1 ≡ slice_index c.dims l.0))) (sym start.live)
       (All-map (λ (l : ℕ × ℕ × ℕ). (l.0 < length c.dims) × (l.2 ≡ size l.0) × (l.1 ≡ slice_index c.dims l.0)) (λ (u : Cell). (u.cell, u.degree, u.size)) kept
       (All-filter has_coordinates (λ (u : Cell). (u.cell < length c.dims) × (u.size ≡ size u.cell) × (u.degree ≡ slice_index c.dims u.cell)) W.cells
-      (all-numbered (λ (u : Cell). (u.cell < length c.dims) × (u.size ≡ size u.cell) × (u.degree ≡ slice_index c.dims u.cell)) 0 c.dims stalks sheaf.one_each
+      (all-numbered_cells (λ (u : Cell). (u.cell < length c.dims) × (u.size ≡ size u.cell) × (u.degree ≡ slice_index c.dims u.cell)) 0 c.dims stalks sheaf.one_each
       (λ i l. let same : i ≡ 0 + i = omega arith in (omega arith, ap size same, ap (slice_index c.dims) same)))))
 
   alive : (t : ℕ) → has t (cells v.live) ≡ true → IsAlive t
@@ -127,23 +127,23 @@ module _ (K : Ops) (F : IsField K) (c : CellComplex) (stalks : List ℕ) (blocks
     its_matrix : List (List ℕ)
     is : face_matrix K c blocks s t ≡ Some its_matrix
     shape : Matrix K (size t) (size s) its_matrix
-    acts : (value : ℕ → List ℕ) → sum_into K (arrows_from W.arrows s) value (size t) t ≡ applied K its_matrix (value s)
+    acts : (value : ℕ → List ℕ) → sum_into K (arrows_from W.arrows s) value (size t) t ≡ image_of K its_matrix (value s)
 
   joined : (s t : ℕ) → is_face c s t ≡ true → Joined s t
   joined s t h =
       let a = has_arrow c blocks sheaf.restrictions.shapes.count s t h in
       let fit = restriction-fits K c blocks (from_stalks K F c stalks blocks complex sheaf) s t a.its_block h a.block_is in
       record {
-        its_matrix = signed K a.its_sign (matrix_of a.its_block);
-        is = ap₂ (λ g r. option_and_then (λ g. option_map (λ b. signed K g (matrix_of b)) r) g) a.sign_is a.block_is;
-        shape = signed-matrix K F (size t) (size s) a.its_sign (matrix_of a.its_block) (block-matrix_at K a.its_block (size t) (size s) fit.rows fit.cols fit.scalars);
+        its_matrix = signed_matrix K a.its_sign (matrix_of a.its_block);
+        is = ap₂ (λ g r. option_and_then (λ g. option_map (λ b. signed_matrix K g (matrix_of b)) r) g) a.sign_is a.block_is;
+        shape = signed_matrix-matrix K F (size t) (size s) a.its_sign (matrix_of a.its_block) (block-matrix_at K a.its_block (size t) (size s) fit.rows fit.cols fit.scalars);
         acts = λ value. between-face K F s t (size t) value c.faces blocks sheaf.restrictions.shapes.count complex.apart (rows K F c stalks blocks complex sheaf t)
             a.its_sign a.its_block a.sign_is a.block_is;
       }
 
   apart : (s t : ℕ) → is_face c s t ≡ false → face_matrix K c blocks s t ≡ None
   apart s t h =
-      ap (λ o. option_and_then (λ g. option_map (λ b. signed K g (matrix_of b)) (restriction c blocks s t)) (option_map (λ (f : Face). f.sign) o))
+      ap (λ o. option_and_then (λ g. option_map (λ b. signed_matrix K g (matrix_of b)) (restriction c blocks s t)) (option_map (λ (f : Face). f.sign) o))
       (not-found (joins s t) c.faces h)
 
   abbrev zero_between : ℕ → ℕ → List (List ℕ)
@@ -192,8 +192,8 @@ module _ (K : Ops) (F : IsField K) (c : CellComplex) (stalks : List ℕ) (blocks
     zero-rows s =
         matrix-size K (size_of v.live t) (size_of v.live s) (zero_between s t) (zero_matrix-matrix K F (size_of v.live t) (size_of v.live s)) ∙ same_size
 
-    zero-acts : (s : ℕ) (w : List ℕ) → applied K (zero_between s t) w ≡ zeros (size t)
-    zero-acts s w = zero_matrix-applied K F (size_of v.live t) (size_of v.live s) w ∙ ap zeros same_size
+    zero-acts : (s : ℕ) (w : List ℕ) → image_of K (zero_between s t) w ≡ zeros (size t)
+    zero-acts s w = zero_matrix-image_of K F (size_of v.live t) (size_of v.live s) w ∙ ap zeros same_size
 
     matrix-rows_of : (s : ℕ) → length (v.matrix s t) ≡ size t
     matrix-rows_of s = go (is_face c s t) refl
@@ -204,21 +204,21 @@ module _ (K : Ops) (F : IsField K) (c : CellComplex) (stalks : List ℕ) (blocks
             let j = joined s t h in
             ap length (matrix-joined s t j) ∙ matrix-size K (size t) (size s) j.its_matrix j.shape
 
-    acts : (s : ℕ) → applied K (v.matrix s t) (value s) ≡ sum_into K (arrows_from W.arrows s) value (size t) t
+    acts : (s : ℕ) → image_of K (v.matrix s t) (value s) ≡ sum_into K (arrows_from W.arrows s) value (size t) t
     acts s = go (is_face c s t) refl
       where
-        go : (b : Bool) → is_face c s t ≡ b → applied K (v.matrix s t) (value s) ≡ sum_into K (arrows_from W.arrows s) value (size t) t
+        go : (b : Bool) → is_face c s t ≡ b → image_of K (v.matrix s t) (value s) ≡ sum_into K (arrows_from W.arrows s) value (size t) t
         go false h =
-            ap (λ A. applied K A (value s)) (matrix-apart s t h) ∙ zero-acts s (value s) ∙ sym (between-none K F s t (size t) value c.faces blocks h)
+            ap (λ A. image_of K A (value s)) (matrix-apart s t h) ∙ zero-acts s (value s) ∙ sym (between-none K F s t (size t) value c.faces blocks h)
         go true h =
             let j = joined s t h in
-            ap (λ A. applied K A (value s)) (matrix-joined s t j) ∙ sym (j.acts value)
+            ap (λ A. image_of K A (value s)) (matrix-joined s t j) ∙ sym (j.acts value)
 
-    no-value : (s : ℕ) → has s (cells v.live) ≡ false → applied K (v.matrix s t) (value s) ≡ zeros (size t)
+    no-value : (s : ℕ) → has s (cells v.live) ≡ false → image_of K (v.matrix s t) (value s) ≡ zeros (size t)
     no-value s h =
-        ap (applied K (v.matrix s t)) (value-absent k v.live z s h) ∙ nothing (v.matrix s t) (size t) (matrix-rows_of s)
+        ap (image_of K (v.matrix s t)) (value-absent k v.live z s h) ∙ nothing (v.matrix s t) (size t) (matrix-rows_of s)
       where
-        nothing : (A : List (List ℕ)) (n : ℕ) → length A ≡ n → applied K A [] ≡ zeros n
+        nothing : (A : List (List ℕ)) (n : ℕ) → length A ≡ n → image_of K A [] ≡ zeros n
         nothing [] zero e = refl
         nothing [] (suc n) e = absurd (omega arith)
         nothing (r ∷ A) zero e = absurd (omega arith)
@@ -227,11 +227,11 @@ module _ (K : Ops) (F : IsField K) (c : CellComplex) (stalks : List ℕ) (blocks
     into-same : sum_into K (complex_of v).arrows value (size t) t ≡ sum_into K W.arrows value (size t) t
     into-same =
         sum_into-live K F v value (size t) t matrix-rows_of live_rises is_live
-        ∙ sym (sum_over-some K F (size t) (arriving K F v value (size t) t matrix-rows_of) (complexes.cells c) (cells v.live)
+        ∙ sym (sum_over-some K F (size t) (arriving K F v value (size t) t matrix-rows_of) (complexes.all_cells c) (cells v.live)
         (range-rising 0 (length c.dims)) live_rises (λ q h. range-has (length c.dims) q (alive q h).inside)
         (arriving-vector K F v value (size t) t matrix-rows_of) no-value)
-        ∙ sum_over-same K F (size t) (arriving K F v value (size t) t matrix-rows_of) (λ s. sum_into K (arrows_from W.arrows s) value (size t) t) (complexes.cells c) acts
-        ∙ sym (sum_into-by-source K F (complexes.cells c) W.arrows value (size t) t (rows K F c stalks blocks complex sheaf t) (from_cells K F c stalks blocks complex sheaf))
+        ∙ sum_over-same K F (size t) (arriving K F v value (size t) t matrix-rows_of) (λ s. sum_into K (arrows_from W.arrows s) value (size t) t) (complexes.all_cells c) acts
+        ∙ sym (sum_into-by-source K F (complexes.all_cells c) W.arrows value (size t) t (rows K F c stalks blocks complex sheaf t) (from_cells K F c stalks blocks complex sheaf))
 
   same : Agree K (complex_of v) W
   same = record {
@@ -243,8 +243,8 @@ module _ (K : Ops) (F : IsField K) (c : CellComplex) (stalks : List ℕ) (blocks
         ∙ coboundary-without_empty K W rising k z;
   }
     where
-      rising : stalkless.IsRising W.cells
-      rising = numbered-rising 0 c.dims stalks sheaf.one_each
+      rising : stalkless.HasRisingCells W.cells
+      rising = numbered_cells-rising 0 c.dims stalks sheaf.one_each
 
       each : (k : ℕ) (z : List ℕ) → All (λ (t : Cell). sum_into K (complex_of v).arrows (value_at (cells_of (complex_of v) k) z) t.size t.cell
           ≡ sum_into K W.arrows (value_at (cells_of (complex_of v) k) z) t.size t.cell) (cells_of (complex_of v) (suc k))

@@ -18,11 +18,11 @@ use Rattle.dense_blocks.specs.Blocks.{matrix_of}
 use Rattle.dense_blocks.specs.declared.block.Block.{Block}
 use Rattle.square_check.proofs.Placed.{some-same}
 use Rattle.cochain_vec.specs.declared.cell.Cell.{Cell}
-use Rattle.sheaf_data.specs.Betti.{numbered, signed}
+use Rattle.sheaf_data.specs.Betti.{numbered_cells, signed_matrix}
 use Rattle.coboundary.specs.Start.{with_stalks, face_matrix}
-use Rattle.coboundary.specs.Put.{with_first, AreFirstPut}
-use Rattle.block_sparse.specs.StoredBlocks.{Standing, is_zero}
-use Rattle.block_sparse.specs.Grids.{placed}
+use Rattle.coboundary.specs.Put.{prefix_complex, AreFirstPut}
+use Rattle.block_sparse.specs.StoredBlocks.{StoredBlock, is_zero}
+use Rattle.block_sparse.specs.Grids.{as_block}
 use Rattle.block_sparse.specs.Lists.{with_block}
 use Rattle.coboundary.proofs.ArrowLaws.{eqb-sym, find-behind, at_place-behind, at_place-front}
 
@@ -39,18 +39,18 @@ with_stalks-cons c cs = go (not (c.size == 0))
     go true = refl
     go false = refl
 
--- one numbered cell more
+-- one numbered_cells cell more
 pub with_stalks-next : (i : ℕ) (dims stalks : List ℕ) (live all : List (ℕ × ℕ × ℕ)) → length stalks ≡ length dims → i < length dims
-    → live ++ with_stalks (numbered i (drop i dims) (drop i stalks)) ≡ all
+    → live ++ with_stalks (numbered_cells i (drop i dims) (drop i stalks)) ≡ all
     → (live ++ with_stalks (record { cell = i; degree = get_or dims i 0; size = get_or stalks i 0 } ∷ []))
-    ++ with_stalks (numbered (i + 1) (drop (i + 1) dims) (drop (i + 1) stalks)) ≡ all
+    ++ with_stalks (numbered_cells (i + 1) (drop (i + 1) dims) (drop (i + 1) stalks)) ≡ all
 with_stalks-next i dims stalks live all same inside now =
     let c : Cell = record { cell = i; degree = get_or dims i 0; size = get_or stalks i 0 } in
-    let rest = numbered (i + 1) (drop (i + 1) dims) (drop (i + 1) stalks) in
+    let rest = numbered_cells (i + 1) (drop (i + 1) dims) (drop (i + 1) stalks) in
     append_assoc live (with_stalks (c ∷ [])) (with_stalks rest)
     ∙ ap (λ t. live ++ t) (sym (with_stalks-cons c rest)
-    ∙ ap (λ j. with_stalks (c ∷ numbered (i + 1) (drop j dims) (drop j stalks))) (add-one i)
-    ∙ sym (ap₂ (λ x y. with_stalks (numbered i x y)) (drop-cons dims i 0 inside) (drop-cons stalks i 0 (omega arith))))
+    ∙ ap (λ j. with_stalks (c ∷ numbered_cells (i + 1) (drop j dims) (drop j stalks))) (add-one i)
+    ∙ sym (ap₂ (λ x y. with_stalks (numbered_cells i x y)) (drop-cons dims i 0 inside) (drop-cons stalks i 0 (omega arith))))
     ∙ now
 
 -- the matrix of a face, by the list of faces
@@ -59,16 +59,16 @@ module _ (K : Ops) (dims : List ℕ) (s t : ℕ) where
   matrix_at fs bs = face_matrix K (record { dims = dims; faces = fs }) bs s t
 
   abbrev its_matrix : Face → Block → List (List ℕ)
-  its_matrix f b = signed K f.sign (matrix_of b)
+  its_matrix f b = signed_matrix K f.sign (matrix_of b)
 
   matrix_at-front : (f : Face) (fs : List Face) (b : Block) (bs : List Block) → joins s t f ≡ true → matrix_at (f ∷ fs) (b ∷ bs) ≡ Some (its_matrix f b)
   matrix_at-front f fs b bs e =
-      ap₂ (λ g r. option_and_then (λ g. option_map (λ b. signed K g (matrix_of b)) r) g)
+      ap₂ (λ g r. option_and_then (λ g. option_map (λ b. signed_matrix K g (matrix_of b)) r) g)
       (ap (λ x. option_map (λ (f : Face). f.sign) (cond x (Some f) (find (joins s t) fs))) e) (at_place-front (joins s t) f fs b bs e)
 
   matrix_at-behind : (f : Face) (fs : List Face) (b : Block) (bs : List Block) → joins s t f ≡ false → matrix_at (f ∷ fs) (b ∷ bs) ≡ matrix_at fs bs
   matrix_at-behind f fs b bs e =
-      ap₂ (λ g r. option_and_then (λ g. option_map (λ b. signed K g (matrix_of b)) r) g)
+      ap₂ (λ g r. option_and_then (λ g. option_map (λ b. signed_matrix K g (matrix_of b)) r) g)
       (ap (option_map (λ (f : Face). f.sign)) (find-behind (joins s t) f fs e)) (at_place-behind (joins s t) f fs b bs e)
 
   -- one face more, at the end
@@ -103,10 +103,10 @@ module _ (K : Ops) (dims : List ℕ) (s t : ℕ) where
 
 pub face_matrix-more : (K : Ops) (c : CellComplex) (blocks : List Block) (n s t : ℕ) (f : Face) (b : Block) → AllPairs AreApart c.faces
     → slice_get c.faces n ≡ Some f → slice_get blocks n ≡ Some b
-    → face_matrix K (with_first c (n + 1)) (take (n + 1) blocks) s t
-    ≡ (if joins s t f then Some (signed K f.sign (matrix_of b)) else face_matrix K (with_first c n) (take n blocks) s t)
+    → face_matrix K (prefix_complex c (n + 1)) (take (n + 1) blocks) s t
+    ≡ (if joins s t f then Some (signed_matrix K f.sign (matrix_of b)) else face_matrix K (prefix_complex c n) (take n blocks) s t)
 face_matrix-more K c blocks n s t f b apart is_f is_b =
-    ap (λ j. face_matrix K (with_first c j) (take j blocks) s t) (add-one n) ∙ matrix_at-more K c.dims s t n c.faces blocks f b apart is_f is_b
+    ap (λ j. face_matrix K (prefix_complex c j) (take j blocks) s t) (add-one n) ∙ matrix_at-more K c.dims s t n c.faces blocks f b apart is_f is_b
 
 -- no earlier face joins what a face does
 no-earlier : (n : ℕ) (fs : List Face) (f : Face) → AllPairs AreApart fs → slice_get fs n ≡ Some f → find (joins f.s f.t) (take n fs) ≡ None
@@ -118,22 +118,22 @@ no-earlier (suc n) (g ∷ fs) f apart is_f =
     ∙ subst (AreApart g) (get_or_from_slice_get fs n f g is_f) (apart 0 (suc n) g (omega arith) (omega (arith, slice_get_within fs n f is_f))))
     ∙ no-earlier n fs f (λ i j d l m. apart (suc i) (suc j) d (omega arith) (omega arith)) is_f
 
-pub first-put-none : (K : Ops) (c : CellComplex) (blocks : List Block) (held : ℕ → ℕ → Option Standing) → ((s t : ℕ) → held s t ≡ None) → AreFirstPut K c blocks 0 held
+pub first-put-none : (K : Ops) (c : CellComplex) (blocks : List Block) (held : ℕ → ℕ → Option StoredBlock) → ((s t : ℕ) → held s t ≡ None) → AreFirstPut K c blocks 0 held
 first-put-none K c blocks held none s t = none s t
 
 module _ (K : Ops) (c : CellComplex) (blocks : List Block) (n : ℕ) (f : Face) (b : Block) (apart : AllPairs AreApart c.faces)
-    (is_f : slice_get c.faces n ≡ Some f) (is_b : slice_get blocks n ≡ Some b) (held : ℕ → ℕ → Option Standing) (now : AreFirstPut K c blocks n held) where
-  pub first-put-more : (new : ℕ → ℕ → Option Standing) → ((s t : ℕ) → new s t ≡ with_block held f.s f.t (signed K f.sign (matrix_of b)) s t)
+    (is_f : slice_get c.faces n ≡ Some f) (is_b : slice_get blocks n ≡ Some b) (held : ℕ → ℕ → Option StoredBlock) (now : AreFirstPut K c blocks n held) where
+  pub first-put-more : (new : ℕ → ℕ → Option StoredBlock) → ((s t : ℕ) → new s t ≡ with_block held f.s f.t (signed_matrix K f.sign (matrix_of b)) s t)
       → AreFirstPut K c blocks (n + 1) new
   first-put-more new put s t =
       put s t
       ∙ go (joins s t f)
-      ∙ ap (option_and_then placed) (sym (face_matrix-more K c blocks n s t f b apart is_f is_b))
+      ∙ ap (option_and_then as_block) (sym (face_matrix-more K c blocks n s t f b apart is_f is_b))
     where
       A : List (List ℕ)
-      A = signed K f.sign (matrix_of b)
+      A = signed_matrix K f.sign (matrix_of b)
 
-      go : (x : Bool) → cond x (placed A) (held s t) ≡ option_and_then placed (cond x (Some A) (face_matrix K (with_first c n) (take n blocks) s t))
+      go : (x : Bool) → cond x (as_block A) (held s t) ≡ option_and_then as_block (cond x (Some A) (face_matrix K (prefix_complex c n) (take n blocks) s t))
       go true = refl
       go false = now s t
 
@@ -141,24 +141,24 @@ module _ (K : Ops) (c : CellComplex) (blocks : List Block) (n : ℕ) (f : Face) 
   pub first-put-absent : held f.s f.t ≡ None
   first-put-absent =
       now f.s f.t
-      ∙ ap (λ o. option_and_then placed (option_and_then (λ g. option_map (λ b. signed K g (matrix_of b)) (restriction (with_first c n) (take n blocks) f.s f.t))
+      ∙ ap (λ o. option_and_then as_block (option_and_then (λ g. option_map (λ b. signed_matrix K g (matrix_of b)) (restriction (prefix_complex c n) (take n blocks) f.s f.t))
       (option_map (λ (f : Face). f.sign) o))) (no-earlier n c.faces f apart is_f)
 
   -- where the matrix of the face is empty, nothing has to be put
-  pub first-put-empty : placed (signed K f.sign (matrix_of b)) ≡ None → AreFirstPut K c blocks (n + 1) held
+  pub first-put-empty : as_block (signed_matrix K f.sign (matrix_of b)) ≡ None → AreFirstPut K c blocks (n + 1) held
   first-put-empty empty = first-put-more held (λ s t. go s t (joins s t f) refl)
     where
-      go : (s t : ℕ) (x : Bool) → joins s t f ≡ x → held s t ≡ cond x (placed (signed K f.sign (matrix_of b))) (held s t)
+      go : (s t : ℕ) (x : Bool) → joins s t f ≡ x → held s t ≡ cond x (as_block (signed_matrix K f.sign (matrix_of b))) (held s t)
       go s t true e =
           let p = and_parts (nat_eq s f.s) (nat_eq t f.t) e in
           ap₂ held (eqb-true s f.s p.0) (eqb-true t f.t p.1) ∙ first-put-absent ∙ sym empty
       go s t false e = refl
 
-pub first-put-all : (K : Ops) (c : CellComplex) (blocks : List Block) (held : ℕ → ℕ → Option Standing) → length blocks ≡ length c.faces
-    → AreFirstPut K c blocks (length c.faces) held → (s t : ℕ) → held s t ≡ option_and_then placed (face_matrix K c blocks s t)
+pub first-put-all : (K : Ops) (c : CellComplex) (blocks : List Block) (held : ℕ → ℕ → Option StoredBlock) → length blocks ≡ length c.faces
+    → AreFirstPut K c blocks (length c.faces) held → (s t : ℕ) → held s t ≡ option_and_then as_block (face_matrix K c blocks s t)
 first-put-all K c blocks held same now s t =
     now s t
-    ∙ ap₂ (λ fs bs. option_and_then placed (face_matrix K (record c { faces = fs }) bs s t)) (take_all (length c.faces) c.faces (omega arith))
+    ∙ ap₂ (λ fs bs. option_and_then as_block (face_matrix K (record c { faces = fs }) bs s t)) (take_all (length c.faces) c.faces (omega arith))
     (take_all (length c.faces) blocks (omega arith))
 
 -- a matrix without rows or without columns
@@ -170,8 +170,8 @@ is_zero-zero_matrix (suc m) n = ap₂ ◌&&◌ (row n) (is_zero-zero_matrix m n)
     row zero = refl
     row (suc n) = row n
 
-pub placed-empty : (K : Ops) (m n : ℕ) (A : List (List ℕ)) → Matrix K m n A → m * n ≡ 0 → placed A ≡ None
-placed-empty K m n A h none = ap (λ b. cond b None (Some (record { matrix = A; flagged = false }))) (empty m n h none)
+pub as_block-empty : (K : Ops) (m n : ℕ) (A : List (List ℕ)) → Matrix K m n A → m * n ≡ 0 → as_block A ≡ None
+as_block-empty K m n A h none = ap (λ b. cond b None (Some (record { matrix = A; flagged = false }))) (empty m n h none)
   where
     empty : (m n : ℕ) → Matrix K m n A → m * n ≡ 0 → is_zero A ≡ true
     empty zero n h e = ap is_zero (no-rows K n A h)

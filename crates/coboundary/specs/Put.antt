@@ -5,19 +5,19 @@ use Rattle.cell_complex.specs.Complexes.{CellComplex}
 use Rattle.dense_blocks.specs.Field.{Ops}
 use Rattle.dense_blocks.specs.declared.block.Block.{Block}
 use Rattle.block_complexes.specs.BlockComplexes.{HaveSameMatrices}
-use Rattle.block_sparse.specs.StoredBlocks.{StoredBlocks, Standing, complex_in, held, flag_of}
-use Rattle.block_sparse.specs.Grids.{placed}
+use Rattle.block_sparse.specs.StoredBlocks.{StoredBlocks, StoredBlock, complex_in, block_at, flag_of}
+use Rattle.block_sparse.specs.Grids.{as_block}
 use Rattle.coboundary.specs.Start.{face_matrix, start_complex}
 
 -- the complex with the first so many faces
-abbrev pub with_first : CellComplex → ℕ → CellComplex
-with_first c n = record c { faces = take n c.faces }
+abbrev pub prefix_complex : CellComplex → ℕ → CellComplex
+prefix_complex c n = record c { faces = take n c.faces }
 
 -- what stands where the blocks of the first n faces have been put
-abbrev pub AreFirstPut : Ops → CellComplex → List Block → ℕ → (ℕ → ℕ → Option Standing) → Type 0
-AreFirstPut K c blocks n held = (s t : ℕ) → held s t ≡ option_and_then placed (face_matrix K (with_first c n) (take n blocks) s t)
+abbrev pub AreFirstPut : Ops → CellComplex → List Block → ℕ → (ℕ → ℕ → Option StoredBlock) → Type 0
+AreFirstPut K c blocks n block_at = (s t : ℕ) → block_at s t ≡ option_and_then as_block (face_matrix K (prefix_complex c n) (take n blocks) s t)
 
 -- the start complex of a sheaf is stored, and no block has its flag set
 pub record IsStart (K : Ops) (c : CellComplex) (stalks : List ℕ) (blocks : List Block) (b : StoredBlocks) : Type 0 where
   pub same : HaveSameMatrices (start_complex K c stalks blocks) (complex_in b)
-  pub unflagged : (s t : ℕ) → flag_of (held b s t) ≡ false
+  pub unflagged : (s t : ℕ) → flag_of (block_at b s t) ≡ false

@@ -9,7 +9,7 @@ use Rattle.dense_blocks.specs.declared.block.Block.{Block}
 use Rattle.cochain_vec.specs.declared.cell.Cell.{Cell}
 use Rattle.square_check.specs.Squares.{restriction}
 use Rattle.block_complexes.specs.BlockComplexes.{BlockComplex, size_of}
-use Rattle.sheaf_data.specs.Betti.{numbered, signed}
+use Rattle.sheaf_data.specs.Betti.{numbered_cells, signed_matrix}
 
 -- the cells with a stalk that is not zero, each with its degree and its size
 abbrev pub with_stalks : List Cell → List (ℕ × ℕ × ℕ)
@@ -17,7 +17,7 @@ with_stalks cs = map (λ (c : Cell). (c.cell, c.degree, c.size)) (filter (λ (c 
 
 -- the sign times the restriction from s to t, where s is a face of t
 abbrev pub face_matrix : Ops → CellComplex → List Block → ℕ → ℕ → Option (List (List ℕ))
-face_matrix K c blocks s t = option_and_then (λ g. option_map (λ b. signed K g (matrix_of b)) (restriction c blocks s t)) (sign c s t)
+face_matrix K c blocks s t = option_and_then (λ g. option_map (λ b. signed_matrix K g (matrix_of b)) (restriction c blocks s t)) (sign c s t)
 
 -- the matrix, or zeros of m rows and n columns where there is none
 abbrev pub or_zeros : Option (List (List ℕ)) → ℕ → ℕ → List (List ℕ)
@@ -28,5 +28,5 @@ or_zeros (Some A) m n = A
 -- s is a face of t, and every other matrix is zero
 abbrev pub start_complex : Ops → CellComplex → List ℕ → List Block → BlockComplex
 start_complex K c stalks blocks =
-    let live = with_stalks (numbered 0 c.dims stalks) in
+    let live = with_stalks (numbered_cells 0 c.dims stalks) in
     record { live = live; matrix = λ s t. or_zeros (face_matrix K c blocks s t) (size_of live t) (size_of live s) }

@@ -1,10 +1,10 @@
 ghost use Rattle.std.specs.Prelude.{◌≡◌, ◌<◌, ◌≤◌, ◌+◌, ℕ, None, [], ◌∷◌, ◌++◌, length, slice_get, slice_index, IfOk, OnOk, OnErr, IfSome};
 ghost use Rattle.dense_blocks.specs.Vectors.{AllScalars};
 ghost use Rattle.dense_blocks.specs.Blocks.{matrix_of, IsBlock};
-ghost use Rattle.block_sparse.specs.StoredBlocks.{Fits, held};
+ghost use Rattle.block_sparse.specs.StoredBlocks.{FitsPair, block_at};
 ghost use Rattle.block_sparse.specs.Lists.{with_block};
 ghost use Rattle.cell_complex.specs.Complexes.{IsComplex};
-ghost use Rattle.sheaf_data.specs.Betti.{numbered, signed};
+ghost use Rattle.sheaf_data.specs.Betti.{numbered_cells, signed_matrix};
 ghost use Rattle.coboundary.specs.Start.{with_stalks};
 ghost use Rattle.coboundary.specs.Put.{AreFirstPut, IsStart};
 
@@ -40,10 +40,10 @@ fn put_face<F: Scalars>(
 ) -> Result<(), NoMemory>
     requires complex { IsComplex draft.now.complex }
     requires face { place < length draft.now.complex.faces }
-    requires live { blocks.old.live ≡ with_stalks (numbered 0 draft.now.complex.dims draft.now.stalks) }
-    requires first { AreFirstPut (F.ops draft.now.field) draft.now.complex draft.now.blocks place (held blocks.old) }
+    requires live { blocks.old.live ≡ with_stalks (numbered_cells 0 draft.now.complex.dims draft.now.stalks) }
+    requires first { AreFirstPut (F.ops draft.now.field) draft.now.complex draft.now.blocks place (block_at blocks.old) }
     ensures live { OnOk result (blocks.new.live ≡ blocks.old.live) }
-    ensures next { OnOk result (AreFirstPut (F.ops draft.now.field) draft.now.complex draft.now.blocks (place + 1) (held blocks.new)) }
+    ensures next { OnOk result (AreFirstPut (F.ops draft.now.field) draft.now.complex draft.now.blocks (place + 1) (block_at blocks.new)) }
 {
     let face = draft.complex.face_at(place);
     let restriction = &draft.blocks.as_slice()[place as usize];
@@ -56,9 +56,9 @@ fn put_face<F: Scalars>(
 
 /// Puts the block of a face.
 fn put(blocks: &mut Blocks, face: Face, b: Block) -> Result<(), NoMemory>
-    requires { Fits blocks.old.live face.s face.t b }
+    requires { FitsPair blocks.old.live face.s face.t b }
     ensures live { OnOk result (blocks.new.live ≡ blocks.old.live) }
-    ensures held { OnOk result ((s t : ℕ) → held blocks.new s t ≡ with_block (held blocks.old) face.s face.t (matrix_of b) s t) }
+    ensures held { OnOk result ((s t : ℕ) → block_at blocks.new s t ≡ with_block (block_at blocks.old) face.s face.t (matrix_of b) s t) }
 {
     match blocks.set(face.s, face.t, b) {
         Ok(()) => Ok(()),
@@ -83,7 +83,7 @@ fn push_live(live: &mut Vec<(u32, u8, u8)>, cell: u32, dim: u8, size: u8) -> Res
 fn live_cells(alloc: Global, dims: &[u8], stalks: &[u8]) -> Result<Vec<(u32, u8, u8)>, NoMemory>
     requires one_each { length stalks.now ≡ length dims.now }
     requires few { length dims.now ≤ 4096 }
-    ensures { IfOk result (λ live. live.items ≡ with_stalks (numbered 0 dims.now stalks.now)) }
+    ensures { IfOk result (λ live. live.items ≡ with_stalks (numbered_cells 0 dims.now stalks.now)) }
 {
     let mut live = Vec::new(alloc);
     for (cell, dim) in dims.iter().enumerate() {
@@ -95,7 +95,7 @@ fn live_cells(alloc: Global, dims: &[u8], stalks: &[u8]) -> Result<Vec<(u32, u8,
 /// The sign times the block.
 fn signed<F: Scalars>(alloc: Global, f: &F, sign: Sign, b: &Block) -> Result<Block, NoMemory>
     requires { AllScalars (F.ops f.now) b.now.entries }
-    ensures { IfOk result (λ c. IsBlock c b.now.rows b.now.cols (signed (F.ops f.now) sign (matrix_of b.now))) }
+    ensures { IfOk result (λ c. IsBlock c b.now.rows b.now.cols (signed_matrix (F.ops f.now) sign (matrix_of b.now))) }
 {
     match sign {
         Sign::Plus => Ok(b.copy(alloc)?),

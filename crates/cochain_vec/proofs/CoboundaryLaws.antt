@@ -6,12 +6,12 @@ use Rattle.std.proofs.lemmas.List.{take-map, drop-map}
 use Rattle.std.proofs.lemmas.List.Elements.{All-tail, All-head, All-filter}
 use Rattle.std.proofs.lemmas.Bool.{eqb-true}
 use Rattle.dense_blocks.specs.Field.{Ops, IsField}
-use Rattle.dense_blocks.specs.Vectors.{zeros, plus, scaled, combination}
-use Rattle.dense_blocks.specs.Matrices.{applied, identity}
+use Rattle.dense_blocks.specs.Vectors.{zeros, plus, multiple, combination}
+use Rattle.dense_blocks.specs.Matrices.{image_of, identity}
 use Rattle.dense_blocks.proofs.Shapes.{Vector, Matrix, vector-size, append-vector}
-use Rattle.dense_blocks.proofs.VectorLaws.{zeros-vector, plus-vector, scaled-vector, plus-append, scaled-append, plus-cross, scaled-plus, scaled-zeros, zeros-plus-zeros, dot-below, combination-vector, scaled-zero}
+use Rattle.dense_blocks.proofs.VectorLaws.{zeros-vector, plus-vector, multiple-vector, plus-append, multiple-append, plus-cross, multiple-plus, multiple-zeros, zeros-plus-zeros, dot-below, combination-vector, multiple-zero}
 use Rattle.dense_blocks.proofs.Cutting.{take-plus, drop-plus}
-use Rattle.dense_blocks.proofs.MatrixLaws.{applied-plus, applied-scaled, identity-matrix, combination-identity}
+use Rattle.dense_blocks.proofs.MatrixLaws.{image_of-plus, image_of-multiple, identity-matrix, combination-identity}
 use Rattle.cochain_vec.specs.declared.cell.Cell.{Cell}
 use Rattle.cochain_vec.specs.Complexes.{Arrow, CellularComplex, cells_of, total_size, coordinates, value_at, sum_into, coboundary, RowsFit}
 
@@ -49,13 +49,13 @@ value-plus K (c ∷ cs) u v s =
       | false ↦ ap (λ t. value_at cs t s) (drop-plus K c.size u v) ∙ value-plus K cs (drop c.size u) (drop c.size v) s
     ]
 
-value-scaled : (K : Ops) (cs : List Cell) (k : ℕ) (v : List ℕ) (s : ℕ) → value_at cs (scaled K k v) s ≡ scaled K k (value_at cs v s)
-value-scaled K [] k v s = refl
-value-scaled K (c ∷ cs) k v s =
-    elim (eqb c.cell s) as (λ b. cond b (take c.size (scaled K k v)) (value_at cs (drop c.size (scaled K k v)) s)
-    ≡ scaled K k (cond b (take c.size v) (value_at cs (drop c.size v) s))) [
+value-multiple : (K : Ops) (cs : List Cell) (k : ℕ) (v : List ℕ) (s : ℕ) → value_at cs (multiple K k v) s ≡ multiple K k (value_at cs v s)
+value-multiple K [] k v s = refl
+value-multiple K (c ∷ cs) k v s =
+    elim (eqb c.cell s) as (λ b. cond b (take c.size (multiple K k v)) (value_at cs (drop c.size (multiple K k v)) s)
+    ≡ multiple K k (cond b (take c.size v) (value_at cs (drop c.size v) s))) [
       | true ↦ take-map (K.mul k) c.size v
-      | false ↦ ap (λ t. value_at cs t s) (drop-map (K.mul k) c.size v) ∙ value-scaled K cs k (drop c.size v) s
+      | false ↦ ap (λ t. value_at cs t s) (drop-map (K.mul k) c.size v) ∙ value-multiple K cs k (drop c.size v) s
     ]
 
 -- matrices into the cell t have n rows
@@ -63,11 +63,11 @@ unfoldable pub RowsInto : List Arrow → ℕ → ℕ → Type 0
 RowsInto arrows n t = All (λ (a : Arrow). a.to ≡ t → length a.matrix ≡ n) arrows
 
 module _ (K : Ops) (F : IsField K) where
-  pub applied-rows : (n : ℕ) (A : List (List ℕ)) (v : List ℕ) → length A ≡ n → Vector K n (applied K A v)
-  applied-rows zero [] v e = tt
-  applied-rows zero (r ∷ A) v e = absurd (omega arith)
-  applied-rows (suc n) [] v e = absurd (omega arith)
-  applied-rows (suc n) (r ∷ A) v e = (dot-below K F r v, applied-rows n A v (omega arith))
+  pub image_of-rows : (n : ℕ) (A : List (List ℕ)) (v : List ℕ) → length A ≡ n → Vector K n (image_of K A v)
+  image_of-rows zero [] v e = tt
+  image_of-rows zero (r ∷ A) v e = absurd (omega arith)
+  image_of-rows (suc n) [] v e = absurd (omega arith)
+  image_of-rows (suc n) (r ∷ A) v e = (dot-below K F r v, image_of-rows n A v (omega arith))
 
   pub sum_into-vector : (arrows : List Arrow) (value : ℕ → List ℕ) (n t : ℕ) → RowsInto arrows n t → Vector K n (sum_into K arrows value n t)
   unfolding RowsInto
@@ -76,9 +76,9 @@ module _ (K : Ops) (F : IsField K) where
       go (eqb a.to t) refl (sum_into-vector others value n t (All-tail (λ (a : Arrow). a.to ≡ t → length a.matrix ≡ n) a others h))
     where
       go : (b : Bool) → eqb a.to t ≡ b → Vector K n (sum_into K others value n t)
-          → Vector K n (cond b (plus K (applied K a.matrix (value a.from)) (sum_into K others value n t)) (sum_into K others value n t))
-      go true e rest = plus-vector K F n (applied K a.matrix (value a.from)) (sum_into K others value n t)
-          (applied-rows n a.matrix (value a.from) (All-head (λ (a : Arrow). a.to ≡ t → length a.matrix ≡ n) a others h (eqb-true a.to t e))) rest
+          → Vector K n (cond b (plus K (image_of K a.matrix (value a.from)) (sum_into K others value n t)) (sum_into K others value n t))
+      go true e rest = plus-vector K F n (image_of K a.matrix (value a.from)) (sum_into K others value n t)
+          (image_of-rows n a.matrix (value a.from) (All-head (λ (a : Arrow). a.to ≡ t → length a.matrix ≡ n) a others h (eqb-true a.to t e))) rest
       go false e rest = rest
 
   pub sum_into-plus : (arrows : List Arrow) (size : ℕ → ℕ) (x y z : ℕ → List ℕ) (n t : ℕ) → ((s : ℕ) → Vector K (size s) (x s)) → ((s : ℕ) → Vector K (size s) (y s))
@@ -86,25 +86,25 @@ module _ (K : Ops) (F : IsField K) where
   sum_into-plus [] size x y z n t hx hy e = sym (zeros-plus-zeros K F n)
   sum_into-plus (a ∷ others) size x y z n t hx hy e =
       let rest = sum_into-plus others size x y z n t hx hy e in
-      elim (eqb a.to t) as (λ b. cond b (plus K (applied K a.matrix (z a.from)) (sum_into K others z n t)) (sum_into K others z n t)
-      ≡ plus K (cond b (plus K (applied K a.matrix (x a.from)) (sum_into K others x n t)) (sum_into K others x n t))
-      (cond b (plus K (applied K a.matrix (y a.from)) (sum_into K others y n t)) (sum_into K others y n t))) [
+      elim (eqb a.to t) as (λ b. cond b (plus K (image_of K a.matrix (z a.from)) (sum_into K others z n t)) (sum_into K others z n t)
+      ≡ plus K (cond b (plus K (image_of K a.matrix (x a.from)) (sum_into K others x n t)) (sum_into K others x n t))
+      (cond b (plus K (image_of K a.matrix (y a.from)) (sum_into K others y n t)) (sum_into K others y n t))) [
         | true ↦
-            ap₂ (plus K) (ap (applied K a.matrix) (e a.from) ∙ applied-plus K F (size a.from) a.matrix (x a.from) (y a.from) (hx a.from) (hy a.from)) rest
-            ∙ plus-cross K F (applied K a.matrix (x a.from)) (applied K a.matrix (y a.from)) (sum_into K others x n t) (sum_into K others y n t)
+            ap₂ (plus K) (ap (image_of K a.matrix) (e a.from) ∙ image_of-plus K F (size a.from) a.matrix (x a.from) (y a.from) (hx a.from) (hy a.from)) rest
+            ∙ plus-cross K F (image_of K a.matrix (x a.from)) (image_of K a.matrix (y a.from)) (sum_into K others x n t) (sum_into K others y n t)
         | false ↦ rest
       ]
 
-  pub sum_into-scaled : (arrows : List Arrow) (k : ℕ) (x z : ℕ → List ℕ) (n t : ℕ) → ((s : ℕ) → z s ≡ scaled K k (x s))
-      → sum_into K arrows z n t ≡ scaled K k (sum_into K arrows x n t)
-  sum_into-scaled [] k x z n t e = sym (scaled-zeros K F k n)
-  sum_into-scaled (a ∷ others) k x z n t e =
-      let rest = sum_into-scaled others k x z n t e in
-      elim (eqb a.to t) as (λ b. cond b (plus K (applied K a.matrix (z a.from)) (sum_into K others z n t)) (sum_into K others z n t)
-      ≡ scaled K k (cond b (plus K (applied K a.matrix (x a.from)) (sum_into K others x n t)) (sum_into K others x n t))) [
+  pub sum_into-multiple : (arrows : List Arrow) (k : ℕ) (x z : ℕ → List ℕ) (n t : ℕ) → ((s : ℕ) → z s ≡ multiple K k (x s))
+      → sum_into K arrows z n t ≡ multiple K k (sum_into K arrows x n t)
+  sum_into-multiple [] k x z n t e = sym (multiple-zeros K F k n)
+  sum_into-multiple (a ∷ others) k x z n t e =
+      let rest = sum_into-multiple others k x z n t e in
+      elim (eqb a.to t) as (λ b. cond b (plus K (image_of K a.matrix (z a.from)) (sum_into K others z n t)) (sum_into K others z n t)
+      ≡ multiple K k (cond b (plus K (image_of K a.matrix (x a.from)) (sum_into K others x n t)) (sum_into K others x n t))) [
         | true ↦
-            ap₂ (plus K) (ap (applied K a.matrix) (e a.from) ∙ applied-scaled K F k a.matrix (x a.from)) rest
-            ∙ sym (scaled-plus K F k (applied K a.matrix (x a.from)) (sum_into K others x n t))
+            ap₂ (plus K) (ap (image_of K a.matrix) (e a.from) ∙ image_of-multiple K F k a.matrix (x a.from)) rest
+            ∙ sym (multiple-plus K F k (image_of K a.matrix (x a.from)) (sum_into K others x n t))
         | false ↦ rest
       ]
 
@@ -124,9 +124,9 @@ module _ (K : Ops) (F : IsField K) where
       ap₂ ◌++◌ (e t) (joined-plus x y z ts (All-tail (λ (t : Cell). Vector K t.size (x t)) t ts hx) (All-tail (λ (t : Cell). Vector K t.size (y t)) t ts hy) e)
       ∙ sym (plus-append K (x t) (y t) (flat_map x ts) (flat_map y ts) (vector-size K t.size (x t) xt ∙ sym (vector-size K t.size (y t) yt)))
 
-  joined-scaled : (k : ℕ) (x z : Cell → List ℕ) (ts : List Cell) → ((t : Cell) → z t ≡ scaled K k (x t)) → flat_map z ts ≡ scaled K k (flat_map x ts)
-  joined-scaled k x z [] e = refl
-  joined-scaled k x z (t ∷ ts) e = ap₂ ◌++◌ (e t) (joined-scaled k x z ts e) ∙ sym (scaled-append K k (x t) (flat_map x ts))
+  joined-multiple : (k : ℕ) (x z : Cell → List ℕ) (ts : List Cell) → ((t : Cell) → z t ≡ multiple K k (x t)) → flat_map z ts ≡ multiple K k (flat_map x ts)
+  joined-multiple k x z [] e = refl
+  joined-multiple k x z (t ∷ ts) e = ap₂ ◌++◌ (e t) (joined-multiple k x z ts e) ∙ sym (multiple-append K k (x t) (flat_map x ts))
 
   module _ (C : CellularComplex) (fits : RowsFit C) (k : ℕ) where
     -- the part of a coboundary at a cell
@@ -151,17 +151,17 @@ module _ (K : Ops) (F : IsField K) where
         (λ t. sum_into-plus C.arrows (size_at (cells_of C k)) (value_at (cells_of C k) u) (value_at (cells_of C k) v) (value_at (cells_of C k) (plus K u v)) t.size t.cell
         (λ s. value-vector K (cells_of C k) u s hu) (λ s. value-vector K (cells_of C k) v s hv) (value-plus K (cells_of C k) u v))
 
-    pub coboundary-scaled : (c : ℕ) (v : List ℕ) → coboundary K C k (scaled K c v) ≡ scaled K c (coboundary K C k v)
+    pub coboundary-multiple : (c : ℕ) (v : List ℕ) → coboundary K C k (multiple K c v) ≡ multiple K c (coboundary K C k v)
     unfolding piece
-    coboundary-scaled c v =
-        joined-scaled c (piece v) (piece (scaled K c v)) (cells_of C (suc k))
-        (λ t. sum_into-scaled C.arrows c (value_at (cells_of C k) v) (value_at (cells_of C k) (scaled K c v)) t.size t.cell (value-scaled K (cells_of C k) c v))
+    coboundary-multiple c v =
+        joined-multiple c (piece v) (piece (multiple K c v)) (cells_of C (suc k))
+        (λ t. sum_into-multiple C.arrows c (value_at (cells_of C k) v) (value_at (cells_of C k) (multiple K c v)) t.size t.cell (value-multiple K (cells_of C k) c v))
 
     pub coboundary-zeros : coboundary K C k (zeros (coordinates C k)) ≡ zeros (coordinates C (suc k))
     coboundary-zeros =
         let n = coordinates C k in
-        ap (coboundary K C k) (sym (scaled-zero K F n (zeros n) (zeros-vector K F n))) ∙ coboundary-scaled 0 (zeros n)
-        ∙ scaled-zero K F (coordinates C (suc k)) (coboundary K C k (zeros n)) (coboundary-cochain (zeros n))
+        ap (coboundary K C k) (sym (multiple-zero K F n (zeros n) (zeros-vector K F n))) ∙ coboundary-multiple 0 (zeros n)
+        ∙ multiple-zero K F (coordinates C (suc k)) (coboundary K C k (zeros n)) (coboundary-cochain (zeros n))
 
     pub coboundary-combination : (m : ℕ) (cs : List ℕ) (vs : List (List ℕ)) → Matrix K m (coordinates C k) vs
         → coboundary K C k (combination K (coordinates C k) cs vs) ≡ combination K (coordinates C (suc k)) cs (map (coboundary K C k) vs)
@@ -170,8 +170,8 @@ module _ (K : Ops) (F : IsField K) where
     coboundary-combination zero (c ∷ cs) (v ∷ vs) h = absurd h
     coboundary-combination (suc m) (c ∷ cs) (v ∷ vs) h =
         let n = coordinates C k in
-        coboundary-plus (scaled K c v) (combination K n cs vs) (scaled-vector K F n c v h.0) (combination-vector K F m n cs vs h.1)
-        ∙ ap₂ (plus K) (coboundary-scaled c v) (coboundary-combination m cs vs h.1)
+        coboundary-plus (multiple K c v) (combination K n cs vs) (multiple-vector K F n c v h.0) (combination-vector K F m n cs vs h.1)
+        ∙ ap₂ (plus K) (coboundary-multiple c v) (coboundary-combination m cs vs h.1)
 
     -- the coboundary of a cochain, from those of the unit cochains
     pub coboundary-columns : (z : List ℕ) → Vector K (coordinates C k) z

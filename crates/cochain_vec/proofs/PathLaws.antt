@@ -7,13 +7,13 @@ use Rattle.std.proofs.Math.Seq.{take-append_seam, drop-append_seam}
 use Rattle.std.proofs.lemmas.Bool.{eqb-true}
 use Rattle.dense_blocks.specs.Field.{Ops, IsField}
 use Rattle.dense_blocks.specs.Vectors.{IsVector, zeros, plus}
-use Rattle.dense_blocks.specs.Matrices.{applied}
+use Rattle.dense_blocks.specs.Matrices.{image_of}
 use Rattle.dense_blocks.proofs.Shapes.{Vector, vector-size, from_vector}
-use Rattle.dense_blocks.proofs.VectorLaws.{zeros-append, zeros-vector, plus-vector, plus-cross, zeros-plus, plus-zeros, zeros-plus-zeros, scaled-zero}
+use Rattle.dense_blocks.proofs.VectorLaws.{zeros-append, zeros-vector, plus-vector, plus-cross, zeros-plus, plus-zeros, zeros-plus-zeros, multiple-zero}
 use Rattle.cochain_vec.specs.declared.cell.Cell.{Cell}
 use Rattle.cochain_vec.specs.Complexes.{Arrow, CellularComplex, cells_of, total_size, coordinates, value_at, sum_into, coboundary, RowsFit}
 use Rattle.cochain_vec.specs.Cohomology.{IsCochainComplex, IsCocycle, IsCoboundary}
-use Rattle.cochain_vec.proofs.CoboundaryLaws.{coboundary-cochain, coboundary-zeros, size_at, RowsInto, applied-rows, sum_into-vector, sum_into-plus, sum_into-scaled, piece, pieces}
+use Rattle.cochain_vec.proofs.CoboundaryLaws.{coboundary-cochain, coboundary-zeros, size_at, RowsInto, image_of-rows, sum_into-vector, sum_into-plus, sum_into-multiple, piece, pieces}
 use Rattle.cochain_vec.proofs.StalklessLaws.{sum_into-none, sum_into-same}
 
 -- the sum of vectors of n coordinates, one for each number of a list
@@ -31,7 +31,7 @@ after K arrows size value s t = sum_into K (arrows_from arrows s) value (size t)
 
 -- what comes along an arrow, at the cell t of n coordinates
 abbrev along : Ops → Arrow → (ℕ → List ℕ) → ℕ → ℕ → List ℕ
-along K a value n t = cond (eqb a.to t) (applied K a.matrix (value a.from)) (zeros n)
+along K a value n t = cond (eqb a.to t) (image_of K a.matrix (value a.from)) (zeros n)
 
 -- each arrow comes from a cell that the list has once
 abbrev pub ComeFrom : List Arrow → List ℕ → Type 0
@@ -99,16 +99,16 @@ module _ (K : Ops) (F : IsField K) where
   along-vector : (a : Arrow) (value : ℕ → List ℕ) (n t : ℕ) → (a.to ≡ t → length a.matrix ≡ n) → Vector K n (along K a value n t)
   along-vector a value n t h = go (eqb a.to t) (eqb-true a.to t)
     where
-      go : (b : Bool) → (b ≡ true → a.to ≡ t) → Vector K n (cond b (applied K a.matrix (value a.from)) (zeros n))
-      go true e = applied-rows K F n a.matrix (value a.from) (h (e refl))
+      go : (b : Bool) → (b ≡ true → a.to ≡ t) → Vector K n (cond b (image_of K a.matrix (value a.from)) (zeros n))
+      go true e = image_of-rows K F n a.matrix (value a.from) (h (e refl))
       go false e = zeros-vector K F n
 
   -- one arrow more
   sum_into-more : (a : Arrow) (others : List Arrow) (value : ℕ → List ℕ) (n t : ℕ) → RowsInto others n t
       → sum_into K (a ∷ others) value n t ≡ plus K (along K a value n t) (sum_into K others value n t)
   sum_into-more a others value n t h =
-      elim (eqb a.to t) as (λ b. cond b (plus K (applied K a.matrix (value a.from)) (sum_into K others value n t)) (sum_into K others value n t)
-      ≡ plus K (cond b (applied K a.matrix (value a.from)) (zeros n)) (sum_into K others value n t)) [
+      elim (eqb a.to t) as (λ b. cond b (plus K (image_of K a.matrix (value a.from)) (sum_into K others value n t)) (sum_into K others value n t)
+      ≡ plus K (cond b (image_of K a.matrix (value a.from)) (zeros n)) (sum_into K others value n t)) [
         | true ↦ refl
         | false ↦ sym (zeros-plus K F n (sum_into K others value n t) (sum_into-vector K F others value n t h))
       ]
@@ -148,8 +148,8 @@ module _ (K : Ops) (F : IsField K) where
   -- the sum into a cell is linear in the values
   sum_into-zeros : (arrows : List Arrow) (size : ℕ → ℕ) (n u : ℕ) → RowsInto arrows n u → sum_into K arrows (λ t. zeros (size t)) n u ≡ zeros n
   sum_into-zeros arrows size n u h =
-      sum_into-scaled K F arrows 0 (λ t. zeros (size t)) (λ t. zeros (size t)) n u (λ t. sym (scaled-zero K F (size t) (zeros (size t)) (zeros-vector K F (size t))))
-      ∙ scaled-zero K F n (sum_into K arrows (λ t. zeros (size t)) n u) (sum_into-vector K F arrows (λ t. zeros (size t)) n u h)
+      sum_into-multiple K F arrows 0 (λ t. zeros (size t)) (λ t. zeros (size t)) n u (λ t. sym (multiple-zero K F (size t) (zeros (size t)) (zeros-vector K F (size t))))
+      ∙ multiple-zero K F n (sum_into K arrows (λ t. zeros (size t)) n u) (sum_into-vector K F arrows (λ t. zeros (size t)) n u h)
 
   sum_into-sum_over : (arrows : List Arrow) (size : ℕ → ℕ) (f : ℕ → ℕ → List ℕ) (n u : ℕ) (cells : List ℕ) → RowsInto arrows n u
       → ((s t : ℕ) → Vector K (size t) (f s t))
@@ -208,9 +208,9 @@ module _ (K : Ops) (F : IsField K) where
       go (eqb a.to t) (eqb-true a.to t) (sum_into-same_into others x y n t (All-tail (λ (a : Arrow). a.to ≡ t → x a.from ≡ y a.from) a others h))
     where
       go : (b : Bool) → (b ≡ true → a.to ≡ t) → sum_into K others x n t ≡ sum_into K others y n t
-          → cond b (plus K (applied K a.matrix (x a.from)) (sum_into K others x n t)) (sum_into K others x n t)
-          ≡ cond b (plus K (applied K a.matrix (y a.from)) (sum_into K others y n t)) (sum_into K others y n t)
-      go true e r = ap₂ (plus K) (ap (applied K a.matrix) (All-head (λ (a : Arrow). a.to ≡ t → x a.from ≡ y a.from) a others h (e refl))) r
+          → cond b (plus K (image_of K a.matrix (x a.from)) (sum_into K others x n t)) (sum_into K others x n t)
+          ≡ cond b (plus K (image_of K a.matrix (y a.from)) (sum_into K others y n t)) (sum_into K others y n t)
+      go true e r = ap₂ (plus K) (ap (image_of K a.matrix) (All-head (λ (a : Arrow). a.to ≡ t → x a.from ≡ y a.from) a others h (e refl))) r
       go false e r = r
 
 -- a count of coordinates for each number that is right at the cells of degree k + 2 and at those below them, and that all matrices fit

@@ -6,12 +6,12 @@ use Rattle.std.proofs.lemmas.List.Elements.{All-tail, All-head, All-filter}
 use Rattle.std.proofs.lemmas.Bool.{eqb-true}
 use Rattle.dense_blocks.specs.Field.{Ops}
 use Rattle.dense_blocks.specs.Vectors.{IsVector, zeros, plus, combination}
-use Rattle.dense_blocks.specs.Matrices.{applied}
+use Rattle.dense_blocks.specs.Matrices.{image_of}
 use Rattle.dense_blocks.proofs.VectorLaws.{plus-nil}
 use Rattle.cochain_vec.specs.declared.cell.Cell.{Cell}
 use Rattle.cochain_vec.specs.Complexes.{Arrow, CellularComplex, cells_of, total_size, coordinates, value_at, sum_into, coboundary}
 use Rattle.cochain_vec.specs.Cohomology.{IsCocycle, IsCoboundary, IsRepresented, IsBasis}
-use Rattle.cochain_vec.specs.Stalkless.{IsRising, without_empty, EmptyCellsChangeNothing}
+use Rattle.cochain_vec.specs.Stalkless.{HasRisingCells, without_empty, EmptyCellsChangeNothing}
 
 -- what the lists of cells do
 abbrev pub has_coordinates : Cell → Bool
@@ -28,10 +28,10 @@ filter-swap p q (c ∷ cs) = go (p c) (q c) refl refl (filter-swap p q cs)
     go false true e f r = rw (f, e) r
     go false false e f r = rw (f, e) r
 
-pub rising-filter : (p : Cell → Bool) (cs : List Cell) → IsRising cs → IsRising (filter p cs)
+pub rising-filter : (p : Cell → Bool) (cs : List Cell) → HasRisingCells cs → HasRisingCells (filter p cs)
 rising-filter p [] h = tt
 rising-filter p (c ∷ cs) h =
-    elim (p c) as (λ b. IsRising (cond b (c ∷ filter p cs) (filter p cs))) [
+    elim (p c) as (λ b. HasRisingCells (cond b (c ∷ filter p cs) (filter p cs))) [
       | true ↦ (All-filter p (λ (d : Cell). c.cell < d.cell) cs h.0, rising-filter p cs h.1)
       | false ↦ rising-filter p cs h.1
     ]
@@ -61,7 +61,7 @@ value-absent (c ∷ cs) z s h = go (eqb c.cell s) refl (value-absent cs (drop c.
     go true e r = let same : c.cell ≡ s = eqb-true c.cell s e in let less = All-head (λ (d : Cell). s < d.cell) c cs h in absurd (omega arith)
     go false e r = r
 
-value-filter : (cs : List Cell) (z : List ℕ) (s : ℕ) → IsRising cs → value_at (filter has_coordinates cs) z s ≡ value_at cs z s
+value-filter : (cs : List Cell) (z : List ℕ) (s : ℕ) → HasRisingCells cs → value_at (filter has_coordinates cs) z s ≡ value_at cs z s
 value-filter [] z s h = refl
 value-filter (c ∷ cs) z s h = go (has_coordinates c) (eqb c.cell s) refl refl (λ y. value-filter cs y s h.1)
   where
@@ -81,9 +81,9 @@ module _ (K : Ops) where
   sum_into-same [] x y n t e = refl
   sum_into-same (a ∷ others) x y n t e =
       let rest = sum_into-same others x y n t e in
-      elim (eqb a.to t) as (λ b. cond b (plus K (applied K a.matrix (x a.from)) (sum_into K others x n t)) (sum_into K others x n t)
-      ≡ cond b (plus K (applied K a.matrix (y a.from)) (sum_into K others y n t)) (sum_into K others y n t)) [
-        | true ↦ ap₂ (plus K) (ap (applied K a.matrix) (e a.from)) rest
+      elim (eqb a.to t) as (λ b. cond b (plus K (image_of K a.matrix (x a.from)) (sum_into K others x n t)) (sum_into K others x n t)
+      ≡ cond b (plus K (image_of K a.matrix (y a.from)) (sum_into K others y n t)) (sum_into K others y n t)) [
+        | true ↦ ap₂ (plus K) (ap (image_of K a.matrix) (e a.from)) rest
         | false ↦ rest
       ]
 
@@ -92,8 +92,8 @@ module _ (K : Ops) where
   sum_into-none [] x t = refl
   sum_into-none (a ∷ others) x t =
       let rest = sum_into-none others x t in
-      elim (eqb a.to t) as (λ b. cond b (plus K (applied K a.matrix (x a.from)) (sum_into K others x 0 t)) (sum_into K others x 0 t) ≡ []) [
-        | true ↦ ap (plus K (applied K a.matrix (x a.from))) rest ∙ plus-nil K (applied K a.matrix (x a.from))
+      elim (eqb a.to t) as (λ b. cond b (plus K (image_of K a.matrix (x a.from)) (sum_into K others x 0 t)) (sum_into K others x 0 t) ≡ []) [
+        | true ↦ ap (plus K (image_of K a.matrix (x a.from))) rest ∙ plus-nil K (image_of K a.matrix (x a.from))
         | false ↦ rest
       ]
 
@@ -107,7 +107,7 @@ module _ (K : Ops) where
       go true f r = ap₂ ◌++◌ (e t) r
       go false f r = r ∙ ap (λ u. u ++ flat_map y ts) (sym (none t (not_zero t.size f)))
 
-  module _ (F : CellularComplex) (rising : IsRising F.cells) where
+  module _ (F : CellularComplex) (rising : HasRisingCells F.cells) where
     cells-without_empty : (k : ℕ) → cells_of (without_empty F) k ≡ filter has_coordinates (cells_of F k)
     cells-without_empty k = filter-swap (λ c. c.degree == k) has_coordinates F.cells
 

@@ -4,7 +4,7 @@ use Rattle.std.specs.List.{flat_map}
 use Rattle.cochain_vec.specs.declared.cell.Cell.{Cell}
 use Rattle.dense_blocks.specs.Field.{Ops}
 use Rattle.dense_blocks.specs.Vectors.{IsVector, zeros, plus}
-use Rattle.dense_blocks.specs.Matrices.{applied}
+use Rattle.dense_blocks.specs.Matrices.{image_of}
 
 -- a matrix from the coordinates of one cell to those of another (for a sheaf, the sign of a face times its restriction)
 pub record Arrow : Type 0 where
@@ -43,7 +43,7 @@ IsCochain K F k z = IsVector K (coordinates F k) z
 abbrev pub sum_into : Ops → List Arrow → (ℕ → List ℕ) → ℕ → ℕ → List ℕ
 sum_into K [] value n t = zeros n
 sum_into K (a ∷ others) value n t =
-    if a.to == t then plus K (applied K a.matrix (value a.from)) (sum_into K others value n t)
+    if a.to == t then plus K (image_of K a.matrix (value a.from)) (sum_into K others value n t)
     else sum_into K others value n t
 
 -- the coboundary of a cochain of degree k: at each cell t of degree k + 1 the sum over the matrices into t

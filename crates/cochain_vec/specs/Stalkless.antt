@@ -6,9 +6,9 @@ use Rattle.cochain_vec.specs.Complexes.{CellularComplex}
 use Rattle.cochain_vec.specs.Cohomology.{IsBasis}
 
 -- each cell has a greater number than those before it
-abbrev pub IsRising : List Cell → Type 0
-IsRising [] = Unit {0}
-IsRising (c ∷ cs) = All (λ later. c.cell < later.cell) cs × IsRising cs
+abbrev pub HasRisingCells : List Cell → Type 0
+HasRisingCells [] = Unit {0}
+HasRisingCells (c ∷ cs) = All (λ later. c.cell < later.cell) cs × HasRisingCells cs
 
 -- the same complex without the cells that have no coordinates
 abbrev pub without_empty : CellularComplex → CellularComplex
@@ -16,5 +16,5 @@ without_empty F = record { cells = filter (λ c. not (c.size == 0)) F.cells; arr
 
 -- leaving out the cells without coordinates leaves the bases of cohomology as they are
 abbrev pub EmptyCellsChangeNothing : Type 0
-EmptyCellsChangeNothing = (K : Ops) (F : CellularComplex) → IsRising F.cells
+EmptyCellsChangeNothing = (K : Ops) (F : CellularComplex) → HasRisingCells F.cells
     → (k : ℕ) (B : List (List ℕ)) → IsBasis K F k B ↔ IsBasis K (without_empty F) k B

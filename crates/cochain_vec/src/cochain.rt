@@ -1,5 +1,5 @@
 ghost use Rattle.std.specs.Prelude.{◌≡◌, ◌↔◌, ◌<◌, vec_len, All, IsTrue, IfOk};
-ghost use Rattle.dense_blocks.specs.Vectors.{AllScalars, plus, scaled};
+ghost use Rattle.dense_blocks.specs.Vectors.{AllScalars, plus, multiple};
 
 use dense_blocks::{Scalars, add_scaled};
 use std::alloc::{AllocError as NoMemory, Global};
@@ -49,7 +49,7 @@ pub fn scale<F: Scalars>(alloc: Global, f: &F, k: u8, a: &Cochain) -> Result<Coc
     requires scalar { k < (F.ops f.now).order }
     requires a_scalars { AllScalars (F.ops f.now) a.now.values.items }
     ensures degree { IfOk result (λ c. c.degree ≡ a.now.degree) }
-    ensures product { IfOk result (λ c. c.values.items ≡ scaled (F.ops f.now) k a.now.values.items) }
+    ensures product { IfOk result (λ c. c.values.items ≡ multiple (F.ops f.now) k a.now.values.items) }
     ensures scalars { IfOk result (λ c. AllScalars (F.ops f.now) c.values.items) }
 {
     let mut values = Vec::from_slice(alloc, &a.values)?;

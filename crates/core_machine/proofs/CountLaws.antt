@@ -16,45 +16,45 @@ use Rattle.sheaf_words.specs.declared.replying.Reply.TheVariants as replies
 use Rattle.sheaf_words.specs.declared.happening.Event.{Event}
 use Rattle.sheaf_words.specs.declared.happening.Event.TheVariants.{Edit, Ask, Pair, Reply}
 use Rattle.reply_text.specs.Replies.{IsAnswerTo}
-use Rattle.reply_text.specs.Transcripts.{ends_for, is_accepted, ended, standing, asked, IfPresent, IsAnswered, IsOf, AreOf}
+use Rattle.reply_text.specs.Transcripts.{ends_for, is_accepted, ended_count, current_version, asked_version, IfPresent, IsAnswered, IsOf, AreOf}
 use Rattle.reply_text.proofs.Counting.{count-more, asked-more}
 use Rattle.core_machine.specs.Replies.{IsRightReply}
-use Rattle.core_machine.specs.Machine.{Lane, State, free, waiting, first_state, command_at, with_lane, AreVersionsAfter, EditStep, AskStep, ReplyStep, Step, Leads, IsLegal}
+use Rattle.core_machine.specs.Machine.{Lane, State, free_lane, waiting_lane, first_state, command_at, with_lane, AreVersionsAfter, EditStep, AskStep, ReplyStep, Step, Leads, IsLegal}
 use Rattle.core_machine.specs.Counting.{IsCounted}
 
 -- ---- the lanes after one step
 
 -- the positions where the lane of client c was put at one more
 position-next : (lanes : ℕ → Lane) (c d p : ℕ) → (lanes c).position ≡ p
-    → (with_lane lanes c (free (p + 1)) d).position ≡ (lanes d).position + (if c == d then 1 else 0)
+    → (with_lane lanes c (free_lane (p + 1)) d).position ≡ (lanes d).position + (if c == d then 1 else 0)
 position-next lanes c d p is = go (c == d) refl
   where
-    go : (b : Bool) → (c == d) ≡ b → (if b then free (p + 1) else lanes d).position ≡ (lanes d).position + (if b then 1 else 0)
+    go : (b : Bool) → (c == d) ≡ b → (if b then free_lane (p + 1) else lanes d).position ≡ (lanes d).position + (if b then 1 else 0)
     go true e = ap (λ n. n + 1) (sym (subst (λ k. (lanes k).position ≡ p) (eqb-true c d e) is))
     go false e = omega arith
 
 -- the positions where the lane of client c was put to wait
-position-same : (lanes : ℕ → Lane) (c d p v : ℕ) → (lanes c).position ≡ p → (with_lane lanes c (waiting p v) d).position ≡ (lanes d).position + 0
+position-same : (lanes : ℕ → Lane) (c d p v : ℕ) → (lanes c).position ≡ p → (with_lane lanes c (waiting_lane p v) d).position ≡ (lanes d).position + 0
 position-same lanes c d p v is = go (c == d) refl
   where
-    go : (b : Bool) → (c == d) ≡ b → (if b then waiting p v else lanes d).position ≡ (lanes d).position + 0
+    go : (b : Bool) → (c == d) ≡ b → (if b then waiting_lane p v else lanes d).position ≡ (lanes d).position + 0
     go true e = sym (subst (λ k. (lanes k).position ≡ p) (eqb-true c d e) is) ∙ omega arith
     go false e = omega arith
 
 -- what is pending where the lane of client c was freed
-pending-free : (lanes : ℕ → Lane) (c d p v : ℕ) → (with_lane lanes c (free p) d).pending ≡ Some v → (lanes d).pending ≡ Some v
+pending-free : (lanes : ℕ → Lane) (c d p v : ℕ) → (with_lane lanes c (free_lane p) d).pending ≡ Some v → (lanes d).pending ≡ Some v
 pending-free lanes c d p v is = go (c == d) is
   where
-    go : (b : Bool) → (if b then free p else lanes d).pending ≡ Some v → (lanes d).pending ≡ Some v
+    go : (b : Bool) → (if b then free_lane p else lanes d).pending ≡ Some v → (lanes d).pending ≡ Some v
     go true e = absurd (none-some v e)
     go false e = e
 
 -- what is pending where the lane of client c was put to wait
 pending-asked : (lanes : ℕ → Lane) (c d p n v w : ℕ) → ((lanes d).pending ≡ Some v → v ≡ w)
-    → (with_lane lanes c (waiting p n) d).pending ≡ Some v → v ≡ (if c == d then n else w)
+    → (with_lane lanes c (waiting_lane p n) d).pending ≡ Some v → v ≡ (if c == d then n else w)
 pending-asked lanes c d p n v w before is = go (c == d) is
   where
-    go : (b : Bool) → (if b then waiting p n else lanes d).pending ≡ Some v → v ≡ (if b then n else w)
+    go : (b : Bool) → (if b then waiting_lane p n else lanes d).pending ≡ Some v → v ≡ (if b then n else w)
     go true e = sym (same_Some n v e)
     go false e = before e
 
@@ -71,7 +71,7 @@ counted-edit {F} K scripts events c verdict s t step h = record {
 }
   where
     versions : (w : Verdict) → AreVersionsAfter K step.sheaf step.edit.sets w s.sheaves t.sheaves
-        → length t.sheaves ≡ (standing events + (if is_accepted (Edit c w) then 1 else 0)) + 1
+        → length t.sheaves ≡ (current_version events + (if is_accepted (Edit c w) then 1 else 0)) + 1
     versions Accepted made = ap length made.2 ∙ length-append s.sheaves (made.0 ∷ []) ∙ ap (λ n. n + 1) h.current
     versions (Refused cause) same = ap length same ∙ h.current ∙ omega arith
 
@@ -81,12 +81,12 @@ counted-ask scripts events c s t step h = record {
   current = ap length step.versions ∙ h.current ∙ ap (λ n. n + 1) (omega arith ∙ sym (count-more is_accepted events (Ask c)));
   positions = λ d. ap (λ lanes. (lanes d).position) step.lanes ∙ position-same s.lanes c d step.position step.version (ap (λ l. l.position) step.is_free)
       ∙ ap (λ n. n + 0) (h.positions d) ∙ sym (count-more (ends_for d) events (Ask c));
-  pendings = λ d v is. pending-asked s.lanes c d step.position step.version v (asked d events) (h.pendings d v)
+  pendings = λ d v is. pending-asked s.lanes c d step.position step.version v (asked_version d events) (h.pendings d v)
       (sym (ap (λ lanes. (lanes d).pending) step.lanes) ∙ is)
-      ∙ ap (λ n. if c == d then n else asked d events) version ∙ sym (asked-more d events (Ask c));
+      ∙ ap (λ n. if c == d then n else asked_version d events) version ∙ sym (asked-more d events (Ask c));
 }
   where
-    version : step.version ≡ standing events
+    version : step.version ≡ current_version events
     version = omega (arith, step.current, h.current)
 
 counted-reply : {F : Type 0} (K : Ops) (scripts : List (List Command)) (events : List Event) (c : ℕ) (r : Answer) (s t : State F)
@@ -129,9 +129,9 @@ present : {X : Type 0} (P : X → Type 0) (o : Option X) (x : X) → o ≡ Some 
 present P o x e p = subst (λ q. IfPresent q P) (sym e) p
 
 answered : (scripts : List (List Command)) (events : List Event) (c p : ℕ) (command : Command) (event : Event)
-    → p ≡ ended c events → command_at scripts c p ≡ Some command → IsAnswerTo command event → IsAnswered scripts events c event
+    → p ≡ ended_count c events → command_at scripts c p ≡ Some command → IsAnswerTo command event → IsAnswered scripts events c event
 answered scripts events c p command event at there is =
-    present (λ k. IsAnswerTo k event) (command_at scripts c (ended c events)) command (ap (command_at scripts c) (sym at) ∙ there) is
+    present (λ k. IsAnswerTo k event) (command_at scripts c (ended_count c events)) command (ap (command_at scripts c) (sym at) ∙ there) is
 
 inside : (scripts : List (List Command)) (c p : ℕ) (command : Command) → command_at scripts c p ≡ Some command → c < length scripts
 inside scripts c p command there = go (slice_get scripts c) refl there

@@ -23,12 +23,12 @@ pub record Lane : Type 0 where
   pub pending : Option ℕ
 
 -- nothing is pending
-abbrev pub free : ℕ → Lane
-free position = record { position = position; pending = None }
+abbrev pub free_lane : ℕ → Lane
+free_lane position = record { position = position; pending = None }
 
 -- a question on version v is open
-abbrev pub waiting : ℕ → ℕ → Lane
-waiting position v = record { position = position; pending = Some v }
+abbrev pub waiting_lane : ℕ → ℕ → Lane
+waiting_lane position v = record { position = position; pending = Some v }
 
 -- the sheaf of each version, from version 0 on, and the lane of each client
 pub record State (F : Type 0) : Type 0 where
@@ -37,7 +37,7 @@ pub record State (F : Type 0) : Type 0 where
 
 -- one version, nothing done, nothing pending
 abbrev pub first_state : {F : Type 0} → SheafData F → State F
-first_state sheaf = record { sheaves = sheaf ∷ []; lanes = λ c. free 0 }
+first_state sheaf = record { sheaves = sheaf ∷ []; lanes = λ c. free_lane 0 }
 
 -- the current version is v, the last; so many edits were accepted
 abbrev pub IsCurrentVersion : {F : Type 0} → State F → ℕ → Type 0
@@ -67,23 +67,23 @@ pub record EditStep {F : Type 0} (K : Ops) (scripts : List (List Command)) (c : 
   pub position : ℕ
   pub edit : Change
   pub sheaf : SheafData F
-  pub is_free : s.lanes c ≡ free position
+  pub is_free : s.lanes c ≡ free_lane position
   pub command : command_at scripts c position ≡ Some (commands.Change edit)
   pub current : IsCurrentSheaf s sheaf
   pub judged : IsVerdict K sheaf edit.sets verdict
   pub versions : AreVersionsAfter K sheaf edit.sets verdict s.sheaves t.sheaves
-  pub lanes : t.lanes ≡ with_lane s.lanes c (free (position + 1))
+  pub lanes : t.lanes ≡ with_lane s.lanes c (free_lane (position + 1))
 
 -- client c has nothing pending and comes to a question: it is put on the current version
 pub record AskStep {F : Type 0} (scripts : List (List Command)) (c : ℕ) (s t : State F) : Type 0 where
   pub position : ℕ
   pub query : Query
   pub version : ℕ
-  pub is_free : s.lanes c ≡ free position
+  pub is_free : s.lanes c ≡ free_lane position
   pub command : command_at scripts c position ≡ Some (commands.Ask query)
   pub current : IsCurrentVersion s version
   pub versions : t.sheaves ≡ s.sheaves
-  pub lanes : t.lanes ≡ with_lane s.lanes c (waiting position version)
+  pub lanes : t.lanes ≡ with_lane s.lanes c (waiting_lane position version)
 
 -- client c waits for the answer to a question on a version, and the reply is right for the question and the sheaf of that version
 pub record ReplyStep {F : Type 0} (K : Ops) (scripts : List (List Command)) (c : ℕ) (reply : Answer) (s t : State F) : Type 0 where
@@ -91,12 +91,12 @@ pub record ReplyStep {F : Type 0} (K : Ops) (scripts : List (List Command)) (c :
   pub query : Query
   pub version : ℕ
   pub sheaf : SheafData F
-  pub is_waiting : s.lanes c ≡ waiting position version
+  pub is_waiting : s.lanes c ≡ waiting_lane position version
   pub command : command_at scripts c position ≡ Some (commands.Ask query)
   pub asked : slice_get s.sheaves version ≡ Some sheaf
   pub right : IsRightReply K sheaf query reply
   pub versions : t.sheaves ≡ s.sheaves
-  pub lanes : t.lanes ≡ with_lane s.lanes c (free (position + 1))
+  pub lanes : t.lanes ≡ with_lane s.lanes c (free_lane (position + 1))
 
 -- the event leads from state s to state t; for now no pair of cells is removed
 abbrev pub Step : {F : Type 0} → Ops → List (List Command) → Event → State F → State F → Type 0
@@ -118,7 +118,7 @@ IsLegal K scripts sheaf events t = Leads K scripts events (first_state sheaf) t
 
 -- whole: each client's script is done, and nothing is pending
 abbrev pub IsWhole : {F : Type 0} → List (List Command) → State F → Type 0
-IsWhole scripts s = (c : ℕ) (script : List Command) → slice_get scripts c ≡ Some script → s.lanes c ≡ free (length script)
+IsWhole scripts s = (c : ℕ) (script : List Command) → slice_get scripts c ≡ Some script → s.lanes c ≡ free_lane (length script)
 
 -- the events are one legal order of all commands of these scripts on this sheaf, whole
 pub record IsLegalAndWhole {F : Type 0} (K : Ops) (scripts : List (List Command)) (sheaf : SheafData F) (events : List Event) : Type 0 where

@@ -5,10 +5,10 @@ use Rattle.std.proofs.lemmas.List.Elements.{All-take, All-drop}
 use Rattle.std.specs.List.{refill}
 use borrow.Rule.Slice.PartMut.{post_of}
 use Rattle.dense_blocks.specs.Field.{Ops, IsField}
-use Rattle.dense_blocks.specs.Vectors.{AllScalars, zeros, plus, scaled, combination}
+use Rattle.dense_blocks.specs.Vectors.{AllScalars, zeros, plus, multiple, combination}
 use Rattle.dense_blocks.specs.Matrices.{cut}
 use Rattle.dense_blocks.proofs.Shapes.{Vector, vector_of, vector-size}
-use Rattle.dense_blocks.proofs.VectorLaws.{plus-assoc, plus-zeros, zeros-plus, zeros-size, plus-vector, scaled-vector, combination-vector}
+use Rattle.dense_blocks.proofs.VectorLaws.{plus-assoc, plus-zeros, zeros-plus, zeros-size, plus-vector, multiple-vector, combination-vector}
 use Rattle.dense_blocks.proofs.Cutting.{cut-matrix}
 use Rattle.dense_blocks.proofs.Tails.{tail_of, tail-read, tail-written}
 
@@ -35,7 +35,7 @@ module _ (K : Ops) (F : IsField K) where
 
   adds_up-next_row : (n : ℕ) (start cs rows : List ℕ) (i : ℕ) (target rest target' : List ℕ)
       → AddsUp K n start cs rows i target rest → i < length cs
-      → target' ≡ plus K target (scaled K (get_or cs i 0) (take n rest)) → AllScalars K target'
+      → target' ≡ plus K target (multiple K (get_or cs i 0) (take n rest)) → AllScalars K target'
       → AddsUp K n start cs rows (i + 1) target' (drop n rest)
   adds_up-next_row n start cs rows i target rest target' h l now scalars =
       let c : ℕ = get_or cs i 0 in
@@ -48,11 +48,11 @@ module _ (K : Ops) (F : IsField K) where
       record {
         whole =
             ap (λ t. plus K t later) now
-            ∙ plus-assoc K F target (scaled K c (take n rest)) later
+            ∙ plus-assoc K F target (multiple K c (take n rest)) later
             ∙ ap (λ ds. plus K target (combination K n ds (cut (suc m) n rest))) (sym (drop_more cs i 0 l))
             ∙ ap (λ k. plus K target (combination K n (drop i cs) (cut k n rest))) (sym more)
             ∙ h.whole;
-        width = ap length now ∙ vector-size K n (plus K target (scaled K c (take n rest))) (plus-vector K F n target (scaled K c (take n rest)) target_is (scaled-vector K F n c (take n rest) row));
+        width = ap length now ∙ vector-size K n (plus K target (multiple K c (take n rest))) (plus-vector K F n target (multiple K c (take n rest)) target_is (multiple-vector K F n c (take n rest) row));
         left = length-drop n rest ∙ (omega (arith, size));
         target_scalars = scalars;
         rest_scalars = All-drop (λ a. a < K.order) n rest h.rest_scalars;
@@ -60,11 +60,11 @@ module _ (K : Ops) (F : IsField K) where
 
   pub adds_up-next : (n : ℕ) (start cs rows : List ℕ) (i : ℕ) (target rest : List ℕ) (row later target' : List ℕ)
       → AddsUp K n start cs rows i target rest → i < length cs → row ≡ take n rest → later ≡ drop n rest
-      → target' ≡ plus K target (scaled K (get_or cs i 0) row) → AllScalars K target'
+      → target' ≡ plus K target (multiple K (get_or cs i 0) row) → AllScalars K target'
       → AddsUp K n start cs rows (i + 1) target' later
   adds_up-next n start cs rows i target rest row later target' h l is_row is_later now scalars =
       subst (AddsUp K n start cs rows (i + 1) target') (sym is_later)
-      (adds_up-next_row n start cs rows i target rest target' h l (now ∙ ap (λ r. plus K target (scaled K (get_or cs i 0) r)) is_row) scalars)
+      (adds_up-next_row n start cs rows i target rest target' h l (now ∙ ap (λ r. plus K target (multiple K (get_or cs i 0) r)) is_row) scalars)
 
   pub adds_up-end : (n : ℕ) (start cs rows : List ℕ) (target rest : List ℕ) (i : ℕ) → AddsUp K n start cs rows i target rest → i ≡ length cs
       → target ≡ plus K start (combination K n cs (cut (length cs) n rows))

@@ -3,12 +3,12 @@ use Rattle.std.proofs.Common.{◌≡◌, ℕ, ◌+◌, ◌*◌, ◌<◌, List, [
 use Rattle.std.proofs.lemmas.List.{take_all, take_more, get_or-map, length-map}
 use Rattle.dense_blocks.specs.Field.{Ops, IsField}
 use Rattle.dense_blocks.specs.Vectors.{AllScalars, plus, negative, dot, combination}
-use Rattle.dense_blocks.specs.Matrices.{cut, applied, product, matrix_sum, matrix_negative}
+use Rattle.dense_blocks.specs.Matrices.{cut, image_of, product, matrix_sum, matrix_negative}
 use Rattle.dense_blocks.specs.declared.block.Block.{Block}
 use Rattle.dense_blocks.specs.Blocks.{matrix_of, IsBlock}
 use Rattle.dense_blocks.proofs.Shapes.{Vector, Matrix, vector_of, vector-size, vector-scalars, matrix-size, row-vector}
 use Rattle.dense_blocks.proofs.VectorLaws.{plus-vector, negative-vector}
-use Rattle.dense_blocks.proofs.MatrixLaws.{product-matrix, product-row, applied-vector}
+use Rattle.dense_blocks.proofs.MatrixLaws.{product-matrix, product-row, image_of-vector}
 use Rattle.dense_blocks.proofs.Cutting.{flat, flat-cut, flat-scalars, cut-size, cut-matrix, cut-plus, cut-negative, matrix-sized, first_rows, first_rows-next, first_rows-size, cut-first_rows, first_rows-all, first_sums, first_sums-all, first_negatives, first_negatives-all}
 
 -- the entries of a block are those of its matrix
@@ -105,18 +105,18 @@ module _ (K : Ops) (F : IsField K) where
       }
 
   -- one more coordinate of an image
-  pub block_image-next : (a : Block) (v : List ℕ) (i : ℕ) (xs row more : List ℕ) (y : ℕ) → i < a.rows → xs ≡ take i (applied K (matrix_of a) v)
-      → row ≡ get_or (matrix_of a) i [] → y ≡ dot K row v → more ≡ xs ++ y ∷ [] → more ≡ take (i + 1) (applied K (matrix_of a) v)
+  pub block_image-next : (a : Block) (v : List ℕ) (i : ℕ) (xs row more : List ℕ) (y : ℕ) → i < a.rows → xs ≡ take i (image_of K (matrix_of a) v)
+      → row ≡ get_or (matrix_of a) i [] → y ≡ dot K row v → more ≡ xs ++ y ∷ [] → more ≡ take (i + 1) (image_of K (matrix_of a) v)
   block_image-next a v i xs row more y l now is_row is_y is_more =
-      let w : List ℕ = applied K (matrix_of a) v in
+      let w : List ℕ = image_of K (matrix_of a) v in
       let inside : i < length (matrix_of a) = subst (λ k. i < k) (sym (block-size a)) l in
       is_more
       ∙ ap₂ (λ t z. t ++ z ∷ []) now (is_y ∙ ap (λ r. dot K r v) is_row ∙ sym (get_or-map (λ r. dot K r v) (matrix_of a) i [] 0 inside))
       ∙ sym (take_more w i 0 (subst (λ k. i < k) (sym (length-map (matrix_of a) (λ r. dot K r v))) inside))
 
-  pub block_image-all : (a : Block) (v : List ℕ) (i : ℕ) (xs : List ℕ) → i ≡ a.rows → xs ≡ take i (applied K (matrix_of a) v) → xs ≡ applied K (matrix_of a) v
+  pub block_image-all : (a : Block) (v : List ℕ) (i : ℕ) (xs : List ℕ) → i ≡ a.rows → xs ≡ take i (image_of K (matrix_of a) v) → xs ≡ image_of K (matrix_of a) v
   block_image-all a v i xs e now =
-      now ∙ take_all i (applied K (matrix_of a) v) (omega (arith, length-map (matrix_of a) (λ r. dot K r v), block-size a))
+      now ∙ take_all i (image_of K (matrix_of a) v) (omega (arith, length-map (matrix_of a) (λ r. dot K r v), block-size a))
 
-  pub block_image-vector : (a : Block) (v : List ℕ) → AllScalars K a.entries → Vector K a.rows (applied K (matrix_of a) v)
-  block_image-vector a v ha = applied-vector K F a.rows a.cols (matrix_of a) v (block-matrix K a ha)
+  pub block_image-vector : (a : Block) (v : List ℕ) → AllScalars K a.entries → Vector K a.rows (image_of K (matrix_of a) v)
+  block_image-vector a v ha = image_of-vector K F a.rows a.cols (matrix_of a) v (block-matrix K a ha)

@@ -6,14 +6,14 @@ use Rattle.std.proofs.lemmas.Bool.{cases_lt}
 use Rattle.std.proofs.lemmas.List.{length-map, length-append, length-take-le, get_or-map, get_or-set_other, get_or_push, get_or_append_left, take-append-le, take_at, take_more, take-map, take_all, drop_all, append-nil}
 use Rattle.std.proofs.lemmas.List.Elements.{All-nil, All-push, All-head, All-tail, All-take, All-get_or}
 use Rattle.dense_blocks.specs.Field.{Ops, IsField}
-use Rattle.dense_blocks.specs.Vectors.{IsVector, zeros, plus, negative, scaled, dot, combination}
+use Rattle.dense_blocks.specs.Vectors.{IsVector, zeros, plus, negative, multiple, dot, combination}
 use Rattle.dense_blocks.specs.Matrices.{IsMatrix}
-use Rattle.dense_blocks.specs.Elimination.{Fits, rows, part, cleared, reduced, parts, PullsBack, Eliminates, ComesFrom}
-use Rattle.dense_blocks.specs.Solving.{lists, IsEarlier, IsEarlierCoordinate, Leads}
+use Rattle.dense_blocks.specs.Elimination.{IsPivot, rows, pivot_multiple, pivot_remainder, reduced, parts, PullsBack, Eliminates, ComesFrom}
+use Rattle.dense_blocks.specs.Solving.{lists, IsDependent, IsDependentCoordinate, IsLeading}
 use Rattle.dense_blocks.specs.declared.solving.Pivot.{Pivot}
 use Rattle.dense_blocks.proofs.ScalarLaws.{zero_add, neg_mul}
 use Rattle.dense_blocks.proofs.Shapes.{Vector, Matrix, to_matrix, to_vector, from_vector, vector_of, vector-size, vector-scalars, row-vector}
-use Rattle.dense_blocks.proofs.VectorLaws.{zeros-size, zeros-vector, zeros-dot, zeros-plus, plus-zeros, plus-vector, plus-assoc, plus-comm, plus-cross, plus-negative, scaled-vector, scaled-plus, scaled-neg, dot-plus, dot-scaled, combination-vector, combination-plus, combination-scaled, combination-zeros}
+use Rattle.dense_blocks.proofs.VectorLaws.{zeros-size, zeros-vector, zeros-dot, zeros-plus, plus-zeros, plus-vector, plus-assoc, plus-comm, plus-cross, plus-negative, multiple-vector, multiple-plus, multiple-neg, dot-plus, dot-multiple, combination-vector, combination-plus, combination-multiple, combination-zeros}
 use Rattle.dense_blocks.proofs.Leading.{Given, reduced-combination, given-reduced, given-not_first}
 use Rattle.dense_blocks.proofs.Reductions.{reduced-vector, reduced-push, reduced-parts, parts-vector, zeros-at, cleared-zeros, cleared-row, dot-set, set-vector, combination-take, combination-set, combination-last}
 
@@ -27,18 +27,18 @@ pub reducing-start : (K : Ops) (n : ℕ) (ps : List Pivot) (u : List ℕ) → Is
 reducing-start K n ps u hu = record { vector = hu; rest = refl; all_taken = refl }
 
 pub reducing-next : (K : Ops) (h : IsField K) (n : ℕ) (ps : List Pivot) (start : List ℕ) (i : ℕ) (u taken : List ℕ) (p : Pivot) (x : ℕ)
-    → i < length ps → p ≡ get_or ps i p → Fits K n p → x ≡ part K p u → Reducing K n ps start i u taken
-    → Reducing K n ps start (i + 1) (plus K u (scaled K (K.neg x) p.row.items)) (taken ++ x ∷ [])
+    → i < length ps → p ≡ get_or ps i p → IsPivot K n p → x ≡ pivot_multiple K p u → Reducing K n ps start i u taken
+    → Reducing K n ps start (i + 1) (plus K u (multiple K (K.neg x) p.row.items)) (taken ++ x ∷ [])
 unfolding reduced parts
 reducing-next K h n ps start i u taken p x l is fit is_x now =
-    let u' : List ℕ = plus K u (scaled K (K.neg x) p.row.items) in
-    let next : cleared K p u ≡ u' = ap (λ t. plus K u (scaled K (K.neg t) p.row.items)) (sym is_x) in
+    let u' : List ℕ = plus K u (multiple K (K.neg x) p.row.items) in
+    let next : pivot_remainder K p u ≡ u' = ap (λ t. plus K u (multiple K (K.neg t) p.row.items)) (sym is_x) in
     let cut : drop i ps ≡ p ∷ drop (i + 1) ps =
     drop-cons ps i p l ∙ ap₂ (λ a b. a ∷ drop b ps) (sym is) (sym (add-one i)) in
     record {
       vector = from_vector K n u'
-          (plus-vector K h n u (scaled K (K.neg x) p.row.items) (to_vector K n u now.vector)
-          (scaled-vector K h n (K.neg x) p.row.items (to_vector K n p.row.items fit.row)));
+          (plus-vector K h n u (multiple K (K.neg x) p.row.items) (to_vector K n u now.vector)
+          (multiple-vector K h n (K.neg x) p.row.items (to_vector K n p.row.items fit.row)));
       rest = ap (reduced K (drop (i + 1) ps)) (sym next) ∙ ap (λ t. reduced K t u) (sym cut) ∙ now.rest;
       all_taken = append_assoc taken (x ∷ []) (parts K (drop (i + 1) ps) u')
           ∙ ap₂ (λ a b. taken ++ a ∷ parts K (drop (i + 1) ps) b) is_x (sym next)
@@ -104,7 +104,7 @@ module _ (K : Ops) (h : IsField K) where
       ∙ ap (λ t. K.add t (K.mul k (get_or w place 0))) (zeros-dot K h n w)
       ∙ zero_add K h (K.mul k (get_or w place 0)) (h.mul_below k (get_or w place 0))
 
-  pub pulling-start : (n : ℕ) (ps : List Pivot) (place k i : ℕ) (p : List ℕ) → All (Fits K n) ps → place < n → k < K.order → length ps ≡ i
+  pub pulling-start : (n : ℕ) (ps : List Pivot) (place k i : ℕ) (p : List ℕ) → All (IsPivot K n) ps → place < n → k < K.order → length ps ≡ i
       → p ≡ set (zeros n) place k → Pulling K n ps place k i p
   pulling-start n ps place k i p fit l low e is =
       subst (Pulling K n ps place k i) (sym is) (record {
@@ -119,8 +119,8 @@ module _ (K : Ops) (h : IsField K) where
   mul_turn a b c = h.mul_comm (K.mul a b) c ∙ ap (K.mul c) (h.mul_comm a b) ∙ sym (h.mul_assoc c b a)
 
   -- a functional before one reduction, from the functional after it
-  dot-cleared : (n : ℕ) (q : Pivot) (p w : List ℕ) (less : ℕ) → Fits K n q → Vector K n p → Vector K n w → less ≡ K.neg (K.mul (dot K p q.row.items) q.inverse)
-      → dot K (set p q.place (K.add (get_or p q.place 0) less)) w ≡ dot K p (cleared K q w)
+  dot-cleared : (n : ℕ) (q : Pivot) (p w : List ℕ) (less : ℕ) → IsPivot K n q → Vector K n p → Vector K n w → less ≡ K.neg (K.mul (dot K p q.row.items) q.inverse)
+      → dot K (set p q.place (K.add (get_or p q.place 0) less)) w ≡ dot K p (pivot_remainder K q w)
   dot-cleared n q p w less fit hp hw is =
       let row : List ℕ = q.row.items in
       let at : ℕ = get_or w q.place 0 in
@@ -130,11 +130,11 @@ module _ (K : Ops) (h : IsField K) where
       (ap (λ t. K.mul t at) is
       ∙ neg_mul K h (K.mul (dot K p row) q.inverse) at
       ∙ ap K.neg (mul_turn (dot K p row) q.inverse at)
-      ∙ sym (neg_mul K h (part K q w) (dot K p row))
-      ∙ sym (dot-scaled K h (K.neg (part K q w)) p row))
-      ∙ sym (dot-plus K h n p w (scaled K (K.neg (part K q w)) row) hw (scaled-vector K h n (K.neg (part K q w)) row (to_vector K n row fit.row)))
+      ∙ sym (neg_mul K h (pivot_multiple K q w) (dot K p row))
+      ∙ sym (dot-multiple K h (K.neg (pivot_multiple K q w)) p row))
+      ∙ sym (dot-plus K h n p w (multiple K (K.neg (pivot_multiple K q w)) row) hw (multiple-vector K h n (K.neg (pivot_multiple K q w)) row (to_vector K n row fit.row)))
 
-  pub pulling-next : (n : ℕ) (ps : List Pivot) (place k i : ℕ) (p : List ℕ) (q : Pivot) (less : ℕ) → All (Fits K n) ps → i < length ps → q ≡ get_or ps i q → Fits K n q
+  pub pulling-next : (n : ℕ) (ps : List Pivot) (place k i : ℕ) (p : List ℕ) (q : Pivot) (less : ℕ) → All (IsPivot K n) ps → i < length ps → q ≡ get_or ps i q → IsPivot K n q
       → less ≡ K.neg (K.mul (dot K p q.row.items) q.inverse) → less < K.order → Pulling K n ps place k (i + 1) p
       → Pulling K n ps place k i (set p q.place (K.add (get_or p q.place 0) less))
   pulling-next n ps place k i p q less all l is fit is_less low now = record {
@@ -143,7 +143,7 @@ module _ (K : Ops) (h : IsField K) where
     gives = λ u hu.
         let w : List ℕ = reduced K (take i ps) u in
         dot-cleared n q p w less fit (to_vector K n p now.functional)
-        (reduced-vector K h n (take i ps) u (All-take (Fits K n) i ps all) (to_vector K n u hu)) is_less
+        (reduced-vector K h n (take i ps) u (All-take (IsPivot K n) i ps all) (to_vector K n u hu)) is_less
         ∙ ap (dot K p)
         (sym (reduced-push K h (take i ps) q u)
         ∙ ap (λ t. reduced K (take i ps ++ t ∷ []) u) is
@@ -161,14 +161,14 @@ module _ (K : Ops) (h : IsField K) where
     elsewhere = now.elsewhere;
   }
 
-  pub rows-matrix : (n : ℕ) (ps : List Pivot) → All (Fits K n) ps → Matrix K (length ps) n (rows ps)
+  pub rows-matrix : (n : ℕ) (ps : List Pivot) → All (IsPivot K n) ps → Matrix K (length ps) n (rows ps)
   rows-matrix n [] fit = tt
   rows-matrix n (p ∷ ps) fit =
-      let first : Fits K n p = All-head (Fits K n) p ps fit in
-      (to_vector K n p.row.items first.row, rows-matrix n ps (All-tail (Fits K n) p ps fit))
+      let first : IsPivot K n p = All-head (IsPivot K n) p ps fit in
+      (to_vector K n p.row.items first.row, rows-matrix n ps (All-tail (IsPivot K n) p ps fit))
 
   pub rebuilding-start : (n : ℕ) (vectors : List (List ℕ)) (ps : List Pivot) (coefficients taken : List ℕ)
-      → Matrix K (length vectors) n vectors → All (Fits K n) ps → coefficients ≡ zeros (length vectors) → IsVector K (length ps) taken
+      → Matrix K (length vectors) n vectors → All (IsPivot K n) ps → coefficients ≡ zeros (length vectors) → IsVector K (length ps) taken
       → Rebuilding K n vectors ps (combination K n taken (rows ps)) coefficients taken
   rebuilding-start n vectors ps coefficients taken hv fit is h_taken =
       subst (λ c. Rebuilding K n vectors ps (combination K n taken (rows ps)) c taken) (sym is) (record {
@@ -180,7 +180,7 @@ module _ (K : Ops) (h : IsField K) where
         elsewhere = λ j none. zeros-at K h (length vectors) j;
       })
 
-  -- a pivot has one part for each pivot before it
+  -- a pivot has one pivot_multiple for each pivot before it
   pub parts-are : (vectors : List (List ℕ)) (ps : List Pivot) (k : ℕ) (q : Pivot) → k < length ps → ComesFrom K vectors (take k ps) q → Vector K k q.parts.items
   parts-are vectors ps k q l from =
       let w : List ℕ = get_or vectors q.source [] in
@@ -189,12 +189,12 @@ module _ (K : Ops) (h : IsField K) where
 
   -- coefficients that are 0 but at the sources of pivots leave out the vectors that earlier ones give
   pub rebuilding-leads : (n : ℕ) (vectors : List (List ℕ)) (count : ℕ) (ps : List Pivot) (target coefficients taken : List ℕ) → Eliminates K n vectors count ps
-      → Rebuilding K n vectors ps target coefficients taken → Leads K n vectors coefficients
+      → Rebuilding K n vectors ps target coefficients taken → IsLeading K n vectors coefficients
   rebuilding-leads n vectors count ps target coefficients taken all now k l earlier =
-      now.elsewhere k (λ a d low e. all.not_earlier a d low (subst (IsEarlier K n vectors) (sym e) earlier))
+      now.elsewhere k (λ a d low e. all.not_earlier a d low (subst (IsDependent K n vectors) (sym e) earlier))
 
   -- a vector is its row and its parts
-  pub source-is : (n : ℕ) (vectors : List (List ℕ)) (ps : List Pivot) (k : ℕ) (q : Pivot) → Matrix K (length vectors) n vectors → All (Fits K n) ps
+  pub source-is : (n : ℕ) (vectors : List (List ℕ)) (ps : List Pivot) (k : ℕ) (q : Pivot) → Matrix K (length vectors) n vectors → All (IsPivot K n) ps
       → k < length ps → ComesFrom K vectors (take k ps) q
       → plus K q.row.items (combination K n q.parts.items (rows ps)) ≡ get_or vectors q.source []
   source-is n vectors ps k q hv fit l from =
@@ -203,7 +203,7 @@ module _ (K : Ops) (h : IsField K) where
       ap (plus K q.row.items)
       (sym (combination-take K n k q.parts.items (rows ps) (omega arith)) ∙ ap (combination K n q.parts.items) (take-map (λ (p : Pivot). p.row.items) k ps))
       ∙ ap₂ (λ a b. plus K a (combination K n b (rows (take k ps)))) from.row_is from.parts_are
-      ∙ reduced-parts K h n (take k ps) w (All-take (Fits K n) k ps fit) (row-vector K (length vectors) n vectors q.source hv from.source)
+      ∙ reduced-parts K h n (take k ps) w (All-take (IsPivot K n) k ps fit) (row-vector K (length vectors) n vectors q.source hv from.source)
 
   exchange : (n : ℕ) (C P R S : List ℕ) → Vector K n P → Vector K n R → Vector K n S
       → plus K (plus K C (plus K R S)) (plus K P (negative K S)) ≡ plus K C (plus K P R)
@@ -216,48 +216,48 @@ module _ (K : Ops) (h : IsField K) where
       ∙ plus-comm K h R P)
 
   pub rebuilding-next : (n : ℕ) (vectors : List (List ℕ)) (ps : List Pivot) (target coefficients shorter : List ℕ) (last : ℕ) (q : Pivot)
-      → Matrix K (length vectors) n vectors → All (Fits K n) ps → length shorter < length ps → q ≡ get_or ps (length shorter) q
+      → Matrix K (length vectors) n vectors → All (IsPivot K n) ps → length shorter < length ps → q ≡ get_or ps (length shorter) q
       → ComesFrom K vectors (take (length shorter) ps) q
       → Rebuilding K n vectors ps target coefficients (shorter ++ last ∷ [])
-      → Rebuilding K n vectors ps target (set coefficients q.source (K.add (get_or coefficients q.source 0) last)) (plus K shorter (scaled K (K.neg last) q.parts.items))
+      → Rebuilding K n vectors ps target (set coefficients q.source (K.add (get_or coefficients q.source 0) last)) (plus K shorter (multiple K (K.neg last) q.parts.items))
   rebuilding-next n vectors ps target coefficients shorter last q hv fit l is from now =
       let k : ℕ = length shorter in
       let m : ℕ = length vectors in
       let row : List ℕ = q.row.items in
       let c' : List ℕ = set coefficients q.source (K.add (get_or coefficients q.source 0) last) in
-      let back : List ℕ = scaled K (K.neg last) q.parts.items in
+      let back : List ℕ = multiple K (K.neg last) q.parts.items in
       let C : List ℕ = combination K n coefficients vectors in
       let P : List ℕ = combination K n shorter (rows ps) in
       let G : List ℕ = combination K n q.parts.items (rows ps) in
-      let R : List ℕ = scaled K last row in
-      let S : List ℕ = scaled K last G in
+      let R : List ℕ = multiple K last row in
+      let S : List ℕ = multiple K last G in
       let all_rows : Matrix K (length ps) n (rows ps) = rows-matrix n ps fit in
       let row_is : get_or (rows ps) k [] ≡ row = get_or-map (λ (p : Pivot). p.row.items) ps k q [] l ∙ ap (λ (p : Pivot). p.row.items) (sym is) in
       let row_vector : Vector K n row = subst (Vector K n) row_is (row-vector K (length ps) n (rows ps) k all_rows l) in
       let shorter_vector : Vector K k shorter =
       vector_of K k shorter refl (front_all (λ a. a < K.order) shorter (last ∷ []) now.taken_are) in
       let parts_vector : Vector K k q.parts.items = parts-are vectors ps k q l from in
-      let back_vector : Vector K k back = scaled-vector K h k (K.neg last) q.parts.items parts_vector in
+      let back_vector : Vector K k back = multiple-vector K h k (K.neg last) q.parts.items parts_vector in
       let sum_vector : Vector K k (plus K shorter back) = plus-vector K h k shorter back shorter_vector back_vector in
       let G_vector : Vector K n G = combination-vector K h (length ps) n q.parts.items (rows ps) all_rows in
       let size : length coefficients ≡ m = now.coefficients_are.size in
       let columns_part : combination K n c' vectors ≡ plus K C (plus K R S) =
       combination-set K h n coefficients vectors q.source last (omega (arith, from.source)) size
-      ∙ ap (λ t. plus K C (scaled K last t)) (sym (source-is n vectors ps k q hv fit l from))
-      ∙ ap (plus K C) (scaled-plus K h last row G) in
+      ∙ ap (λ t. plus K C (multiple K last t)) (sym (source-is n vectors ps k q hv fit l from))
+      ∙ ap (plus K C) (multiple-plus K h last row G) in
       let rows_part : combination K n (plus K shorter back) (rows ps) ≡ plus K P (negative K S) =
       combination-plus K h k n shorter back (rows ps) shorter_vector back_vector
-      ∙ ap (plus K P) (combination-scaled K h n (K.neg last) q.parts.items (rows ps) ∙ scaled-neg K h last G) in
+      ∙ ap (plus K P) (combination-multiple K h n (K.neg last) q.parts.items (rows ps) ∙ multiple-neg K h last G) in
       let before : combination K n (shorter ++ last ∷ []) (rows ps) ≡ plus K P R =
       combination-last K h (length ps) n shorter last (rows ps) (omega (arith, length-map ps (λ (p : Pivot). p.row.items))) all_rows
-      ∙ ap (λ t. plus K P (scaled K last t)) row_is in
+      ∙ ap (λ t. plus K P (multiple K last t)) row_is in
       record {
         coefficients_are = from_vector K m c' (set-vector K h m q.source (K.add (get_or coefficients q.source 0) last) coefficients
             (h.add_below (get_or coefficients q.source 0) last) (to_vector K m coefficients now.coefficients_are));
         taken_are = vector-scalars K k (plus K shorter back) sum_vector;
         short = omega (arith, vector-size K k (plus K shorter back) sum_vector);
         gives = ap₂ (plus K) columns_part rows_part
-            ∙ exchange n C P R S (combination-vector K h (length ps) n shorter (rows ps) all_rows) (scaled-vector K h n last row row_vector) (scaled-vector K h n last G G_vector)
+            ∙ exchange n C P R S (combination-vector K h (length ps) n shorter (rows ps) all_rows) (multiple-vector K h n last row row_vector) (multiple-vector K h n last G G_vector)
             ∙ ap (plus K C) (sym before)
             ∙ now.gives;
         elsewhere = λ j none.
@@ -274,7 +274,7 @@ module _ (K : Ops) (h : IsField K) where
   -- no vector is looked at yet
   pub eliminates-none : (n : ℕ) (vectors : List (List ℕ)) → Eliminates K n vectors 0 []
   eliminates-none n vectors = record {
-    fit = All-nil (Fits K n);
+    fit = All-nil (IsPivot K n);
     come_from = λ k d l. absurd (omega arith);
     not_earlier = λ k d l. absurd (omega arith);
     zero = λ j l. absurd (omega arith);
@@ -292,7 +292,7 @@ module _ (K : Ops) (h : IsField K) where
 
   -- a pivot does not come from a vector that earlier ones give
   source-not_earlier : (n : ℕ) (vectors : List (List ℕ)) (ps : List Pivot) (q : Pivot) → Matrix K (length vectors) n vectors → Eliminates K n vectors q.source ps
-      → Fits K n q → ComesFrom K vectors ps q → IsEarlier K n vectors q.source → ⊥
+      → IsPivot K n q → ComesFrom K vectors ps q → IsDependent K n vectors q.source → ⊥
   source-not_earlier n vectors ps q hv all fit from earlier =
       let none : q.row.items ≡ zeros n =
       from.row_is ∙ ap (reduced K ps) (sym earlier.is)
@@ -312,14 +312,14 @@ module _ (K : Ops) (h : IsField K) where
 
   -- one more vector, which becomes a pivot
   pub eliminates-pivot : (n : ℕ) (vectors : List (List ℕ)) (ps : List Pivot) (q : Pivot) → Matrix K (length vectors) n vectors → Eliminates K n vectors q.source ps
-      → Fits K n q → ComesFrom K vectors ps q → Eliminates K n vectors (q.source + 1) (ps ++ q ∷ [])
+      → IsPivot K n q → ComesFrom K vectors ps q → Eliminates K n vectors (q.source + 1) (ps ++ q ∷ [])
   eliminates-pivot n vectors ps q hv all fit from = record {
-    fit = All-push (Fits K n) ps q all.fit fit;
+    fit = All-push (IsPivot K n) ps q all.fit fit;
     come_from = one-more (ComesFrom K vectors) ps q all.come_from from;
-    not_earlier = one-more (λ before p. IsEarlier K n vectors p.source → ⊥) ps q all.not_earlier (source-not_earlier n vectors ps q hv all fit from);
+    not_earlier = one-more (λ before p. IsDependent K n vectors p.source → ⊥) ps q all.not_earlier (source-not_earlier n vectors ps q hv all fit from);
     zero = below_more _ _
-        (λ j l. reduced-push K h ps q (get_or vectors j []) ∙ ap (cleared K q) (all.zero j l) ∙ cleared-zeros K h n q fit)
-        (reduced-push K h ps q (get_or vectors q.source []) ∙ ap (cleared K q) (sym from.row_is) ∙ cleared-row K h n q fit);
+        (λ j l. reduced-push K h ps q (get_or vectors j []) ∙ ap (pivot_remainder K q) (all.zero j l) ∙ cleared-zeros K h n q fit)
+        (reduced-push K h ps q (get_or vectors q.source []) ∙ ap (pivot_remainder K q) (sym from.row_is) ∙ cleared-row K h n q fit);
   }
 
   -- coordinate i of each pivot's row is a combination of its earlier ones, if that is so for the vectors
@@ -335,7 +335,7 @@ module _ (K : Ops) (h : IsField K) where
       let w : List ℕ = get_or vectors q.source [] in
       let last : Given K h by i q.row.items =
       subst (Given K h by i) (sym from.row_is)
-      (given-reduced K h n i by (take k all_ps) w l (All-take (Fits K n) k all_ps all.fit) before (row-vector K (length vectors) n vectors q.source hv from.source)
+      (given-reduced K h n i by (take k all_ps) w l (All-take (IsPivot K n) k all_ps all.fit) before (row-vector K (length vectors) n vectors q.source hv from.source)
       (record { is = All-get_or (λ v. dot K by (take i v) ≡ get_or v i 0) vectors q.source [] from.source given })) in
       subst (All (λ p. Given K h by i p.row.items)) (sym (take_more all_ps k p (omega arith)) ∙ ap (λ t. take t all_ps) (add-one k))
       (All-push (λ p. Given K h by i p.row.items) (take k all_ps) q before last)
@@ -343,7 +343,7 @@ module _ (K : Ops) (h : IsField K) where
   -- a functional that is pulled back leaves out coordinates that earlier ones give
   pub pulls_back-leading : (n : ℕ) (columns : List (List ℕ)) (count : ℕ) (ps : List Pivot) (v p : List ℕ) (place k i : ℕ) → Matrix K (length columns) n columns → Vector K n v
       → Eliminates K n columns count ps → take place (reduced K ps v) ≡ zeros place → get_or (reduced K ps v) place 0 ≢ 0 → PullsBack K n ps place k p
-      → i < n → IsEarlierCoordinate K columns v i → get_or p i 0 ≡ 0
+      → i < n → IsDependentCoordinate K columns v i → get_or p i 0 ≡ 0
   pulls_back-leading n columns count ps v p place k i hc hv all first not_zero pulls l earlier =
       let rows_given : All (λ q. Given K h earlier.by i q.row.items) ps =
       subst (All (λ q. Given K h earlier.by i q.row.items)) (take_all (length ps) ps (omega arith))
@@ -354,5 +354,5 @@ module _ (K : Ops) (h : IsField K) where
       (λ e. given-not_first K h i place earlier.by (reduced K ps v) first not_zero rest_given (sym e))
       (λ j d low.
       let q : Pivot = get_or ps j d in
-      let fit : Fits K n q = All-get_or (Fits K n) ps j d low all.fit in
+      let fit : IsPivot K n q = All-get_or (IsPivot K n) ps j d low all.fit in
       given-not_first K h i q.place earlier.by q.row.items fit.first fit.not_zero (All-get_or (λ q. Given K h earlier.by i q.row.items) ps j d low rows_given))

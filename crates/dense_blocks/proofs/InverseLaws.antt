@@ -5,13 +5,13 @@ use Rattle.std.proofs.lemmas.List.{take_at, drop_at, take-append-drop, drop_more
 use Rattle.std.proofs.lemmas.List.Elements.{All-get_or}
 use Rattle.dense_blocks.specs.Field.{Ops, IsField}
 use Rattle.dense_blocks.specs.Vectors.{zeros, plus, negative, dot}
-use Rattle.dense_blocks.specs.Matrices.{applied, product, identity, IsInverse}
-use Rattle.dense_blocks.specs.Clearing.{Kills, unit, StartUnits, Cleared, Stuck, beside, undoing}
+use Rattle.dense_blocks.specs.Matrices.{image_of, product, identity, IsInverse}
+use Rattle.dense_blocks.specs.Clearing.{Annihilate, unit, StartUnits, HasUnitColumns, HasNoPivot, beside, undoing}
 use Rattle.dense_blocks.specs.Inverses.{InKernel}
 use Rattle.dense_blocks.proofs.ScalarLaws.{zero_below, one_below, zero_add, zero_mul, one_mul, neg_add}
 use Rattle.dense_blocks.proofs.Shapes.{Vector, Matrix, to_vector, from_vector, vector_of, vector-size, vector-scalars, to_matrix, from_matrix, matrix-size, append-vector, row-vector}
 use Rattle.dense_blocks.proofs.VectorLaws.{zeros-append, zeros-vector, negative-vector, plus-zeros, plus-comm, plus-negative, negative-plus, same-by-difference, dot-append, dot-below, dot-zeros, zeros-dot}
-use Rattle.dense_blocks.proofs.MatrixLaws.{identity-matrix, product-matrix, product-applied, identity-applied, applied-vector, applied-negative, applied-zeros, matrix-ext, inverse-applied}
+use Rattle.dense_blocks.proofs.MatrixLaws.{identity-matrix, product-matrix, product-image_of, identity-image_of, image_of-vector, image_of-negative, image_of-zeros, matrix-ext, inverse-image_of}
 use Rattle.dense_blocks.proofs.Reductions.{zeros-at}
 use Rattle.dense_blocks.proofs.Leading.{take-vector}
 use Rattle.dense_blocks.proofs.ClearingLaws.{units-at, unit-past}
@@ -73,17 +73,17 @@ start-units n i (suc m) [] e h = absurd (omega arith)
 start-units n i (suc m) (r ∷ M) e h = ap₂ ◌∷◌ h.0 (start-units n (suc i) m M (omega arith) h.1)
 
 -- rows that kill x give zero at x
-kills-applied : (K : Ops) (M : List (List ℕ)) (x : List ℕ) (m : ℕ) → length M ≡ m → Kills K M x → applied K M x ≡ zeros m
-kills-applied K [] x zero e h = refl
-kills-applied K [] x (suc m) e h = absurd (omega arith)
-kills-applied K (r ∷ M) x zero e h = absurd (omega arith)
-kills-applied K (r ∷ M) x (suc m) e h = ap₂ ◌∷◌ h.0 (kills-applied K M x m (omega arith) h.1)
+kills-image_of : (K : Ops) (M : List (List ℕ)) (x : List ℕ) (m : ℕ) → length M ≡ m → Annihilate K M x → image_of K M x ≡ zeros m
+kills-image_of K [] x zero e h = refl
+kills-image_of K [] x (suc m) e h = absurd (omega arith)
+kills-image_of K (r ∷ M) x zero e h = absurd (omega arith)
+kills-image_of K (r ∷ M) x (suc m) e h = ap₂ ◌∷◌ h.0 (kills-image_of K M x m (omega arith) h.1)
 
-applied-kills : (K : Ops) (M : List (List ℕ)) (x : List ℕ) (m : ℕ) → length M ≡ m → applied K M x ≡ zeros m → Kills K M x
-applied-kills K [] x m e h = tt
-applied-kills K (r ∷ M) x zero e h = absurd (omega arith)
-applied-kills K (r ∷ M) x (suc m) e h =
-    (first (dot K r x) 0 (applied K M x) (zeros m) h, applied-kills K M x m (omega arith) (rest (dot K r x) 0 (applied K M x) (zeros m) h))
+image_of-kills : (K : Ops) (M : List (List ℕ)) (x : List ℕ) (m : ℕ) → length M ≡ m → image_of K M x ≡ zeros m → Annihilate K M x
+image_of-kills K [] x m e h = tt
+image_of-kills K (r ∷ M) x zero e h = absurd (omega arith)
+image_of-kills K (r ∷ M) x (suc m) e h =
+    (first (dot K r x) 0 (image_of K M x) (zeros m) h, image_of-kills K M x m (omega arith) (rest (dot K r x) 0 (image_of K M x) (zeros m) h))
   where
     first : (a b : ℕ) (u v : List ℕ) → ◌≡◌ {A = List ℕ} (a ∷ u) (b ∷ v) → a ≡ b
     first a b u v e = cc
@@ -91,21 +91,21 @@ applied-kills K (r ∷ M) x (suc m) e h =
     rest : (a b : ℕ) (u v : List ℕ) → ◌≡◌ {A = List ℕ} (a ∷ u) (b ∷ v) → u ≡ v
     rest a b u v e = cc
 
-each-kills : (K : Ops) (M : List (List ℕ)) (x : List ℕ) → ((i : ℕ) → i < length M → dot K (get_or M i []) x ≡ 0) → Kills K M x
+each-kills : (K : Ops) (M : List (List ℕ)) (x : List ℕ) → ((i : ℕ) → i < length M → dot K (get_or M i []) x ≡ 0) → Annihilate K M x
 each-kills K [] x h = tt
 each-kills K (r ∷ M) x h = (h 0 (omega arith), each-kills K M x (λ i l. h (suc i) (omega arith)))
 
 module _ (K : Ops) (h : IsField K) where
-  applied-halves : (m k n : ℕ) (M : List (List ℕ)) (u v : List ℕ) → Matrix K m (k + n) M → length u ≡ k
-      → applied K M (u ++ v) ≡ plus K (applied K (map (take k) M) u) (applied K (map (drop k) M) v)
-  applied-halves zero k n [] u v hm e = refl
-  applied-halves zero k n (r ∷ M) u v hm e = absurd hm
-  applied-halves (suc m) k n [] u v hm e = absurd hm
-  applied-halves (suc m) k n (r ∷ M) u v hm e =
+  image_of-halves : (m k n : ℕ) (M : List (List ℕ)) (u v : List ℕ) → Matrix K m (k + n) M → length u ≡ k
+      → image_of K M (u ++ v) ≡ plus K (image_of K (map (take k) M) u) (image_of K (map (drop k) M) v)
+  image_of-halves zero k n [] u v hm e = refl
+  image_of-halves zero k n (r ∷ M) u v hm e = absurd hm
+  image_of-halves (suc m) k n [] u v hm e = absurd hm
+  image_of-halves (suc m) k n (r ∷ M) u v hm e =
       ap₂ ◌∷◌
       (ap (λ t. dot K t (u ++ v)) (sym (take-append-drop k r))
       ∙ dot-append K h (take k r) u (drop k r) v (vector-size K k (take k r) (take-vector K (k + n) k r hm.0 (omega arith)) ∙ sym e))
-      (applied-halves m k n M u v hm.1 e)
+      (image_of-halves m k n M u v hm.1 e)
 
   -- a unit vector picks a coordinate
   unit-dot : (n i : ℕ) (c : List ℕ) → Vector K n c → dot K (unit n i) c ≡ get_or c i 0
@@ -124,13 +124,13 @@ module _ (K : Ops) (h : IsField K) where
     joined = beside-matrix K n n n A (identity n) ha (identity-matrix K h n)
 
     -- what the joined rows do, before
-    joined-applied : (u v : List ℕ) → Vector K n u → Vector K n v → applied K (beside A (identity n)) (u ++ v) ≡ plus K (applied K A u) v
-    joined-applied u v hu hv =
-        applied-halves n n n (beside A (identity n)) u v joined (vector-size K n u hu)
-        ∙ ap₂ (λ L R. plus K (applied K L u) (applied K R v)) (left-beside K n n n A (identity n) ha (identity-matrix K h n)) (right-beside K n n n A (identity n) ha (identity-matrix K h n))
-        ∙ ap (plus K (applied K A u)) (identity-applied K h n v hv)
+    joined-image_of : (u v : List ℕ) → Vector K n u → Vector K n v → image_of K (beside A (identity n)) (u ++ v) ≡ plus K (image_of K A u) v
+    joined-image_of u v hu hv =
+        image_of-halves n n n (beside A (identity n)) u v joined (vector-size K n u hu)
+        ∙ ap₂ (λ L R. plus K (image_of K L u) (image_of K R v)) (left-beside K n n n A (identity n) ha (identity-matrix K h n)) (right-beside K n n n A (identity n) ha (identity-matrix K h n))
+        ∙ ap (plus K (image_of K A u)) (identity-image_of K h n v hv)
 
-    module _ (M : List (List ℕ)) (cleared : Cleared K n n (beside A (identity n)) M) where
+    module _ (M : List (List ℕ)) (cleared : HasUnitColumns K n n (beside A (identity n)) M) where
       rows : Matrix K n (n + n) M
       rows = subst (λ w. Matrix K n w M) (sym double) (to_matrix K n (2 * n) M cleared.matrix)
 
@@ -138,39 +138,39 @@ module _ (K : Ops) (h : IsField K) where
       inverse-matrix = right-matrix K n n n M rows
 
       -- and after
-      cleared-applied : (u v : List ℕ) → Vector K n u → applied K M (u ++ v) ≡ plus K u (applied K (map (drop n) M) v)
-      cleared-applied u v hu =
-          applied-halves n n n M u v rows (vector-size K n u hu)
-          ∙ ap (λ t. plus K t (applied K (map (drop n) M) v))
-          (ap (λ L. applied K L u) (start-units n 0 n M (matrix-size K n (n + n) M rows) cleared.units ∙ sym (identity-units n)) ∙ identity-applied K h n u hu)
+      cleared-image_of : (u v : List ℕ) → Vector K n u → image_of K M (u ++ v) ≡ plus K u (image_of K (map (drop n) M) v)
+      cleared-image_of u v hu =
+          image_of-halves n n n M u v rows (vector-size K n u hu)
+          ∙ ap (λ t. plus K t (image_of K (map (drop n) M) v))
+          (ap (λ L. image_of K L u) (start-units n 0 n M (matrix-size K n (n + n) M rows) cleared.units ∙ sym (identity-units n)) ∙ identity-image_of K h n u hu)
 
-      forth : (u v : List ℕ) → Vector K n u → Vector K n v → plus K (applied K A u) v ≡ zeros n → plus K u (applied K (map (drop n) M) v) ≡ zeros n
+      forth : (u v : List ℕ) → Vector K n u → Vector K n v → plus K (image_of K A u) v ≡ zeros n → plus K u (image_of K (map (drop n) M) v) ≡ zeros n
       forth u v hu hv e =
-          sym (cleared-applied u v hu)
-          ∙ kills-applied K M (u ++ v) n (matrix-size K n (n + n) M rows)
-          (cleared.there (u ++ v) (applied-kills K (beside A (identity n)) (u ++ v) n (matrix-size K n (n + n) (beside A (identity n)) joined) (joined-applied u v hu hv ∙ e)))
+          sym (cleared-image_of u v hu)
+          ∙ kills-image_of K M (u ++ v) n (matrix-size K n (n + n) M rows)
+          (cleared.there (u ++ v) (image_of-kills K (beside A (identity n)) (u ++ v) n (matrix-size K n (n + n) (beside A (identity n)) joined) (joined-image_of u v hu hv ∙ e)))
 
-      back : (u v : List ℕ) → Vector K n u → Vector K n v → plus K u (applied K (map (drop n) M) v) ≡ zeros n → plus K (applied K A u) v ≡ zeros n
+      back : (u v : List ℕ) → Vector K n u → Vector K n v → plus K u (image_of K (map (drop n) M) v) ≡ zeros n → plus K (image_of K A u) v ≡ zeros n
       back u v hu hv e =
-          sym (joined-applied u v hu hv)
-          ∙ kills-applied K (beside A (identity n)) (u ++ v) n (matrix-size K n (n + n) (beside A (identity n)) joined)
-          (cleared.back (u ++ v) (applied-kills K M (u ++ v) n (matrix-size K n (n + n) M rows) (cleared-applied u v hu ∙ e)))
+          sym (joined-image_of u v hu hv)
+          ∙ kills-image_of K (beside A (identity n)) (u ++ v) n (matrix-size K n (n + n) (beside A (identity n)) joined)
+          (cleared.back (u ++ v) (image_of-kills K M (u ++ v) n (matrix-size K n (n + n) M rows) (cleared-image_of u v hu ∙ e)))
 
-      left-acts : (v : List ℕ) → Vector K n v → v ≡ applied K (map (drop n) M) (applied K A v)
+      left-acts : (v : List ℕ) → Vector K n v → v ≡ image_of K (map (drop n) M) (image_of K A v)
       left-acts v hv =
           let B : List (List ℕ) = map (drop n) M in
-          let w : List ℕ = applied K A v in
-          let hw : Vector K n w = applied-vector K h n n A v ha in
-          same-by-difference K h n v (applied K B w) hv (applied-vector K h n n B w inverse-matrix)
-          (ap (plus K v) (sym (applied-negative K h B w))
+          let w : List ℕ = image_of K A v in
+          let hw : Vector K n w = image_of-vector K h n n A v ha in
+          same-by-difference K h n v (image_of K B w) hv (image_of-vector K h n n B w inverse-matrix)
+          (ap (plus K v) (sym (image_of-negative K h B w))
           ∙ forth v (negative K w) hv (negative-vector K h n w hw) (plus-negative K h n w hw))
 
-      right-acts : (v : List ℕ) → Vector K n v → v ≡ applied K A (applied K (map (drop n) M) v)
+      right-acts : (v : List ℕ) → Vector K n v → v ≡ image_of K A (image_of K (map (drop n) M) v)
       right-acts v hv =
-          let w : List ℕ = applied K (map (drop n) M) v in
-          let hw : Vector K n w = applied-vector K h n n (map (drop n) M) v inverse-matrix in
-          same-by-difference K h n v (applied K A w) hv (applied-vector K h n n A w ha)
-          (plus-comm K h v (negative K (applied K A w)) ∙ ap (λ t. plus K t v) (sym (applied-negative K h A w))
+          let w : List ℕ = image_of K (map (drop n) M) v in
+          let hw : Vector K n w = image_of-vector K h n n (map (drop n) M) v inverse-matrix in
+          same-by-difference K h n v (image_of K A w) hv (image_of-vector K h n n A w ha)
+          (plus-comm K h v (negative K (image_of K A w)) ∙ ap (λ t. plus K t v) (sym (image_of-negative K h A w))
           ∙ back (negative K w) v (negative-vector K h n w hw) hv (negative-plus K h n w hw))
 
       pub cleared-inverse : IsInverse K n A (map (drop n) M)
@@ -180,12 +180,12 @@ module _ (K : Ops) (h : IsField K) where
           record {
             shape = from_matrix K n n B inverse-matrix;
             left = matrix-ext K h n n (product K n B A) (identity n) (product-matrix K h n n n B A inverse-matrix ha) one
-                (λ v hv. product-applied K h n n B A v ha ∙ sym (left-acts v hv) ∙ sym (identity-applied K h n v hv));
+                (λ v hv. product-image_of K h n n B A v ha ∙ sym (left-acts v hv) ∙ sym (identity-image_of K h n v hv));
             right = matrix-ext K h n n (product K n A B) (identity n) (product-matrix K h n n n A B ha inverse-matrix) one
-                (λ v hv. product-applied K h n n A B v inverse-matrix ∙ sym (right-acts v hv) ∙ sym (identity-applied K h n v hv));
+                (λ v hv. product-image_of K h n n A B v inverse-matrix ∙ sym (right-acts v hv) ∙ sym (identity-image_of K h n v hv));
           }
 
-    module _ (j : ℕ) (M : List (List ℕ)) (stuck : Stuck K n j (beside A (identity n)) M) where
+    module _ (j : ℕ) (M : List (List ℕ)) (stuck : HasNoPivot K n j (beside A (identity n)) M) where
       stuck-rows : Matrix K n (2 * n) M
       stuck-rows = to_matrix K n (2 * n) M stuck.so_far.matrix
 
@@ -264,9 +264,9 @@ module _ (K : Ops) (h : IsField K) where
                 let same : ◌≡◌ {A = ℕ} 1 0 = sym one ∙ ap (λ t. get_or t j 0) e ∙ zeros-at K h n j in
                 omega arith;
             zero =
-                sym (plus-zeros K h n (applied K A v) (applied-vector K h n n A v ha))
-                ∙ sym (joined-applied v (zeros n) hv (zeros-vector K h n))
-                ∙ kills-applied K before (v ++ zeros n) n (matrix-size K n (n + n) before joined)
+                sym (plus-zeros K h n (image_of K A v) (image_of-vector K h n n A v ha))
+                ∙ sym (joined-image_of v (zeros n) hv (zeros-vector K h n))
+                ∙ kills-image_of K before (v ++ zeros n) n (matrix-size K n (n + n) before joined)
                 (stuck.so_far.back (v ++ zeros n)
                 (each-kills K M (v ++ zeros n) (λ i l. each-row i (omega (arith, matrix-size K n (2 * n) M stuck-rows)) (cases_lt i j))));
           }
@@ -275,5 +275,5 @@ module _ (K : Ops) (h : IsField K) where
     pub kernel-no_inverse : (v : List ℕ) (B : List (List ℕ)) → InKernel K n A v → IsInverse K n A B → ⊥
     kernel-no_inverse v B kernel inverse =
         kernel.not_zero
-        (sym (inverse-applied K h n A B v ha inverse (to_vector K n v kernel.vector))
-        ∙ ap (applied K B) kernel.zero ∙ applied-zeros K h n n n B (to_matrix K n n B inverse.shape))
+        (sym (inverse-image_of K h n A B v ha inverse (to_vector K n v kernel.vector))
+        ∙ ap (image_of K B) kernel.zero ∙ image_of-zeros K h n n n B (to_matrix K n n B inverse.shape))

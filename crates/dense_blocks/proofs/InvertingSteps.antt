@@ -7,7 +7,7 @@ use Rattle.dense_blocks.specs.Field.{Ops, IsField}
 use Rattle.dense_blocks.specs.Vectors.{AllScalars, zeros}
 use Rattle.dense_blocks.specs.Matrices.{cut, identity, IsInverse}
 use Rattle.dense_blocks.specs.Blocks.{matrix_of, IsBlock}
-use Rattle.dense_blocks.specs.Clearing.{beside, undoing, Cleared, Stuck}
+use Rattle.dense_blocks.specs.Clearing.{beside, undoing, HasUnitColumns, HasNoPivot}
 use Rattle.dense_blocks.specs.Inverses.{IsInverseBlock, InKernel}
 use Rattle.dense_blocks.specs.declared.block.Block.{Block}
 use Rattle.dense_blocks.proofs.ScalarLaws.{one_below, zero_mul}
@@ -118,13 +118,13 @@ module _ (K : Ops) (h : IsField K) (a : Block) (square : a.rows ≡ a.cols) (sca
       (subst (λ k. Matrix K n k (beside (matrix_of a) (identity n))) double (beside-matrix K n n n (matrix_of a) (identity n) own (identity-matrix K h n))))
 
   pub block-inverse : (b : Block) (start rows shown : List ℕ) → cut a.rows (2 * a.rows) start ≡ beside (matrix_of a) (identity a.rows)
-      → Cleared K a.rows a.rows (cut a.rows (2 * a.rows) start) (cut a.rows (2 * a.rows) rows) → shown ≡ rows
+      → HasUnitColumns K a.rows a.rows (cut a.rows (2 * a.rows) start) (cut a.rows (2 * a.rows) rows) → shown ≡ rows
       → IsBlock b a.rows a.rows (map (drop a.rows) (cut a.rows (2 * a.rows) shown)) → IsInverseBlock K a b
   block-inverse b start rows shown is cleared is_shown block =
       let n : ℕ = a.rows in
       let B : List (List ℕ) = map (drop n) (cut n (2 * n) rows) in
       let inverse : IsInverse K n (matrix_of a) B =
-      cleared-inverse K h n (matrix_of a) own (cut n (2 * n) rows) (subst (λ J. Cleared K n n J (cut n (2 * n) rows)) is cleared) in
+      cleared-inverse K h n (matrix_of a) own (cut n (2 * n) rows) (subst (λ J. HasUnitColumns K n n J (cut n (2 * n) rows)) is cleared) in
       let has : IsBlock b n n B = subst (λ t. IsBlock b n n (map (drop n) (cut n (2 * n) t))) is_shown block in
       record {
         rows_are = has.rows_are;
@@ -134,14 +134,14 @@ module _ (K : Ops) (h : IsField K) (a : Block) (square : a.rows ≡ a.cols) (sca
       }
 
   pub block-kernel : (j : ℕ) (start rows shown v : List ℕ) → cut a.rows (2 * a.rows) start ≡ beside (matrix_of a) (identity a.rows)
-      → Stuck K a.rows j (cut a.rows (2 * a.rows) start) (cut a.rows (2 * a.rows) rows) → shown ≡ rows
+      → HasNoPivot K a.rows j (cut a.rows (2 * a.rows) start) (cut a.rows (2 * a.rows) rows) → shown ≡ rows
       → v ≡ undoing K a.rows j (cut a.rows (2 * a.rows) shown)
       → InKernel K a.rows (matrix_of a) v × ((B : List (List ℕ)) → IsInverse K a.rows (matrix_of a) B → ⊥)
   block-kernel j start rows shown v is stuck is_shown is_v =
       let n : ℕ = a.rows in
       let kernel : InKernel K n (matrix_of a) v =
       subst (InKernel K n (matrix_of a)) (sym (is_v ∙ ap (λ t. undoing K n j (cut n (2 * n) t)) is_shown))
-      (stuck-kernel K h n (matrix_of a) own j (cut n (2 * n) rows) (subst (λ J. Stuck K n j J (cut n (2 * n) rows)) is stuck)) in
+      (stuck-kernel K h n (matrix_of a) own j (cut n (2 * n) rows) (subst (λ J. HasNoPivot K n j J (cut n (2 * n) rows)) is stuck)) in
       (kernel, λ B inverse. kernel-no_inverse K h n (matrix_of a) own v B kernel inverse)
 
 -- a block of one entry

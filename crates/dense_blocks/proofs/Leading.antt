@@ -3,13 +3,13 @@ use Rattle.std.proofs.Common.{◌≡◌, ◌≢◌, ℕ, zero, suc, ◌<◌, ◌
 use Rattle.std.proofs.lemmas.List.{take-map}
 use Rattle.std.proofs.lemmas.List.Elements.{All-head, All-tail}
 use Rattle.dense_blocks.specs.Field.{Ops, IsField}
-use Rattle.dense_blocks.specs.Vectors.{zeros, plus, scaled, dot, combination}
-use Rattle.dense_blocks.specs.Elimination.{Fits, part, cleared, reduced}
+use Rattle.dense_blocks.specs.Vectors.{zeros, plus, multiple, dot, combination}
+use Rattle.dense_blocks.specs.Elimination.{IsPivot, pivot_multiple, pivot_remainder, reduced}
 use Rattle.dense_blocks.specs.declared.solving.Pivot.{Pivot}
 use Rattle.dense_blocks.proofs.ScalarLaws.{add_mul, neg_of_sum, mul_neg}
 use Rattle.dense_blocks.proofs.Shapes.{Vector, Matrix, to_vector, vector-size}
-use Rattle.dense_blocks.proofs.VectorLaws.{scaled-vector, plus-cross, zeros-plus-zeros, scaled-plus, scaled-add, scaled-mul, scaled-zeros, combination-vector, dot-zeros, dot-plus, dot-scaled}
-use Rattle.dense_blocks.proofs.RowSteps.{scaled-at}
+use Rattle.dense_blocks.proofs.VectorLaws.{multiple-vector, plus-cross, zeros-plus-zeros, multiple-plus, multiple-add, multiple-mul, multiple-zeros, combination-vector, dot-zeros, dot-plus, dot-multiple}
+use Rattle.dense_blocks.proofs.RowSteps.{multiple-at}
 use Rattle.dense_blocks.proofs.Reductions.{cleared-vector, cleared-zeros}
 
 pub plus-at : (K : Ops) (n i : ℕ) (u v : List ℕ) → Vector K n u → Vector K n v → i < n → get_or (plus K u v) i 0 ≡ K.add (get_or u i 0) (get_or v i 0)
@@ -33,66 +33,66 @@ take-vector K (suc n) (suc i) (a ∷ u) hu l = (hu.0, take-vector K n i u hu.1 (
 
 module _ (K : Ops) (h : IsField K) where
   -- reductions are linear
-  part-plus : (n : ℕ) (p : Pivot) (u v : List ℕ) → Fits K n p → Vector K n u → Vector K n v → part K p (plus K u v) ≡ K.add (part K p u) (part K p v)
+  part-plus : (n : ℕ) (p : Pivot) (u v : List ℕ) → IsPivot K n p → Vector K n u → Vector K n v → pivot_multiple K p (plus K u v) ≡ K.add (pivot_multiple K p u) (pivot_multiple K p v)
   part-plus n p u v fit hu hv =
       ap (λ t. K.mul t p.inverse) (plus-at K n p.place u v hu hv fit.place) ∙ add_mul K h (get_or u p.place 0) (get_or v p.place 0) p.inverse
 
-  cleared-plus : (n : ℕ) (p : Pivot) (u v : List ℕ) → Fits K n p → Vector K n u → Vector K n v → cleared K p (plus K u v) ≡ plus K (cleared K p u) (cleared K p v)
+  cleared-plus : (n : ℕ) (p : Pivot) (u v : List ℕ) → IsPivot K n p → Vector K n u → Vector K n v → pivot_remainder K p (plus K u v) ≡ plus K (pivot_remainder K p u) (pivot_remainder K p v)
   cleared-plus n p u v fit hu hv =
       let row : List ℕ = p.row.items in
       ap (plus K (plus K u v))
-      (ap (λ t. scaled K t row) (ap K.neg (part-plus n p u v fit hu hv) ∙ neg_of_sum K h (part K p u) (part K p v))
-      ∙ scaled-add K h (K.neg (part K p u)) (K.neg (part K p v)) row)
-      ∙ plus-cross K h u v (scaled K (K.neg (part K p u)) row) (scaled K (K.neg (part K p v)) row)
+      (ap (λ t. multiple K t row) (ap K.neg (part-plus n p u v fit hu hv) ∙ neg_of_sum K h (pivot_multiple K p u) (pivot_multiple K p v))
+      ∙ multiple-add K h (K.neg (pivot_multiple K p u)) (K.neg (pivot_multiple K p v)) row)
+      ∙ plus-cross K h u v (multiple K (K.neg (pivot_multiple K p u)) row) (multiple K (K.neg (pivot_multiple K p v)) row)
 
-  part-scaled : (n k : ℕ) (p : Pivot) (u : List ℕ) → Fits K n p → Vector K n u → part K p (scaled K k u) ≡ K.mul k (part K p u)
-  part-scaled n k p u fit hu =
-      ap (λ t. K.mul t p.inverse) (sym (scaled-at K k p.place u (omega (arith, fit.place, vector-size K n u hu))))
+  part-multiple : (n k : ℕ) (p : Pivot) (u : List ℕ) → IsPivot K n p → Vector K n u → pivot_multiple K p (multiple K k u) ≡ K.mul k (pivot_multiple K p u)
+  part-multiple n k p u fit hu =
+      ap (λ t. K.mul t p.inverse) (sym (multiple-at K k p.place u (omega (arith, fit.place, vector-size K n u hu))))
       ∙ h.mul_assoc k (get_or u p.place 0) p.inverse
 
-  cleared-scaled : (n k : ℕ) (p : Pivot) (u : List ℕ) → Fits K n p → Vector K n u → cleared K p (scaled K k u) ≡ scaled K k (cleared K p u)
-  cleared-scaled n k p u fit hu =
+  cleared-multiple : (n k : ℕ) (p : Pivot) (u : List ℕ) → IsPivot K n p → Vector K n u → pivot_remainder K p (multiple K k u) ≡ multiple K k (pivot_remainder K p u)
+  cleared-multiple n k p u fit hu =
       let row : List ℕ = p.row.items in
-      ap (plus K (scaled K k u))
-      (ap (λ t. scaled K t row) (ap K.neg (part-scaled n k p u fit hu) ∙ sym (mul_neg K h k (part K p u)))
-      ∙ scaled-mul K h k (K.neg (part K p u)) row)
-      ∙ sym (scaled-plus K h k u (scaled K (K.neg (part K p u)) row))
+      ap (plus K (multiple K k u))
+      (ap (λ t. multiple K t row) (ap K.neg (part-multiple n k p u fit hu) ∙ sym (mul_neg K h k (pivot_multiple K p u)))
+      ∙ multiple-mul K h k (K.neg (pivot_multiple K p u)) row)
+      ∙ sym (multiple-plus K h k u (multiple K (K.neg (pivot_multiple K p u)) row))
 
-  reduced-plus : (n : ℕ) (ps : List Pivot) (u v : List ℕ) → All (Fits K n) ps → Vector K n u → Vector K n v
+  reduced-plus : (n : ℕ) (ps : List Pivot) (u v : List ℕ) → All (IsPivot K n) ps → Vector K n u → Vector K n v
       → reduced K ps (plus K u v) ≡ plus K (reduced K ps u) (reduced K ps v)
   unfolding reduced
   reduced-plus n [] u v fit hu hv = refl
   reduced-plus n (p ∷ ps) u v fit hu hv =
-      let first : Fits K n p = All-head (Fits K n) p ps fit in
+      let first : IsPivot K n p = All-head (IsPivot K n) p ps fit in
       ap (reduced K ps) (cleared-plus n p u v first hu hv)
-      ∙ reduced-plus n ps (cleared K p u) (cleared K p v) (All-tail (Fits K n) p ps fit) (cleared-vector K h n p u first hu) (cleared-vector K h n p v first hv)
+      ∙ reduced-plus n ps (pivot_remainder K p u) (pivot_remainder K p v) (All-tail (IsPivot K n) p ps fit) (cleared-vector K h n p u first hu) (cleared-vector K h n p v first hv)
 
-  reduced-scaled : (n k : ℕ) (ps : List Pivot) (u : List ℕ) → All (Fits K n) ps → Vector K n u → reduced K ps (scaled K k u) ≡ scaled K k (reduced K ps u)
+  reduced-multiple : (n k : ℕ) (ps : List Pivot) (u : List ℕ) → All (IsPivot K n) ps → Vector K n u → reduced K ps (multiple K k u) ≡ multiple K k (reduced K ps u)
   unfolding reduced
-  reduced-scaled n k [] u fit hu = refl
-  reduced-scaled n k (p ∷ ps) u fit hu =
-      let first : Fits K n p = All-head (Fits K n) p ps fit in
-      ap (reduced K ps) (cleared-scaled n k p u first hu)
-      ∙ reduced-scaled n k ps (cleared K p u) (All-tail (Fits K n) p ps fit) (cleared-vector K h n p u first hu)
+  reduced-multiple n k [] u fit hu = refl
+  reduced-multiple n k (p ∷ ps) u fit hu =
+      let first : IsPivot K n p = All-head (IsPivot K n) p ps fit in
+      ap (reduced K ps) (cleared-multiple n k p u first hu)
+      ∙ reduced-multiple n k ps (pivot_remainder K p u) (All-tail (IsPivot K n) p ps fit) (cleared-vector K h n p u first hu)
 
-  reduced-zeros : (n : ℕ) (ps : List Pivot) → All (Fits K n) ps → reduced K ps (zeros n) ≡ zeros n
+  reduced-zeros : (n : ℕ) (ps : List Pivot) → All (IsPivot K n) ps → reduced K ps (zeros n) ≡ zeros n
   unfolding reduced
   reduced-zeros n [] fit = refl
   reduced-zeros n (p ∷ ps) fit =
-      ap (reduced K ps) (cleared-zeros K h n p (All-head (Fits K n) p ps fit)) ∙ reduced-zeros n ps (All-tail (Fits K n) p ps fit)
+      ap (reduced K ps) (cleared-zeros K h n p (All-head (IsPivot K n) p ps fit)) ∙ reduced-zeros n ps (All-tail (IsPivot K n) p ps fit)
 
   -- a combination of vectors that are reduced to zero is reduced to zero
-  pub reduced-combination : (m n k : ℕ) (ps : List Pivot) (by : List ℕ) (vs : List (List ℕ)) → All (Fits K n) ps → Matrix K m n vs
+  pub reduced-combination : (m n k : ℕ) (ps : List Pivot) (by : List ℕ) (vs : List (List ℕ)) → All (IsPivot K n) ps → Matrix K m n vs
       → ((j : ℕ) → j < k → reduced K ps (get_or vs j []) ≡ zeros n) → k ≤ m → reduced K ps (combination K n by (take k vs)) ≡ zeros n
   reduced-combination m n k ps [] vs fit hv z l = reduced-zeros n ps fit
   reduced-combination m n zero ps (c ∷ by) vs fit hv z l = reduced-zeros n ps fit
   reduced-combination m n (suc k) ps (c ∷ by) [] fit hv z l = reduced-zeros n ps fit
   reduced-combination zero n (suc k) ps (c ∷ by) (v ∷ vs) fit hv z l = absurd hv
   reduced-combination (suc m) n (suc k) ps (c ∷ by) (v ∷ vs) fit hv z l =
-      reduced-plus n ps (scaled K c v) (combination K n by (take k vs)) fit (scaled-vector K h n c v hv.0)
+      reduced-plus n ps (multiple K c v) (combination K n by (take k vs)) fit (multiple-vector K h n c v hv.0)
       (combination-vector K h k n by (take k vs) (take-matrix m n k vs hv.1 (omega arith)))
       ∙ ap₂ (plus K)
-      (reduced-scaled n c ps v fit hv.0 ∙ ap (scaled K c) (z 0 (omega arith)) ∙ scaled-zeros K h c n)
+      (reduced-multiple n c ps v fit hv.0 ∙ ap (multiple K c) (z 0 (omega arith)) ∙ multiple-zeros K h c n)
       (reduced-combination m n k ps by vs fit hv.1 (λ j low. z (suc j) (omega arith)) (omega arith))
       ∙ zeros-plus-zeros K h n
     where
@@ -114,26 +114,26 @@ module _ (K : Ops) (h : IsField K) where
         ∙ sym (plus-at K n i u v hu hv l);
   }
 
-  given-scaled : (n i k : ℕ) (by u : List ℕ) → i < n → Vector K n u → Given by i u → Given by i (scaled K k u)
-  given-scaled n i k by u l hu gu = record {
+  given-multiple : (n i k : ℕ) (by u : List ℕ) → i < n → Vector K n u → Given by i u → Given by i (multiple K k u)
+  given-multiple n i k by u l hu gu = record {
     is = ap (dot K by) (take-map (K.mul k) i u)
-        ∙ dot-scaled K h k by (take i u)
+        ∙ dot-multiple K h k by (take i u)
         ∙ ap (K.mul k) gu.is
-        ∙ scaled-at K k i u (omega (arith, vector-size K n u hu));
+        ∙ multiple-at K k i u (omega (arith, vector-size K n u hu));
   }
 
-  pub given-reduced : (n i : ℕ) (by : List ℕ) (ps : List Pivot) (u : List ℕ) → i < n → All (Fits K n) ps → All (λ p. Given by i p.row.items) ps → Vector K n u
+  pub given-reduced : (n i : ℕ) (by : List ℕ) (ps : List Pivot) (u : List ℕ) → i < n → All (IsPivot K n) ps → All (λ p. Given by i p.row.items) ps → Vector K n u
       → Given by i u → Given by i (reduced K ps u)
   unfolding reduced
   given-reduced n i by [] u l fit rows hu gu = gu
   given-reduced n i by (p ∷ ps) u l fit rows hu gu =
-      let first : Fits K n p = All-head (Fits K n) p ps fit in
+      let first : IsPivot K n p = All-head (IsPivot K n) p ps fit in
       let row : List ℕ = p.row.items in
-      let k : ℕ = K.neg (part K p u) in
+      let k : ℕ = K.neg (pivot_multiple K p u) in
       let row_vector : Vector K n row = to_vector K n row first.row in
-      given-reduced n i by ps (cleared K p u) l (All-tail (Fits K n) p ps fit) (All-tail (λ q. Given by i q.row.items) p ps rows) (cleared-vector K h n p u first hu)
-      (given-plus n i by u (scaled K k row) l hu (scaled-vector K h n k row row_vector) gu
-      (given-scaled n i k by row l row_vector (All-head (λ q. Given by i q.row.items) p ps rows)))
+      given-reduced n i by ps (pivot_remainder K p u) l (All-tail (IsPivot K n) p ps fit) (All-tail (λ q. Given by i q.row.items) p ps rows) (cleared-vector K h n p u first hu)
+      (given-plus n i by u (multiple K k row) l hu (multiple-vector K h n k row row_vector) gu
+      (given-multiple n i k by row l row_vector (All-head (λ q. Given by i q.row.items) p ps rows)))
 
   -- and a vector has its first entry that is not 0 elsewhere
   pub given-not_first : (i place : ℕ) (by u : List ℕ) → take place u ≡ zeros place → get_or u place 0 ≢ 0 → Given by i u → place ≢ i

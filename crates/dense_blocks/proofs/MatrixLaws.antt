@@ -1,17 +1,17 @@
--- Laws of matrices as lists of rows: shapes, the commutative group, matrices applied to vectors, products.
+-- Laws of matrices as lists of rows: shapes, the commutative group, matrices image_of to vectors, products.
 -- A law is named by its left side, the outermost word first.
 use Rattle.std.proofs.Common.{◌≡◌, ℕ, zero, suc, ◌<◌, List, [], ◌∷◌, ◌++◌, map, get_or, refl, sym, ap, ap₂, ◌∙◌, arith}
 use Rattle.dense_blocks.specs.Field.{Ops, IsField}
-use Rattle.dense_blocks.specs.Vectors.{zeros, plus, negative, scaled, dot, combination}
-use Rattle.dense_blocks.specs.Matrices.{applied, product, identity, zero_matrix, matrix_sum, matrix_negative, IsInverse}
+use Rattle.dense_blocks.specs.Vectors.{zeros, plus, negative, multiple, dot, combination}
+use Rattle.dense_blocks.specs.Matrices.{image_of, product, identity, zero_matrix, matrix_sum, matrix_negative, IsInverse}
 use Rattle.dense_blocks.proofs.ScalarLaws.{zero_below, one_below, zero_add, mul_zero, zero_mul, one_mul}
 use Rattle.dense_blocks.proofs.Shapes.{Vector, Matrix, to_matrix}
-use Rattle.dense_blocks.proofs.VectorLaws.{zeros-vector, plus-vector, negative-vector, scaled-vector, combination-vector, plus-assoc, plus-comm, plus-cross, zeros-plus, plus-zeros, zeros-plus-zeros, negative-plus, negative-of-plus, negative-zeros, negative-negative, scaled-plus, scaled-negative, scaled-zeros, scaled-zero, scaled-one, dot-below, dot-plus, plus-dot, dot-scaled, dot-negative, negative-dot, dot-zeros, zeros-dot, vector-ext, combination-plus, combination-negative, combination-zeros, combination-combination, combination-dot}
+use Rattle.dense_blocks.proofs.VectorLaws.{zeros-vector, plus-vector, negative-vector, multiple-vector, combination-vector, plus-assoc, plus-comm, plus-cross, zeros-plus, plus-zeros, zeros-plus-zeros, negative-plus, negative-of-plus, negative-zeros, negative-negative, multiple-plus, multiple-negative, multiple-zeros, multiple-zero, multiple-one, dot-below, dot-plus, plus-dot, dot-multiple, dot-negative, negative-dot, dot-zeros, zeros-dot, vector-ext, combination-plus, combination-negative, combination-zeros, combination-combination, combination-dot}
 
 -- lists of rows, of whatever shape
-pub applied-append : (K : Ops) (A B : List (List ℕ)) (v : List ℕ) → applied K (A ++ B) v ≡ applied K A v ++ applied K B v
-applied-append K [] B v = refl
-applied-append K (r ∷ A) B v = ap (λ t. dot K r v ∷ t) (applied-append K A B v)
+pub image_of-append : (K : Ops) (A B : List (List ℕ)) (v : List ℕ) → image_of K (A ++ B) v ≡ image_of K A v ++ image_of K B v
+image_of-append K [] B v = refl
+image_of-append K (r ∷ A) B v = ap (λ t. dot K r v ∷ t) (image_of-append K A B v)
 
 pub product-append : (K : Ops) (n : ℕ) (A B C : List (List ℕ)) → product K n (A ++ B) C ≡ product K n A C ++ product K n B C
 product-append K n [] B C = refl
@@ -81,11 +81,11 @@ module _ (K : Ops) (F : IsField K) where
   product-matrix (suc l) m n [] B ha hb = absurd ha
   product-matrix (suc l) m n (r ∷ A) B ha hb = (combination-vector K F m n r B hb, product-matrix l m n A B ha.1 hb)
 
-  pub applied-vector : (m n : ℕ) (A : List (List ℕ)) (v : List ℕ) → Matrix K m n A → Vector K m (applied K A v)
-  applied-vector zero n [] v h = tt
-  applied-vector zero n (r ∷ A) v h = absurd h
-  applied-vector (suc m) n [] v h = absurd h
-  applied-vector (suc m) n (r ∷ A) v h = (dot-below K F r v, applied-vector m n A v h.1)
+  pub image_of-vector : (m n : ℕ) (A : List (List ℕ)) (v : List ℕ) → Matrix K m n A → Vector K m (image_of K A v)
+  image_of-vector zero n [] v h = tt
+  image_of-vector zero n (r ∷ A) v h = absurd h
+  image_of-vector (suc m) n [] v h = absurd h
+  image_of-vector (suc m) n (r ∷ A) v h = (dot-below K F r v, image_of-vector m n A v h.1)
 
   -- the commutative group of matrices
   pub matrix_sum-assoc : (A B C : List (List ℕ)) → matrix_sum K (matrix_sum K A B) C ≡ matrix_sum K A (matrix_sum K B C)
@@ -133,77 +133,77 @@ module _ (K : Ops) (F : IsField K) where
   matrix_negative-zero_matrix zero n = refl
   matrix_negative-zero_matrix (suc m) n = ap₂ ◌∷◌ (negative-zeros K F n) (matrix_negative-zero_matrix m n)
 
-  -- a matrix applied is linear in the vector
-  pub applied-plus : (n : ℕ) (A : List (List ℕ)) (u v : List ℕ) → Vector K n u → Vector K n v
-      → applied K A (plus K u v) ≡ plus K (applied K A u) (applied K A v)
-  applied-plus n [] u v hu hv = refl
-  applied-plus n (r ∷ A) u v hu hv = ap₂ ◌∷◌ (dot-plus K F n r u v hu hv) (applied-plus n A u v hu hv)
+  -- a matrix image_of is linear in the vector
+  pub image_of-plus : (n : ℕ) (A : List (List ℕ)) (u v : List ℕ) → Vector K n u → Vector K n v
+      → image_of K A (plus K u v) ≡ plus K (image_of K A u) (image_of K A v)
+  image_of-plus n [] u v hu hv = refl
+  image_of-plus n (r ∷ A) u v hu hv = ap₂ ◌∷◌ (dot-plus K F n r u v hu hv) (image_of-plus n A u v hu hv)
 
-  pub applied-scaled : (k : ℕ) (A : List (List ℕ)) (v : List ℕ) → applied K A (scaled K k v) ≡ scaled K k (applied K A v)
-  applied-scaled k [] v = refl
-  applied-scaled k (r ∷ A) v = ap₂ ◌∷◌ (dot-scaled K F k r v) (applied-scaled k A v)
+  pub image_of-multiple : (k : ℕ) (A : List (List ℕ)) (v : List ℕ) → image_of K A (multiple K k v) ≡ multiple K k (image_of K A v)
+  image_of-multiple k [] v = refl
+  image_of-multiple k (r ∷ A) v = ap₂ ◌∷◌ (dot-multiple K F k r v) (image_of-multiple k A v)
 
-  pub applied-negative : (A : List (List ℕ)) (v : List ℕ) → applied K A (negative K v) ≡ negative K (applied K A v)
-  applied-negative [] v = refl
-  applied-negative (r ∷ A) v = ap₂ ◌∷◌ (dot-negative K F r v) (applied-negative A v)
+  pub image_of-negative : (A : List (List ℕ)) (v : List ℕ) → image_of K A (negative K v) ≡ negative K (image_of K A v)
+  image_of-negative [] v = refl
+  image_of-negative (r ∷ A) v = ap₂ ◌∷◌ (dot-negative K F r v) (image_of-negative A v)
 
-  pub applied-zeros : (k m n : ℕ) (A : List (List ℕ)) → Matrix K m n A → applied K A (zeros k) ≡ zeros m
-  applied-zeros k zero n [] h = refl
-  applied-zeros k zero n (r ∷ A) h = absurd h
-  applied-zeros k (suc m) n [] h = absurd h
-  applied-zeros k (suc m) n (r ∷ A) h = ap₂ ◌∷◌ (dot-zeros K F k r) (applied-zeros k m n A h.1)
+  pub image_of-zeros : (k m n : ℕ) (A : List (List ℕ)) → Matrix K m n A → image_of K A (zeros k) ≡ zeros m
+  image_of-zeros k zero n [] h = refl
+  image_of-zeros k zero n (r ∷ A) h = absurd h
+  image_of-zeros k (suc m) n [] h = absurd h
+  image_of-zeros k (suc m) n (r ∷ A) h = ap₂ ◌∷◌ (dot-zeros K F k r) (image_of-zeros k m n A h.1)
 
-  pub applied-nil : (m n : ℕ) (A : List (List ℕ)) → Matrix K m n A → applied K A [] ≡ zeros m
-  applied-nil m n A h = applied-zeros 0 m n A h
+  pub image_of-nil : (m n : ℕ) (A : List (List ℕ)) → Matrix K m n A → image_of K A [] ≡ zeros m
+  image_of-nil m n A h = image_of-zeros 0 m n A h
 
   -- a matrix carries a combination to the combination of what it gives
-  pub applied-combination : (l m n : ℕ) (A : List (List ℕ)) (cs : List ℕ) (vs : List (List ℕ)) → Matrix K m n A → Matrix K l n vs
-      → applied K A (combination K n cs vs) ≡ combination K m cs (map (applied K A) vs)
-  applied-combination l m n A [] vs h hv = applied-zeros n m n A h
-  applied-combination l m n A (c ∷ cs) [] h hv = applied-zeros n m n A h
-  applied-combination zero m n A (c ∷ cs) (v ∷ vs) h hv = absurd hv
-  applied-combination (suc l) m n A (c ∷ cs) (v ∷ vs) h hv =
-      applied-plus n A (scaled K c v) (combination K n cs vs) (scaled-vector K F n c v hv.0) (combination-vector K F l n cs vs hv.1)
-      ∙ ap₂ (plus K) (applied-scaled c A v) (applied-combination l m n A cs vs h hv.1)
+  pub image_of-combination : (l m n : ℕ) (A : List (List ℕ)) (cs : List ℕ) (vs : List (List ℕ)) → Matrix K m n A → Matrix K l n vs
+      → image_of K A (combination K n cs vs) ≡ combination K m cs (map (image_of K A) vs)
+  image_of-combination l m n A [] vs h hv = image_of-zeros n m n A h
+  image_of-combination l m n A (c ∷ cs) [] h hv = image_of-zeros n m n A h
+  image_of-combination zero m n A (c ∷ cs) (v ∷ vs) h hv = absurd hv
+  image_of-combination (suc l) m n A (c ∷ cs) (v ∷ vs) h hv =
+      image_of-plus n A (multiple K c v) (combination K n cs vs) (multiple-vector K F n c v hv.0) (combination-vector K F l n cs vs hv.1)
+      ∙ ap₂ (plus K) (image_of-multiple c A v) (image_of-combination l m n A cs vs h hv.1)
 
   -- and in the matrix
-  pub matrix_sum-applied : (m n : ℕ) (A B : List (List ℕ)) (v : List ℕ) → Matrix K m n A → Matrix K m n B
-      → applied K (matrix_sum K A B) v ≡ plus K (applied K A v) (applied K B v)
-  matrix_sum-applied m n [] B v ha hb = refl
-  matrix_sum-applied zero n (a ∷ A) B v ha hb = absurd ha
-  matrix_sum-applied (suc m) n (a ∷ A) [] v ha hb = absurd hb
-  matrix_sum-applied (suc m) n (a ∷ A) (b ∷ B) v ha hb = ap₂ ◌∷◌ (plus-dot K F n a b v ha.0 hb.0) (matrix_sum-applied m n A B v ha.1 hb.1)
+  pub matrix_sum-image_of : (m n : ℕ) (A B : List (List ℕ)) (v : List ℕ) → Matrix K m n A → Matrix K m n B
+      → image_of K (matrix_sum K A B) v ≡ plus K (image_of K A v) (image_of K B v)
+  matrix_sum-image_of m n [] B v ha hb = refl
+  matrix_sum-image_of zero n (a ∷ A) B v ha hb = absurd ha
+  matrix_sum-image_of (suc m) n (a ∷ A) [] v ha hb = absurd hb
+  matrix_sum-image_of (suc m) n (a ∷ A) (b ∷ B) v ha hb = ap₂ ◌∷◌ (plus-dot K F n a b v ha.0 hb.0) (matrix_sum-image_of m n A B v ha.1 hb.1)
 
-  pub matrix_negative-applied : (A : List (List ℕ)) (v : List ℕ) → applied K (matrix_negative K A) v ≡ negative K (applied K A v)
-  matrix_negative-applied [] v = refl
-  matrix_negative-applied (r ∷ A) v = ap₂ ◌∷◌ (negative-dot K F r v) (matrix_negative-applied A v)
+  pub matrix_negative-image_of : (A : List (List ℕ)) (v : List ℕ) → image_of K (matrix_negative K A) v ≡ negative K (image_of K A v)
+  matrix_negative-image_of [] v = refl
+  matrix_negative-image_of (r ∷ A) v = ap₂ ◌∷◌ (negative-dot K F r v) (matrix_negative-image_of A v)
 
-  pub zero_matrix-applied : (m n : ℕ) (v : List ℕ) → applied K (zero_matrix m n) v ≡ zeros m
-  zero_matrix-applied zero n v = refl
-  zero_matrix-applied (suc m) n v = ap₂ ◌∷◌ (zeros-dot K F n v) (zero_matrix-applied m n v)
+  pub zero_matrix-image_of : (m n : ℕ) (v : List ℕ) → image_of K (zero_matrix m n) v ≡ zeros m
+  zero_matrix-image_of zero n v = refl
+  zero_matrix-image_of (suc m) n v = ap₂ ◌∷◌ (zeros-dot K F n v) (zero_matrix-image_of m n v)
 
-  shifted-applied : (A : List (List ℕ)) (a : ℕ) (v : List ℕ) → applied K (map (λ row. 0 ∷ row) A) (a ∷ v) ≡ applied K A v
-  shifted-applied [] a v = refl
-  shifted-applied (r ∷ A) a v =
-      ap₂ ◌∷◌ (ap (λ t. K.add t (dot K r v)) (zero_mul K F a) ∙ zero_add K F (dot K r v) (dot-below K F r v)) (shifted-applied A a v)
+  shifted-image_of : (A : List (List ℕ)) (a : ℕ) (v : List ℕ) → image_of K (map (λ row. 0 ∷ row) A) (a ∷ v) ≡ image_of K A v
+  shifted-image_of [] a v = refl
+  shifted-image_of (r ∷ A) a v =
+      ap₂ ◌∷◌ (ap (λ t. K.add t (dot K r v)) (zero_mul K F a) ∙ zero_add K F (dot K r v) (dot-below K F r v)) (shifted-image_of A a v)
 
-  pub identity-applied : (n : ℕ) (v : List ℕ) → Vector K n v → applied K (identity n) v ≡ v
-  identity-applied zero [] h = refl
-  identity-applied zero (a ∷ v) h = absurd h
-  identity-applied (suc n) [] h = absurd h
-  identity-applied (suc n) (a ∷ v) h =
+  pub identity-image_of : (n : ℕ) (v : List ℕ) → Vector K n v → image_of K (identity n) v ≡ v
+  identity-image_of zero [] h = refl
+  identity-image_of zero (a ∷ v) h = absurd h
+  identity-image_of (suc n) [] h = absurd h
+  identity-image_of (suc n) (a ∷ v) h =
       ap₂ ◌∷◌ (ap₂ K.add (one_mul K F a h.0) (zeros-dot K F n v) ∙ F.add_zero a h.0)
-      (shifted-applied (identity n) a v ∙ identity-applied n v h.1)
+      (shifted-image_of (identity n) a v ∙ identity-image_of n v h.1)
 
   -- a product acts as one factor after the other
-  pub product-applied : (m n : ℕ) (A B : List (List ℕ)) (v : List ℕ) → Matrix K m n B
-      → applied K (product K n A B) v ≡ applied K A (applied K B v)
-  product-applied m n [] B v h = refl
-  product-applied m n (r ∷ A) B v h = ap₂ ◌∷◌ (combination-dot K F m n r B v h) (product-applied m n A B v h)
+  pub product-image_of : (m n : ℕ) (A B : List (List ℕ)) (v : List ℕ) → Matrix K m n B
+      → image_of K (product K n A B) v ≡ image_of K A (image_of K B v)
+  product-image_of m n [] B v h = refl
+  product-image_of m n (r ∷ A) B v h = ap₂ ◌∷◌ (combination-dot K F m n r B v h) (product-image_of m n A B v h)
 
   -- matrices that act alike are one
   pub matrix-ext : (m n : ℕ) (A B : List (List ℕ)) → Matrix K m n A → Matrix K m n B
-      → ((v : List ℕ) → Vector K n v → applied K A v ≡ applied K B v) → A ≡ B
+      → ((v : List ℕ) → Vector K n v → image_of K A v ≡ image_of K B v) → A ≡ B
   matrix-ext zero n [] [] ha hb e = refl
   matrix-ext zero n [] (s ∷ B) ha hb e = absurd hb
   matrix-ext zero n (r ∷ A) B ha hb e = absurd ha
@@ -211,8 +211,8 @@ module _ (K : Ops) (F : IsField K) where
   matrix-ext (suc m) n (r ∷ A) [] ha hb e = absurd hb
   matrix-ext (suc m) n (r ∷ A) (s ∷ B) ha hb e =
       ap₂ ◌∷◌
-      (vector-ext K F n r s ha.0 hb.0 (λ v h. first (dot K r v) (dot K s v) (applied K A v) (applied K B v) (e v h)))
-      (matrix-ext m n A B ha.1 hb.1 (λ v h. rest (dot K r v) (dot K s v) (applied K A v) (applied K B v) (e v h)))
+      (vector-ext K F n r s ha.0 hb.0 (λ v h. first (dot K r v) (dot K s v) (image_of K A v) (image_of K B v) (e v h)))
+      (matrix-ext m n A B ha.1 hb.1 (λ v h. rest (dot K r v) (dot K s v) (image_of K A v) (image_of K B v) (e v h)))
     where
       first : (a b : ℕ) (u v : List ℕ) → ◌≡◌ {A = List ℕ} (a ∷ u) (b ∷ v) → a ≡ b
       first a b u v e = cc
@@ -230,29 +230,29 @@ module _ (K : Ops) (F : IsField K) where
   combination-matrix_sum (suc m) n (c ∷ cs) [] B ha hb = absurd ha
   combination-matrix_sum (suc m) n (c ∷ cs) (a ∷ A) [] ha hb = absurd hb
   combination-matrix_sum (suc m) n (c ∷ cs) (a ∷ A) (b ∷ B) ha hb =
-      ap₂ (plus K) (scaled-plus K F c a b) (combination-matrix_sum m n cs A B ha.1 hb.1)
-      ∙ plus-cross K F (scaled K c a) (scaled K c b) (combination K n cs A) (combination K n cs B)
+      ap₂ (plus K) (multiple-plus K F c a b) (combination-matrix_sum m n cs A B ha.1 hb.1)
+      ∙ plus-cross K F (multiple K c a) (multiple K c b) (combination K n cs A) (combination K n cs B)
 
   pub combination-matrix_negative : (n : ℕ) (cs : List ℕ) (A : List (List ℕ))
       → combination K n cs (matrix_negative K A) ≡ negative K (combination K n cs A)
   combination-matrix_negative n [] A = sym (negative-zeros K F n)
   combination-matrix_negative n (c ∷ cs) [] = sym (negative-zeros K F n)
   combination-matrix_negative n (c ∷ cs) (a ∷ A) =
-      ap₂ (plus K) (scaled-negative K F c a) (combination-matrix_negative n cs A)
-      ∙ sym (negative-of-plus K F (scaled K c a) (combination K n cs A))
+      ap₂ (plus K) (multiple-negative K F c a) (combination-matrix_negative n cs A)
+      ∙ sym (negative-of-plus K F (multiple K c a) (combination K n cs A))
 
   pub combination-zero_matrix : (m n : ℕ) (cs : List ℕ) → combination K n cs (zero_matrix m n) ≡ zeros n
   combination-zero_matrix m n [] = refl
   combination-zero_matrix zero n (c ∷ cs) = refl
   combination-zero_matrix (suc m) n (c ∷ cs) =
-      ap₂ (plus K) (scaled-zeros K F c n) (combination-zero_matrix m n cs) ∙ zeros-plus-zeros K F n
+      ap₂ (plus K) (multiple-zeros K F c n) (combination-zero_matrix m n cs) ∙ zeros-plus-zeros K F n
 
   combination-shifted : (n : ℕ) (cs : List ℕ) (A : List (List ℕ)) → combination K (suc n) cs (map (λ row. 0 ∷ row) A) ≡ 0 ∷ combination K n cs A
   combination-shifted n [] A = refl
   combination-shifted n (c ∷ cs) [] = refl
   combination-shifted n (c ∷ cs) (a ∷ A) =
-      ap (plus K (K.mul c 0 ∷ scaled K c a)) (combination-shifted n cs A)
-      ∙ ap (λ t. t ∷ plus K (scaled K c a) (combination K n cs A)) (ap (λ t. K.add t 0) (mul_zero K F c) ∙ F.add_zero 0 (zero_below K F))
+      ap (plus K (K.mul c 0 ∷ multiple K c a)) (combination-shifted n cs A)
+      ∙ ap (λ t. t ∷ plus K (multiple K c a) (combination K n cs A)) (ap (λ t. K.add t 0) (mul_zero K F c) ∙ F.add_zero 0 (zero_below K F))
 
   -- a vector is the combination of the unit vectors by its coordinates
   pub combination-identity : (n : ℕ) (v : List ℕ) → Vector K n v → combination K n v (identity n) ≡ v
@@ -260,9 +260,9 @@ module _ (K : Ops) (F : IsField K) where
   combination-identity zero (a ∷ v) h = absurd h
   combination-identity (suc n) [] h = absurd h
   combination-identity (suc n) (a ∷ v) h =
-      ap (plus K (K.mul a 1 ∷ scaled K a (zeros n))) (combination-shifted n v (identity n))
+      ap (plus K (K.mul a 1 ∷ multiple K a (zeros n))) (combination-shifted n v (identity n))
       ∙ ap₂ ◌∷◌ (ap (λ t. K.add t 0) (F.mul_one a h.0) ∙ F.add_zero a h.0)
-      (ap₂ (plus K) (scaled-zeros K F a n) (combination-identity n v h.1) ∙ zeros-plus K F n v h.1)
+      (ap₂ (plus K) (multiple-zeros K F a n) (combination-identity n v h.1) ∙ zeros-plus K F n v h.1)
 
   -- products: associative, with the identity on both sides
   pub product-assoc : (k l m n : ℕ) (A B C : List (List ℕ)) → Matrix K k l A → Matrix K l m B → Matrix K m n C
@@ -283,7 +283,7 @@ module _ (K : Ops) (F : IsField K) where
   shifted-product m n [] b B h hb = refl
   shifted-product m n (r ∷ A) b B h hb =
       ap₂ ◌∷◌
-      (ap (λ t. plus K t (combination K n r B)) (scaled-zero K F n b h) ∙ zeros-plus K F n (combination K n r B) (combination-vector K F m n r B hb))
+      (ap (λ t. plus K t (combination K n r B)) (multiple-zero K F n b h) ∙ zeros-plus K F n (combination K n r B) (combination-vector K F m n r B hb))
       (shifted-product m n A b B h hb)
 
   pub identity-product : (m n : ℕ) (A : List (List ℕ)) → Matrix K m n A → product K n (identity m) A ≡ A
@@ -292,7 +292,7 @@ module _ (K : Ops) (F : IsField K) where
   identity-product (suc m) n [] h = absurd h
   identity-product (suc m) n (r ∷ A) h =
       ap₂ ◌∷◌
-      (ap₂ (plus K) (scaled-one K F n r h.0) (combination-zeros K F m m n A h.1) ∙ plus-zeros K F n r h.0)
+      (ap₂ (plus K) (multiple-one K F n r h.0) (combination-zeros K F m m n A h.1) ∙ plus-zeros K F n r h.0)
       (shifted-product m n (identity m) r A h.0 h.1 ∙ identity-product m n A h.1)
 
   -- the coefficients of a unit vector pick a row
@@ -346,10 +346,10 @@ module _ (K : Ops) (F : IsField K) where
   inverse-unique n A B C ha hb hc =
       left-inverse-right n A B C ha (to_matrix K n n B hb.shape) (to_matrix K n n C hc.shape) hb.left hc.right
 
-  pub inverse-applied : (n : ℕ) (A B : List (List ℕ)) (v : List ℕ) → Matrix K n n A → IsInverse K n A B → Vector K n v
-      → applied K B (applied K A v) ≡ v
-  inverse-applied n A B v ha h hv = sym (product-applied n n B A v ha) ∙ ap (λ t. applied K t v) h.left ∙ identity-applied n v hv
+  pub inverse-image_of : (n : ℕ) (A B : List (List ℕ)) (v : List ℕ) → Matrix K n n A → IsInverse K n A B → Vector K n v
+      → image_of K B (image_of K A v) ≡ v
+  inverse-image_of n A B v ha h hv = sym (product-image_of n n B A v ha) ∙ ap (λ t. image_of K t v) h.left ∙ identity-image_of n v hv
 
-  pub applied-inverse : (n : ℕ) (A B : List (List ℕ)) (v : List ℕ) → IsInverse K n A B → Vector K n v
-      → applied K A (applied K B v) ≡ v
-  applied-inverse n A B v h hv = sym (product-applied n n A B v (to_matrix K n n B h.shape)) ∙ ap (λ t. applied K t v) h.right ∙ identity-applied n v hv
+  pub image_of-inverse : (n : ℕ) (A B : List (List ℕ)) (v : List ℕ) → IsInverse K n A B → Vector K n v
+      → image_of K A (image_of K B v) ≡ v
+  image_of-inverse n A B v h hv = sym (product-image_of n n A B v (to_matrix K n n B h.shape)) ∙ ap (λ t. image_of K t v) h.right ∙ identity-image_of n v hv

@@ -2,57 +2,57 @@
 use Rattle.std.proofs.Common.{◌≡◌, ℕ, zero, suc, ◌<◌, ◌≤◌, List, [], ◌∷◌, ◌++◌, length, take, get_or, set, All, refl, sym, ap, ◌∙◌, arith}
 use Rattle.std.proofs.lemmas.List.Elements.{All-head, All-tail, All-get_or}
 use Rattle.dense_blocks.specs.Field.{Ops, IsField}
-use Rattle.dense_blocks.specs.Vectors.{zeros, plus, negative, scaled, dot, combination}
-use Rattle.dense_blocks.specs.Elimination.{Fits, rows, part, cleared, reduced, parts}
+use Rattle.dense_blocks.specs.Vectors.{zeros, plus, negative, multiple, dot, combination}
+use Rattle.dense_blocks.specs.Elimination.{IsPivot, rows, pivot_multiple, pivot_remainder, reduced, parts}
 use Rattle.dense_blocks.specs.declared.solving.Pivot.{Pivot}
 use Rattle.dense_blocks.proofs.ScalarLaws.{neg_zero, zero_mul, add_mul}
 use Rattle.dense_blocks.proofs.Shapes.{Vector, Matrix, to_vector}
-use Rattle.dense_blocks.proofs.VectorLaws.{plus-vector, scaled-vector, zeros-plus, plus-zeros, zeros-plus-zeros, plus-left-comm, plus-comm, plus-assoc, plus-negative, scaled-zero, scaled-neg, scaled-neg_one, scaled-add}
+use Rattle.dense_blocks.proofs.VectorLaws.{plus-vector, multiple-vector, zeros-plus, plus-zeros, zeros-plus-zeros, plus-left-comm, plus-comm, plus-assoc, plus-negative, multiple-zero, multiple-neg, multiple-neg_one, multiple-add}
 
 -- the coefficients beyond the vectors change nothing
 pub combination-take : (K : Ops) (n k : ℕ) (cs : List ℕ) (vs : List (List ℕ)) → length cs ≤ k → combination K n cs (take k vs) ≡ combination K n cs vs
 combination-take K n k [] vs l = refl
 combination-take K n zero (c ∷ cs) vs l = absurd (omega arith)
 combination-take K n (suc k) (c ∷ cs) [] l = refl
-combination-take K n (suc k) (c ∷ cs) (v ∷ vs) l = ap (plus K (scaled K c v)) (combination-take K n k cs vs (omega arith))
+combination-take K n (suc k) (c ∷ cs) (v ∷ vs) l = ap (plus K (multiple K c v)) (combination-take K n k cs vs (omega arith))
 
 module _ (K : Ops) (h : IsField K) where
-  pub cleared-vector : (n : ℕ) (p : Pivot) (u : List ℕ) → Fits K n p → Vector K n u → Vector K n (cleared K p u)
+  pub cleared-vector : (n : ℕ) (p : Pivot) (u : List ℕ) → IsPivot K n p → Vector K n u → Vector K n (pivot_remainder K p u)
   cleared-vector n p u fit hu =
-      plus-vector K h n u (scaled K (K.neg (part K p u)) p.row.items) hu
-      (scaled-vector K h n (K.neg (part K p u)) p.row.items (to_vector K n p.row.items fit.row))
+      plus-vector K h n u (multiple K (K.neg (pivot_multiple K p u)) p.row.items) hu
+      (multiple-vector K h n (K.neg (pivot_multiple K p u)) p.row.items (to_vector K n p.row.items fit.row))
 
-  pub reduced-vector : (n : ℕ) (ps : List Pivot) (u : List ℕ) → All (Fits K n) ps → Vector K n u → Vector K n (reduced K ps u)
+  pub reduced-vector : (n : ℕ) (ps : List Pivot) (u : List ℕ) → All (IsPivot K n) ps → Vector K n u → Vector K n (reduced K ps u)
   unfolding reduced
   reduced-vector n [] u fit hu = hu
   reduced-vector n (p ∷ ps) u fit hu =
-      reduced-vector n ps (cleared K p u) (All-tail (Fits K n) p ps fit) (cleared-vector n p u (All-head (Fits K n) p ps fit) hu)
+      reduced-vector n ps (pivot_remainder K p u) (All-tail (IsPivot K n) p ps fit) (cleared-vector n p u (All-head (IsPivot K n) p ps fit) hu)
 
   pub parts-vector : (ps : List Pivot) (u : List ℕ) → Vector K (length ps) (parts K ps u)
   unfolding parts
   parts-vector [] u = tt
-  parts-vector (p ∷ ps) u = (h.mul_below (get_or u p.place 0) p.inverse, parts-vector ps (cleared K p u))
+  parts-vector (p ∷ ps) u = (h.mul_below (get_or u p.place 0) p.inverse, parts-vector ps (pivot_remainder K p u))
 
-  pub reduced-push : (ps : List Pivot) (q : Pivot) (u : List ℕ) → reduced K (ps ++ q ∷ []) u ≡ cleared K q (reduced K ps u)
+  pub reduced-push : (ps : List Pivot) (q : Pivot) (u : List ℕ) → reduced K (ps ++ q ∷ []) u ≡ pivot_remainder K q (reduced K ps u)
   unfolding reduced
   reduced-push [] q u = refl
-  reduced-push (p ∷ ps) q u = reduced-push ps q (cleared K p u)
+  reduced-push (p ∷ ps) q u = reduced-push ps q (pivot_remainder K p u)
 
   -- what was taken off and what is left make the vector
-  pub reduced-parts : (n : ℕ) (ps : List Pivot) (u : List ℕ) → All (Fits K n) ps → Vector K n u
+  pub reduced-parts : (n : ℕ) (ps : List Pivot) (u : List ℕ) → All (IsPivot K n) ps → Vector K n u
       → plus K (reduced K ps u) (combination K n (parts K ps u) (rows ps)) ≡ u
   unfolding reduced parts
   reduced-parts n [] u fit hu = plus-zeros K h n u hu
   reduced-parts n (p ∷ ps) u fit hu =
-      let first : Fits K n p = All-head (Fits K n) p ps fit in
+      let first : IsPivot K n p = All-head (IsPivot K n) p ps fit in
       let row : List ℕ = p.row.items in
-      let k : ℕ = part K p u in
-      let taken : List ℕ = scaled K k row in
-      let left : List ℕ = cleared K p u in
-      let taken_vector : Vector K n taken = scaled-vector K h n k row (to_vector K n row first.row) in
+      let k : ℕ = pivot_multiple K p u in
+      let taken : List ℕ = multiple K k row in
+      let left : List ℕ = pivot_remainder K p u in
+      let taken_vector : Vector K n taken = multiple-vector K h n k row (to_vector K n row first.row) in
       plus-left-comm K h (reduced K ps left) taken (combination K n (parts K ps left) (rows ps))
-      ∙ ap (plus K taken) (reduced-parts n ps left (All-tail (Fits K n) p ps fit) (cleared-vector n p u first hu))
-      ∙ ap (λ t. plus K taken (plus K u t)) (scaled-neg K h k row)
+      ∙ ap (plus K taken) (reduced-parts n ps left (All-tail (IsPivot K n) p ps fit) (cleared-vector n p u first hu))
+      ∙ ap (λ t. plus K taken (plus K u t)) (multiple-neg K h k row)
       ∙ plus-left-comm K h taken u (negative K taken)
       ∙ ap (plus K u) (plus-negative K h n taken taken_vector)
       ∙ plus-zeros K h n u hu
@@ -63,22 +63,22 @@ module _ (K : Ops) (h : IsField K) where
   zeros-at (suc n) (suc i) = zeros-at n i
 
   -- a reduction keeps zero, and takes the whole of its own row
-  pub cleared-zeros : (n : ℕ) (p : Pivot) → Fits K n p → cleared K p (zeros n) ≡ zeros n
+  pub cleared-zeros : (n : ℕ) (p : Pivot) → IsPivot K n p → pivot_remainder K p (zeros n) ≡ zeros n
   cleared-zeros n p fit =
-      ap (λ t. plus K (zeros n) (scaled K (K.neg (K.mul t p.inverse)) p.row.items)) (zeros-at n p.place)
-      ∙ ap (λ t. plus K (zeros n) (scaled K (K.neg t) p.row.items)) (zero_mul K h p.inverse)
-      ∙ ap (λ t. plus K (zeros n) (scaled K t p.row.items)) (neg_zero K h)
-      ∙ ap (plus K (zeros n)) (scaled-zero K h n p.row.items (to_vector K n p.row.items fit.row))
+      ap (λ t. plus K (zeros n) (multiple K (K.neg (K.mul t p.inverse)) p.row.items)) (zeros-at n p.place)
+      ∙ ap (λ t. plus K (zeros n) (multiple K (K.neg t) p.row.items)) (zero_mul K h p.inverse)
+      ∙ ap (λ t. plus K (zeros n) (multiple K t p.row.items)) (neg_zero K h)
+      ∙ ap (plus K (zeros n)) (multiple-zero K h n p.row.items (to_vector K n p.row.items fit.row))
       ∙ zeros-plus-zeros K h n
 
-  pub cleared-row : (n : ℕ) (p : Pivot) → Fits K n p → cleared K p p.row.items ≡ zeros n
+  pub cleared-row : (n : ℕ) (p : Pivot) → IsPivot K n p → pivot_remainder K p p.row.items ≡ zeros n
   cleared-row n p fit =
       let row : List ℕ = p.row.items in
       let row_vector : Vector K n row = to_vector K n row fit.row in
       let low : get_or row p.place 0 < K.order = All-get_or (λ a. a < K.order) row p.place 0 (omega (arith, fit.place, fit.row.size)) fit.row.scalars in
-      ap (λ t. plus K row (scaled K (K.neg (K.mul (get_or row p.place 0) t)) row)) fit.inverse_is
-      ∙ ap (λ t. plus K row (scaled K (K.neg t) row)) (h.mul_inv (get_or row p.place 0) low fit.not_zero)
-      ∙ ap (plus K row) (scaled-neg_one K h n row row_vector)
+      ap (λ t. plus K row (multiple K (K.neg (K.mul (get_or row p.place 0) t)) row)) fit.inverse_is
+      ∙ ap (λ t. plus K row (multiple K (K.neg t) row)) (h.mul_inv (get_or row p.place 0) low fit.not_zero)
+      ∙ ap (plus K row) (multiple-neg_one K h n row row_vector)
       ∙ plus-negative K h n row row_vector
 
   -- the functional p, changed at one place
@@ -97,29 +97,29 @@ module _ (K : Ops) (h : IsField K) where
 
   -- a combination, changed in one coefficient
   pub combination-set : (n : ℕ) (c : List ℕ) (vs : List (List ℕ)) (i a : ℕ) → i < length c → length c ≡ length vs
-      → combination K n (set c i (K.add (get_or c i 0) a)) vs ≡ plus K (combination K n c vs) (scaled K a (get_or vs i []))
+      → combination K n (set c i (K.add (get_or c i 0) a)) vs ≡ plus K (combination K n c vs) (multiple K a (get_or vs i []))
   combination-set n [] vs i a l e = absurd (omega arith)
   combination-set n (x ∷ c) [] i a l e = absurd (omega arith)
   combination-set n (x ∷ c) (v ∷ vs) zero a l e =
-      ap (λ t. plus K t (combination K n c vs)) (scaled-add K h x a v)
-      ∙ plus-assoc K h (scaled K x v) (scaled K a v) (combination K n c vs)
-      ∙ ap (plus K (scaled K x v)) (plus-comm K h (scaled K a v) (combination K n c vs))
-      ∙ sym (plus-assoc K h (scaled K x v) (combination K n c vs) (scaled K a v))
+      ap (λ t. plus K t (combination K n c vs)) (multiple-add K h x a v)
+      ∙ plus-assoc K h (multiple K x v) (multiple K a v) (combination K n c vs)
+      ∙ ap (plus K (multiple K x v)) (plus-comm K h (multiple K a v) (combination K n c vs))
+      ∙ sym (plus-assoc K h (multiple K x v) (combination K n c vs) (multiple K a v))
   combination-set n (x ∷ c) (v ∷ vs) (suc i) a l e =
-      ap (plus K (scaled K x v)) (combination-set n c vs i a (omega arith) (omega arith))
-      ∙ sym (plus-assoc K h (scaled K x v) (combination K n c vs) (scaled K a (get_or vs i [])))
+      ap (plus K (multiple K x v)) (combination-set n c vs i a (omega arith) (omega arith))
+      ∙ sym (plus-assoc K h (multiple K x v) (combination K n c vs) (multiple K a (get_or vs i [])))
 
   -- the last coefficient apart
   pub combination-last : (m n : ℕ) (c : List ℕ) (x : ℕ) (vs : List (List ℕ)) → length c < length vs → Matrix K m n vs
-      → combination K n (c ++ x ∷ []) vs ≡ plus K (combination K n c vs) (scaled K x (get_or vs (length c) []))
+      → combination K n (c ++ x ∷ []) vs ≡ plus K (combination K n c vs) (multiple K x (get_or vs (length c) []))
   combination-last m n c x [] l hv = absurd (omega arith)
   combination-last zero n c x (v ∷ vs) l hv = absurd hv
   combination-last (suc m) n [] x (v ∷ vs) l hv =
-      plus-zeros K h n (scaled K x v) (scaled-vector K h n x v hv.0)
-      ∙ sym (zeros-plus K h n (scaled K x v) (scaled-vector K h n x v hv.0))
+      plus-zeros K h n (multiple K x v) (multiple-vector K h n x v hv.0)
+      ∙ sym (zeros-plus K h n (multiple K x v) (multiple-vector K h n x v hv.0))
   combination-last (suc m) n (y ∷ c) x (v ∷ vs) l hv =
-      ap (plus K (scaled K y v)) (combination-last m n c x vs (omega arith) hv.1)
-      ∙ sym (plus-assoc K h (scaled K y v) (combination K n c vs) (scaled K x (get_or vs (length c) [])))
+      ap (plus K (multiple K y v)) (combination-last m n c x vs (omega arith) hv.1)
+      ∙ sym (plus-assoc K h (multiple K y v) (combination K n c vs) (multiple K x (get_or vs (length c) [])))
 
   pub set-vector : (n i x : ℕ) (v : List ℕ) → x < K.order → Vector K n v → Vector K n (set v i x)
   set-vector zero i x [] l hv = tt

@@ -2,10 +2,10 @@
 use Rattle.std.proofs.Common.{◌≡◌, ℕ, zero, suc, ◌+◌, ◌<◌, List, [], ◌∷◌, ◌++◌, length, take, get_or, set, replicate, refl, sym, ap, ap₂, ◌∙◌, arith, add-one}
 use Rattle.std.proofs.lemmas.List.{length-map, take_more}
 use Rattle.dense_blocks.specs.Field.{Ops, IsField}
-use Rattle.dense_blocks.specs.Vectors.{zeros, plus, scaled, dot}
+use Rattle.dense_blocks.specs.Vectors.{zeros, plus, multiple, dot}
 use Rattle.dense_blocks.proofs.ScalarLaws.{zero_add}
 use Rattle.dense_blocks.proofs.Shapes.{Vector}
-use Rattle.dense_blocks.proofs.VectorLaws.{plus-zeros, scaled-zero, dot-below}
+use Rattle.dense_blocks.proofs.VectorLaws.{plus-zeros, multiple-zero, dot-below}
 
 -- the first i entries of w, and the later ones of u
 unfoldable pub changed : ℕ → List ℕ → List ℕ → List ℕ
@@ -47,46 +47,46 @@ length-plus K [] v e = refl
 length-plus K (a ∷ u) [] e = absurd (omega arith)
 length-plus K (a ∷ u) (b ∷ v) e = ap suc (length-plus K u v (omega arith))
 
-pub plus-scaled-at : (K : Ops) (k i : ℕ) (u v : List ℕ) → length v ≡ length u → i < length u
-    → K.add (get_or u i 0) (K.mul k (get_or v i 0)) ≡ get_or (plus K u (scaled K k v)) i 0
-plus-scaled-at K k i [] v e l = absurd (omega arith)
-plus-scaled-at K k i (a ∷ u) [] e l = absurd (omega arith)
-plus-scaled-at K k zero (a ∷ u) (b ∷ v) e l = refl
-plus-scaled-at K k (suc i) (a ∷ u) (b ∷ v) e l = plus-scaled-at K k i u v (omega arith) (omega arith)
+pub plus-multiple-at : (K : Ops) (k i : ℕ) (u v : List ℕ) → length v ≡ length u → i < length u
+    → K.add (get_or u i 0) (K.mul k (get_or v i 0)) ≡ get_or (plus K u (multiple K k v)) i 0
+plus-multiple-at K k i [] v e l = absurd (omega arith)
+plus-multiple-at K k i (a ∷ u) [] e l = absurd (omega arith)
+plus-multiple-at K k zero (a ∷ u) (b ∷ v) e l = refl
+plus-multiple-at K k (suc i) (a ∷ u) (b ∷ v) e l = plus-multiple-at K k i u v (omega arith) (omega arith)
 
-pub scaled-at : (K : Ops) (k i : ℕ) (v : List ℕ) → i < length v → K.mul k (get_or v i 0) ≡ get_or (scaled K k v) i 0
-scaled-at K k i [] l = absurd (omega arith)
-scaled-at K k zero (b ∷ v) l = refl
-scaled-at K k (suc i) (b ∷ v) l = scaled-at K k i v (omega arith)
+pub multiple-at : (K : Ops) (k i : ℕ) (v : List ℕ) → i < length v → K.mul k (get_or v i 0) ≡ get_or (multiple K k v) i 0
+multiple-at K k i [] l = absurd (omega arith)
+multiple-at K k zero (b ∷ v) l = refl
+multiple-at K k (suc i) (b ∷ v) l = multiple-at K k i v (omega arith)
 
 -- one more entry of u plus k times v
 pub add_scaled-next : (K : Ops) (k i : ℕ) (target u v : List ℕ) (a b : ℕ) → length v ≡ length u → i < length u
-    → target ≡ changed i (plus K u (scaled K k v)) u → a ≡ get_or target i 0 → b ≡ get_or v i 0
-    → set target i (K.add a (K.mul k b)) ≡ changed (i + 1) (plus K u (scaled K k v)) u
+    → target ≡ changed i (plus K u (multiple K k v)) u → a ≡ get_or target i 0 → b ≡ get_or v i 0
+    → set target i (K.add a (K.mul k b)) ≡ changed (i + 1) (plus K u (multiple K k v)) u
 add_scaled-next K k i target u v a b e l now is_a is_b =
-    let w : List ℕ = plus K u (scaled K k v) in
-    let size : length w ≡ length u = length-plus K u (scaled K k v) (length-map v (K.mul k) ∙ e) in
+    let w : List ℕ = plus K u (multiple K k v) in
+    let size : length w ≡ length u = length-plus K u (multiple K k v) (length-map v (K.mul k) ∙ e) in
     let at : a ≡ get_or u i 0 = is_a ∙ ap (λ t. get_or t i 0) now ∙ changed-at i w u in
     ap (λ t. set t i (K.add a (K.mul k b))) now
-    ∙ changed-next i w u (K.add a (K.mul k b)) size l (ap₂ (λ x y. K.add x (K.mul k y)) at is_b ∙ plus-scaled-at K k i u v e l)
+    ∙ changed-next i w u (K.add a (K.mul k b)) size l (ap₂ (λ x y. K.add x (K.mul k y)) at is_b ∙ plus-multiple-at K k i u v e l)
 
 pub add_scaled-all : (K : Ops) (k i : ℕ) (target u v : List ℕ) → length v ≡ length u → i ≡ length u
-    → target ≡ changed i (plus K u (scaled K k v)) u → target ≡ plus K u (scaled K k v)
+    → target ≡ changed i (plus K u (multiple K k v)) u → target ≡ plus K u (multiple K k v)
 add_scaled-all K k i target u v e l now =
-    now ∙ ap (λ t. changed t (plus K u (scaled K k v)) u) l
-    ∙ changed-all (plus K u (scaled K k v)) u (length-plus K u (scaled K k v) (length-map v (K.mul k) ∙ e))
+    now ∙ ap (λ t. changed t (plus K u (multiple K k v)) u) l
+    ∙ changed-all (plus K u (multiple K k v)) u (length-plus K u (multiple K k v) (length-map v (K.mul k) ∙ e))
 
 -- one more entry of k times v
 pub scale-next : (K : Ops) (k i : ℕ) (target v : List ℕ) (a : ℕ) → i < length v
-    → target ≡ changed i (scaled K k v) v → a ≡ get_or target i 0 → set target i (K.mul k a) ≡ changed (i + 1) (scaled K k v) v
+    → target ≡ changed i (multiple K k v) v → a ≡ get_or target i 0 → set target i (K.mul k a) ≡ changed (i + 1) (multiple K k v) v
 scale-next K k i target v a l now is_a =
-    let at : a ≡ get_or v i 0 = is_a ∙ ap (λ t. get_or t i 0) now ∙ changed-at i (scaled K k v) v in
+    let at : a ≡ get_or v i 0 = is_a ∙ ap (λ t. get_or t i 0) now ∙ changed-at i (multiple K k v) v in
     ap (λ t. set t i (K.mul k a)) now
-    ∙ changed-next i (scaled K k v) v (K.mul k a) (length-map v (K.mul k)) l (ap (K.mul k) at ∙ scaled-at K k i v l)
+    ∙ changed-next i (multiple K k v) v (K.mul k a) (length-map v (K.mul k)) l (ap (K.mul k) at ∙ multiple-at K k i v l)
 
-pub scale-all : (K : Ops) (k i : ℕ) (target v : List ℕ) → i ≡ length v → target ≡ changed i (scaled K k v) v → target ≡ scaled K k v
+pub scale-all : (K : Ops) (k i : ℕ) (target v : List ℕ) → i ≡ length v → target ≡ changed i (multiple K k v) v → target ≡ multiple K k v
 scale-all K k i target v l now =
-    now ∙ ap (λ t. changed t (scaled K k v) v) l ∙ changed-all (scaled K k v) v (length-map v (K.mul k))
+    now ∙ ap (λ t. changed t (multiple K k v) v) l ∙ changed-all (multiple K k v) v (length-map v (K.mul k))
 
 pub zeros-replicate : (n : ℕ) → replicate n 0 ≡ zeros n
 zeros-replicate zero = refl
@@ -123,8 +123,8 @@ dot_from-end K (a ∷ u) [] = refl
 dot_from-end K (a ∷ u) (b ∷ v) = dot_from-end K u v
 
 module _ (K : Ops) (h : IsField K) where
-  pub plus-scaled-zero : (n : ℕ) (u v : List ℕ) → Vector K n u → Vector K n v → plus K u (scaled K 0 v) ≡ u
-  plus-scaled-zero n u v hu hv = ap (plus K u) (scaled-zero K h n v hv) ∙ plus-zeros K h n u hu
+  pub plus-multiple-zero : (n : ℕ) (u v : List ℕ) → Vector K n u → Vector K n v → plus K u (multiple K 0 v) ≡ u
+  plus-multiple-zero n u v hu hv = ap (plus K u) (multiple-zero K h n v hv) ∙ plus-zeros K h n u hu
 
   pub dot_from-start : (u v : List ℕ) → K.add 0 (dot_from K 0 u v) ≡ dot K u v
   unfolding dot_from

@@ -3,14 +3,14 @@ use Rattle.std.proofs.Common.{◌≡◌, ◌≢◌, ℕ, zero, suc, ◌<◌, Lis
 use Rattle.std.proofs.lemmas.List.{length-map, get_or_default}
 use Rattle.std.proofs.lemmas.List.Elements.{All-head, All-tail, All-get_or}
 use Rattle.dense_blocks.specs.Field.{Ops, IsField}
-use Rattle.dense_blocks.specs.Vectors.{IsVector, zeros, plus, scaled, dot, combination}
+use Rattle.dense_blocks.specs.Vectors.{IsVector, zeros, plus, multiple, dot, combination}
 use Rattle.dense_blocks.specs.Matrices.{IsMatrix}
-use Rattle.dense_blocks.specs.Elimination.{Fits, rows, reduced, parts, PullsBack, Eliminates}
+use Rattle.dense_blocks.specs.Elimination.{IsPivot, rows, reduced, parts, PullsBack, Eliminates}
 use Rattle.dense_blocks.specs.Solving.{lists, Separates}
 use Rattle.dense_blocks.specs.declared.solving.Pivot.{Pivot}
 use Rattle.dense_blocks.proofs.ScalarLaws.{zero_below, zero_add, mul_zero, inv_mul}
 use Rattle.dense_blocks.proofs.Shapes.{Vector, Matrix, to_vector, matrix_of_rows, vector-size, vector-scalars}
-use Rattle.dense_blocks.proofs.VectorLaws.{zeros-plus, scaled-vector, combination-vector, dot-zeros, dot-plus, dot-scaled}
+use Rattle.dense_blocks.proofs.VectorLaws.{zeros-plus, multiple-vector, combination-vector, dot-zeros, dot-plus, dot-multiple}
 use Rattle.dense_blocks.proofs.Reductions.{reduced-parts, reduced-vector, zeros-at}
 use Rattle.dense_blocks.proofs.EliminationSteps.{rows-matrix, pulls_back-leading}
 
@@ -30,7 +30,7 @@ lists_matrix K n vs sizes scalars = record { size = length-map vs (λ v. v.items
 
 module _ (K : Ops) (h : IsField K) where
   -- a vector that is reduced to zero is the combination of its parts
-  pub reduced-none : (n : ℕ) (ps : List Pivot) (v : List ℕ) → All (Fits K n) ps → IsVector K n v → reduced K ps v ≡ zeros n
+  pub reduced-none : (n : ℕ) (ps : List Pivot) (v : List ℕ) → All (IsPivot K n) ps → IsVector K n v → reduced K ps v ≡ zeros n
       → combination K n (parts K ps v) (rows ps) ≡ v
   reduced-none n ps v fit hv e =
       let taken : List ℕ = combination K n (parts K ps v) (rows ps) in
@@ -44,9 +44,9 @@ module _ (K : Ops) (h : IsField K) where
   dot-combination-zero m n p (x ∷ c) [] hv z = dot-zeros K h n p
   dot-combination-zero zero n p (x ∷ c) (v ∷ vs) hv z = absurd hv
   dot-combination-zero (suc m) n p (x ∷ c) (v ∷ vs) hv z =
-      dot-plus K h n p (scaled K x v) (combination K n c vs) (scaled-vector K h n x v hv.0) (combination-vector K h m n c vs hv.1)
+      dot-plus K h n p (multiple K x v) (combination K n c vs) (multiple-vector K h n x v hv.0) (combination-vector K h m n c vs hv.1)
       ∙ ap₂ K.add
-      (dot-scaled K h x p v ∙ ap (K.mul x) (All-head (λ w. dot K p w ≡ 0) v vs z) ∙ mul_zero K h x)
+      (dot-multiple K h x p v ∙ ap (K.mul x) (All-head (λ w. dot K p w ≡ 0) v vs z) ∙ mul_zero K h x)
       (dot-combination-zero m n p c vs hv.1 (All-tail (λ w. dot K p w ≡ 0) v vs z))
       ∙ zero_add K h 0 (zero_below K h)
 

@@ -2,11 +2,11 @@
 use Rattle.std.proofs.Common.{◌≡◌, ℕ, zero, suc, ◌<◌, List, [], ◌∷◌, ◌++◌, length, get_or, sym, ap, ◌∙◌, subst, arith}
 use Rattle.std.proofs.lemmas.List.{length-append}
 use Rattle.dense_blocks.specs.Field.{Ops, IsField}
-use Rattle.dense_blocks.specs.Vectors.{zeros, plus, negative, scaled, combination}
+use Rattle.dense_blocks.specs.Vectors.{zeros, plus, negative, multiple, combination}
 use Rattle.dense_blocks.specs.Spans.{IsCombination}
 use Rattle.dense_blocks.proofs.ScalarLaws.{one_below}
 use Rattle.dense_blocks.proofs.Shapes.{Vector, Matrix, to_vector, from_vector, vector-size, append-vector}
-use Rattle.dense_blocks.proofs.VectorLaws.{zeros-vector, zeros-size, plus-vector, scaled-vector, negative-vector, combination-vector, combination-plus, combination-scaled, combination-negative, combination-zeros, combination-append, combination-push, zeros-plus, plus-zeros, scaled-one}
+use Rattle.dense_blocks.proofs.VectorLaws.{zeros-vector, zeros-size, plus-vector, multiple-vector, negative-vector, combination-vector, combination-plus, combination-multiple, combination-negative, combination-zeros, combination-append, combination-push, zeros-plus, plus-zeros, multiple-one}
 
 -- with coefficients in the form that proofs recurse on
 pub combines : (K : Ops) (n : ℕ) (vs : List (List ℕ)) (v c : List ℕ) → Vector K (length vs) c → combination K n c vs ≡ v → IsCombination K n vs v
@@ -29,10 +29,10 @@ module _ (K : Ops) (F : IsField K) (n : ℕ) where
       combines K n vs (plus K u v) (plus K s.coefficients t.coefficients) (plus-vector K F (length vs) s.coefficients t.coefficients hs ht)
       (combination-plus K F (length vs) n s.coefficients t.coefficients vs hs ht ∙ ap (λ x. plus K x (combination K n t.coefficients vs)) s.gives ∙ ap (plus K u) t.gives)
 
-  pub spans-scaled : (vs : List (List ℕ)) (k : ℕ) (v : List ℕ) → IsCombination K n vs v → IsCombination K n vs (scaled K k v)
-  spans-scaled vs k v s =
-      combines K n vs (scaled K k v) (scaled K k s.coefficients) (scaled-vector K F (length vs) k s.coefficients (coefficients-vector vs v s))
-      (combination-scaled K F n k s.coefficients vs ∙ ap (scaled K k) s.gives)
+  pub spans-multiple : (vs : List (List ℕ)) (k : ℕ) (v : List ℕ) → IsCombination K n vs v → IsCombination K n vs (multiple K k v)
+  spans-multiple vs k v s =
+      combines K n vs (multiple K k v) (multiple K k s.coefficients) (multiple-vector K F (length vs) k s.coefficients (coefficients-vector vs v s))
+      (combination-multiple K F n k s.coefficients vs ∙ ap (multiple K k) s.gives)
 
   pub spans-negative : (vs : List (List ℕ)) (v : List ℕ) → IsCombination K n vs v → IsCombination K n vs (negative K v)
   spans-negative vs v s =
@@ -66,8 +66,8 @@ module _ (K : Ops) (F : IsField K) (n : ℕ) where
       (subst (λ k. Vector K k (zeros (length vs) ++ 1 ∷ [])) (sym (length-append vs (v ∷ [])))
       (append-vector K (length vs) 1 (zeros (length vs)) (1 ∷ []) (zeros-vector K F (length vs)) (one_below K F, tt)))
       (combination-push K F n (zeros (length vs)) vs 1 v (zeros-size (length vs)) h
-      ∙ ap (λ x. plus K x (scaled K 1 v)) (combination-zeros K F (length vs) m n vs hv)
-      ∙ ap (plus K (zeros n)) (scaled-one K F n v h) ∙ zeros-plus K F n v h)
+      ∙ ap (λ x. plus K x (multiple K 1 v)) (combination-zeros K F (length vs) m n vs hv)
+      ∙ ap (plus K (zeros n)) (multiple-one K F n v h) ∙ zeros-plus K F n v h)
 
   -- a combination of combinations of vs is one of vs
   pub spans-combination : (l m : ℕ) (cs : List ℕ) (us vs : List (List ℕ)) → Matrix K l n us → Matrix K m n vs
@@ -76,7 +76,7 @@ module _ (K : Ops) (F : IsField K) (n : ℕ) where
   spans-combination l m (c ∷ cs) [] vs hu hv each = spans-zeros m vs hv
   spans-combination zero m (c ∷ cs) (u ∷ us) vs hu hv each = absurd hu
   spans-combination (suc l) m (c ∷ cs) (u ∷ us) vs hu hv each =
-      spans-plus vs (scaled K c u) (combination K n cs us) (spans-scaled vs c u (each 0 (omega arith)))
+      spans-plus vs (multiple K c u) (combination K n cs us) (spans-multiple vs c u (each 0 (omega arith)))
       (spans-combination l m cs us vs hu.1 hv (λ k b. each (suc k) (omega arith)))
 
   pub spans-through : (l m : ℕ) (us vs : List (List ℕ)) (v : List ℕ) → Matrix K l n us → Matrix K m n vs

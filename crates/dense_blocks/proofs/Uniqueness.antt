@@ -4,12 +4,12 @@ use Rattle.std.proofs.lemmas.Bool.{cases_eq}
 use Rattle.std.proofs.lemmas.List.{take_all, take_more, get_or-take}
 use Rattle.std.proofs.lemmas.List.Elements.{All-cons, All-head, All-tail, All-get_or}
 use Rattle.dense_blocks.specs.Field.{Ops, IsField}
-use Rattle.dense_blocks.specs.Vectors.{AllScalars, IsVector, zeros, plus, negative, scaled, dot, combination}
-use Rattle.dense_blocks.specs.Solving.{IsEarlier, IsEarlierCoordinate, Combines, Separates}
+use Rattle.dense_blocks.specs.Vectors.{AllScalars, IsVector, zeros, plus, negative, multiple, dot, combination}
+use Rattle.dense_blocks.specs.Solving.{IsDependent, IsDependentCoordinate, Combines, Separates}
 use Rattle.dense_blocks.specs.LeadingAnswers.{OneLeadingCombination, OneLeadingFunctional}
 use Rattle.dense_blocks.proofs.ScalarLaws.{zero_below, zero_add, neg_zero, neg_unique, neg_mul, mul_neg, mul_zero, zero_mul, inv_mul, inv_mul_mul}
 use Rattle.dense_blocks.proofs.Shapes.{Vector, Matrix, to_vector, vector-size, vector-scalars, vector-nil, matrix_of_rows, row-vector}
-use Rattle.dense_blocks.proofs.VectorLaws.{plus-vector, negative-vector, scaled-vector, combination-vector, plus-zeros, plus-negative, negative-unique, same-by-difference, scaled-zero, scaled-one, scaled-mul, scaled-neg, scaled-negative, combination-plus, combination-negative, combination-scaled, plus-dot, negative-dot, scaled-dot, dot-below}
+use Rattle.dense_blocks.proofs.VectorLaws.{plus-vector, negative-vector, multiple-vector, combination-vector, plus-zeros, plus-negative, negative-unique, same-by-difference, multiple-zero, multiple-one, multiple-mul, multiple-neg, multiple-negative, combination-plus, combination-negative, combination-multiple, plus-dot, negative-dot, multiple-dot, dot-below}
 use Rattle.dense_blocks.proofs.RowSteps.{zeros-push}
 use Rattle.dense_blocks.proofs.Reductions.{combination-take, combination-last}
 use Rattle.dense_blocks.proofs.Leading.{plus-at, take-vector}
@@ -45,13 +45,13 @@ module _ (K : Ops) (h : IsField K) where
       ∙ ap (K.mul (K.inv x)) (sym (neg_unique K h a (K.mul x b) (h.mul_below x b) e))
       ∙ inv_mul_mul K h x b hx not hb
 
-  solved_vector : (n : ℕ) (a b : List ℕ) (x : ℕ) → x < K.order → x ≢ 0 → Vector K n a → Vector K n b → plus K a (scaled K x b) ≡ zeros n
-      → scaled K (K.neg (K.inv x)) a ≡ b
+  solved_vector : (n : ℕ) (a b : List ℕ) (x : ℕ) → x < K.order → x ≢ 0 → Vector K n a → Vector K n b → plus K a (multiple K x b) ≡ zeros n
+      → multiple K (K.neg (K.inv x)) a ≡ b
   solved_vector n a b x hx not ha hb e =
-      scaled-neg K h (K.inv x) a ∙ sym (scaled-negative K h (K.inv x) a)
-      ∙ ap (scaled K (K.inv x)) (sym (negative-unique K h n a (scaled K x b) ha (scaled-vector K h n x b hb) e))
-      ∙ sym (scaled-mul K h (K.inv x) x b)
-      ∙ ap (λ t. scaled K t b) (inv_mul K h x hx not) ∙ scaled-one K h n b hb
+      multiple-neg K h (K.inv x) a ∙ sym (multiple-negative K h (K.inv x) a)
+      ∙ ap (multiple K (K.inv x)) (sym (negative-unique K h n a (multiple K x b) ha (multiple-vector K h n x b hb) e))
+      ∙ sym (multiple-mul K h (K.inv x) x b)
+      ∙ ap (λ t. multiple K t b) (inv_mul K h x hx not) ∙ multiple-one K h n b hb
 
   scalar-at : (k i : ℕ) (d : List ℕ) → Vector K k d → i < k → get_or d i 0 < K.order
   scalar-at k i d hd l = All-get_or (λ a. a < K.order) d i 0 (omega (arith, vector-size K k d hd)) (vector-scalars K k d hd)
@@ -64,7 +64,7 @@ module _ (K : Ops) (h : IsField K) where
 
   -- coefficients whose combination is zero, and which are 0 at each vector that earlier ones give
   combination-leading : (m n k : ℕ) (vs : List (List ℕ)) (d : List ℕ) → Matrix K m n vs → length vs ≡ m → k ≤ m → Vector K k d → combination K n d vs ≡ zeros n
-      → ((i : ℕ) → i < k → IsEarlier K n vs i → get_or d i 0 ≡ 0) → d ≡ zeros k
+      → ((i : ℕ) → i < k → IsDependent K n vs i → get_or d i 0 ≡ 0) → d ≡ zeros k
   combination-leading m n zero vs d hv size l hd e leads = vector-nil K d hd
   combination-leading m n (suc k) vs d hv size l hd e leads =
       by_last (cases_eq (get_or d k 0) 0)
@@ -76,9 +76,9 @@ module _ (K : Ops) (h : IsField K) where
       front : Vector K k (take k d)
       front = take-vector K (suc k) k d hd (omega arith)
 
-      sum : plus K (combination K n (take k d) vs) (scaled K (get_or d k 0) (get_or vs k [])) ≡ zeros n
+      sum : plus K (combination K n (take k d) vs) (multiple K (get_or d k 0) (get_or vs k [])) ≡ zeros n
       sum =
-          ap (λ j. plus K (combination K n (take k d) vs) (scaled K (get_or d k 0) (get_or vs j []))) (sym (vector-size K k (take k d) front))
+          ap (λ j. plus K (combination K n (take k d) vs) (multiple K (get_or d k 0) (get_or vs j []))) (sym (vector-size K k (take k d) front))
           ∙ sym (combination-last K h m n (take k d) (get_or d k 0) vs (omega (arith, vector-size K k (take k d) front)) hv)
           ∙ ap (λ t. combination K n t vs) (sym apart) ∙ e
 
@@ -89,15 +89,15 @@ module _ (K : Ops) (h : IsField K) where
       by_last (inl none) again =
           let rest : combination K n (take k d) vs ≡ zeros n =
           sym (plus-zeros K h n (combination K n (take k d) vs) (combination-vector K h m n (take k d) vs hv))
-          ∙ ap (plus K (combination K n (take k d) vs)) (sym (scaled-zero K h n (get_or vs k []) last) ∙ ap (λ t. scaled K t (get_or vs k [])) (sym none))
+          ∙ ap (plus K (combination K n (take k d) vs)) (sym (multiple-zero K h n (get_or vs k []) last) ∙ ap (λ t. multiple K t (get_or vs k [])) (sym none))
           ∙ sum in
           apart ∙ ap₂ (λ s x. s ++ x ∷ []) (again rest) none ∙ zeros-push k
       by_last (inr some) again =
           let t : ℕ = K.neg (K.inv (get_or d k 0)) in
           absurd (some (leads k (omega arith) (record {
-            by = scaled K t (take k d);
-            is = combination-scaled K h n t (take k d) (take k vs)
-                ∙ ap (scaled K t) (combination-take K n k (take k d) vs (omega (arith, vector-size K k (take k d) front)))
+            by = multiple K t (take k d);
+            is = combination-multiple K h n t (take k d) (take k vs)
+                ∙ ap (multiple K t) (combination-take K n k (take k d) vs (omega (arith, vector-size K k (take k d) front)))
                 ∙ solved_vector n (combination K n (take k d) vs) (get_or vs k []) (get_or d k 0) (scalar-at (suc k) k d hd (omega arith)) some
                 (combination-vector K h m n (take k d) vs hv) last sum;
           })))
@@ -137,9 +137,9 @@ module _ (K : Ops) (h : IsField K) where
           apart ∙ ap₂ (λ s x. s ++ x ∷ []) (again (λ j w low. rest none (get_or U j w) (e j w low))) none ∙ zeros-push k
       by_last (inr some) again =
           let t : ℕ = K.neg (K.inv (get_or d k 0)) in
-          absurd (some (leads k (scaled K t (take k d)) (omega arith) (λ j w low.
+          absurd (some (leads k (multiple K t (take k d)) (omega arith) (λ j w low.
           let u : List ℕ = get_or U j w in
-          scaled-dot K h t (take k d) (take k u)
+          multiple-dot K h t (take k d) (take k u)
           ∙ solved (dot K (take k d) (take k u)) (get_or u k 0) (get_or d k 0) (scalar-at (suc k) k d hd (omega arith)) some (entry-below k u (hu j w low)) (sum u (e j w low)))))
 
   -- the difference of two vectors is 0 where both are
@@ -149,7 +149,7 @@ module _ (K : Ops) (h : IsField K) where
       ∙ ap₂ K.add eu (negative-at K i v (omega (arith, vector-size K n v hv)) ev) ∙ h.add_neg 0
 
   combinations-same : (m n : ℕ) (vs : List (List ℕ)) (c d : List ℕ) → Matrix K m n vs → length vs ≡ m → Vector K m c → Vector K m d
-      → combination K n c vs ≡ combination K n d vs → ((i : ℕ) → i < m → IsEarlier K n vs i → get_or c i 0 ≡ 0) → ((i : ℕ) → i < m → IsEarlier K n vs i → get_or d i 0 ≡ 0) → c ≡ d
+      → combination K n c vs ≡ combination K n d vs → ((i : ℕ) → i < m → IsDependent K n vs i → get_or c i 0 ≡ 0) → ((i : ℕ) → i < m → IsDependent K n vs i → get_or d i 0 ≡ 0) → c ≡ d
   combinations-same m n vs c d hv size hc hd same lc ld =
       let minus_d : Vector K m (negative K d) = negative-vector K h m d hd in
       same-by-difference K h m c d hc hd
@@ -172,7 +172,7 @@ module _ (K : Ops) (h : IsField K) where
       (All-cons (AllScalars K) v columns hv (λ j w l. (hc j w l).scalars)) (plus-vector K h n p (negative K q) hp minus_q)
       (All-cons P v columns (on v (sp.one ∙ sym sq.one)) (λ j w l. on (get_or columns j w) (sp.zero j w l ∙ sym (sq.zero j w l))))
       (λ i by l given.
-      let earlier : IsEarlierCoordinate K columns v i =
+      let earlier : IsDependentCoordinate K columns v i =
       record { by = by; of_columns = All-tail (λ u. dot K by (take i u) ≡ get_or u i 0) v columns given; of_v = All-head (λ u. dot K by (take i u) ≡ get_or u i 0) v columns given } in
       difference-at n i p q hp hq l (sp.leading i (omega arith) earlier) (sq.leading i (omega arith) earlier)))
 

@@ -2,7 +2,7 @@
 -- A law is named by its left side, the outermost word first.
 use Rattle.std.proofs.Common.{◌≡◌, ℕ, zero, suc, ◌+◌, ◌<◌, List, [], ◌∷◌, ◌++◌, map, length, refl, sym, ap, ap₂, ◌∙◌, zero-add, suc-add, append_assoc, arith}
 use Rattle.dense_blocks.specs.Field.{Ops, IsField}
-use Rattle.dense_blocks.specs.Vectors.{zeros, plus, negative, scaled, dot, combination}
+use Rattle.dense_blocks.specs.Vectors.{zeros, plus, negative, multiple, dot, combination}
 use Rattle.dense_blocks.proofs.ScalarLaws.{zero_below, one_below, zero_add, neg_add, neg_zero, neg_neg, neg_of_sum, add_cross, mul_zero, zero_mul, one_mul, add_mul, neg_mul, mul_neg, mul_left_comm}
 use Rattle.dense_blocks.proofs.Shapes.{Vector, Matrix}
 
@@ -28,9 +28,9 @@ plus-append K [] (b ∷ v) u' v' e = absurd (omega arith)
 plus-append K (a ∷ u) [] u' v' e = absurd (omega arith)
 plus-append K (a ∷ u) (b ∷ v) u' v' e = ap (λ t. K.add a b ∷ t) (plus-append K u v u' v' (omega arith))
 
-pub scaled-append : (K : Ops) (k : ℕ) (u v : List ℕ) → scaled K k (u ++ v) ≡ scaled K k u ++ scaled K k v
-scaled-append K k [] v = refl
-scaled-append K k (a ∷ u) v = ap (λ t. K.mul k a ∷ t) (scaled-append K k u v)
+pub multiple-append : (K : Ops) (k : ℕ) (u v : List ℕ) → multiple K k (u ++ v) ≡ multiple K k u ++ multiple K k v
+multiple-append K k [] v = refl
+multiple-append K k (a ∷ u) v = ap (λ t. K.mul k a ∷ t) (multiple-append K k u v)
 
 pub negative-append : (K : Ops) (u v : List ℕ) → negative K (u ++ v) ≡ negative K u ++ negative K v
 negative-append K [] v = refl
@@ -67,18 +67,18 @@ module _ (K : Ops) (F : IsField K) where
   negative-vector (suc n) [] h = absurd h
   negative-vector (suc n) (a ∷ v) h = (F.neg_below a, negative-vector n v h.1)
 
-  pub scaled-vector : (n k : ℕ) (v : List ℕ) → Vector K n v → Vector K n (scaled K k v)
-  scaled-vector zero k [] h = tt
-  scaled-vector zero k (a ∷ v) h = absurd h
-  scaled-vector (suc n) k [] h = absurd h
-  scaled-vector (suc n) k (a ∷ v) h = (F.mul_below k a, scaled-vector n k v h.1)
+  pub multiple-vector : (n k : ℕ) (v : List ℕ) → Vector K n v → Vector K n (multiple K k v)
+  multiple-vector zero k [] h = tt
+  multiple-vector zero k (a ∷ v) h = absurd h
+  multiple-vector (suc n) k [] h = absurd h
+  multiple-vector (suc n) k (a ∷ v) h = (F.mul_below k a, multiple-vector n k v h.1)
 
   pub combination-vector : (m n : ℕ) (cs : List ℕ) (vs : List (List ℕ)) → Matrix K m n vs → Vector K n (combination K n cs vs)
   combination-vector m n [] vs h = zeros-vector n
   combination-vector m n (c ∷ cs) [] h = zeros-vector n
   combination-vector zero n (c ∷ cs) (v ∷ vs) h = absurd h
   combination-vector (suc m) n (c ∷ cs) (v ∷ vs) h =
-      plus-vector n (scaled K c v) (combination K n cs vs) (scaled-vector n c v h.0) (combination-vector m n cs vs h.1)
+      plus-vector n (multiple K c v) (combination K n cs vs) (multiple-vector n c v h.0) (combination-vector m n cs vs h.1)
 
   -- the commutative group of vectors
   pub plus-assoc : (u v w : List ℕ) → plus K (plus K u v) w ≡ plus K u (plus K v w)
@@ -159,45 +159,45 @@ module _ (K : Ops) (F : IsField K) where
       ∙ ap (λ t. plus K t (negative K v)) e
 
   -- scaling
-  pub scaled-plus : (k : ℕ) (u v : List ℕ) → scaled K k (plus K u v) ≡ plus K (scaled K k u) (scaled K k v)
-  scaled-plus k [] v = refl
-  scaled-plus k (a ∷ u) [] = refl
-  scaled-plus k (a ∷ u) (b ∷ v) = ap₂ ◌∷◌ (F.mul_add k a b) (scaled-plus k u v)
+  pub multiple-plus : (k : ℕ) (u v : List ℕ) → multiple K k (plus K u v) ≡ plus K (multiple K k u) (multiple K k v)
+  multiple-plus k [] v = refl
+  multiple-plus k (a ∷ u) [] = refl
+  multiple-plus k (a ∷ u) (b ∷ v) = ap₂ ◌∷◌ (F.mul_add k a b) (multiple-plus k u v)
 
-  pub scaled-add : (j k : ℕ) (v : List ℕ) → scaled K (K.add j k) v ≡ plus K (scaled K j v) (scaled K k v)
-  scaled-add j k [] = refl
-  scaled-add j k (a ∷ v) = ap₂ ◌∷◌ (add_mul K F j k a) (scaled-add j k v)
+  pub multiple-add : (j k : ℕ) (v : List ℕ) → multiple K (K.add j k) v ≡ plus K (multiple K j v) (multiple K k v)
+  multiple-add j k [] = refl
+  multiple-add j k (a ∷ v) = ap₂ ◌∷◌ (add_mul K F j k a) (multiple-add j k v)
 
-  pub scaled-mul : (j k : ℕ) (v : List ℕ) → scaled K (K.mul j k) v ≡ scaled K j (scaled K k v)
-  scaled-mul j k [] = refl
-  scaled-mul j k (a ∷ v) = ap₂ ◌∷◌ (F.mul_assoc j k a) (scaled-mul j k v)
+  pub multiple-mul : (j k : ℕ) (v : List ℕ) → multiple K (K.mul j k) v ≡ multiple K j (multiple K k v)
+  multiple-mul j k [] = refl
+  multiple-mul j k (a ∷ v) = ap₂ ◌∷◌ (F.mul_assoc j k a) (multiple-mul j k v)
 
-  pub scaled-neg : (k : ℕ) (v : List ℕ) → scaled K (K.neg k) v ≡ negative K (scaled K k v)
-  scaled-neg k [] = refl
-  scaled-neg k (a ∷ v) = ap₂ ◌∷◌ (neg_mul K F k a) (scaled-neg k v)
+  pub multiple-neg : (k : ℕ) (v : List ℕ) → multiple K (K.neg k) v ≡ negative K (multiple K k v)
+  multiple-neg k [] = refl
+  multiple-neg k (a ∷ v) = ap₂ ◌∷◌ (neg_mul K F k a) (multiple-neg k v)
 
-  pub scaled-negative : (k : ℕ) (v : List ℕ) → scaled K k (negative K v) ≡ negative K (scaled K k v)
-  scaled-negative k [] = refl
-  scaled-negative k (a ∷ v) = ap₂ ◌∷◌ (mul_neg K F k a) (scaled-negative k v)
+  pub multiple-negative : (k : ℕ) (v : List ℕ) → multiple K k (negative K v) ≡ negative K (multiple K k v)
+  multiple-negative k [] = refl
+  multiple-negative k (a ∷ v) = ap₂ ◌∷◌ (mul_neg K F k a) (multiple-negative k v)
 
-  pub scaled-zeros : (k n : ℕ) → scaled K k (zeros n) ≡ zeros n
-  scaled-zeros k zero = refl
-  scaled-zeros k (suc n) = ap₂ ◌∷◌ (mul_zero K F k) (scaled-zeros k n)
+  pub multiple-zeros : (k n : ℕ) → multiple K k (zeros n) ≡ zeros n
+  multiple-zeros k zero = refl
+  multiple-zeros k (suc n) = ap₂ ◌∷◌ (mul_zero K F k) (multiple-zeros k n)
 
-  pub scaled-zero : (n : ℕ) (v : List ℕ) → Vector K n v → scaled K 0 v ≡ zeros n
-  scaled-zero zero [] h = refl
-  scaled-zero zero (a ∷ v) h = absurd h
-  scaled-zero (suc n) [] h = absurd h
-  scaled-zero (suc n) (a ∷ v) h = ap₂ ◌∷◌ (zero_mul K F a) (scaled-zero n v h.1)
+  pub multiple-zero : (n : ℕ) (v : List ℕ) → Vector K n v → multiple K 0 v ≡ zeros n
+  multiple-zero zero [] h = refl
+  multiple-zero zero (a ∷ v) h = absurd h
+  multiple-zero (suc n) [] h = absurd h
+  multiple-zero (suc n) (a ∷ v) h = ap₂ ◌∷◌ (zero_mul K F a) (multiple-zero n v h.1)
 
-  pub scaled-one : (n : ℕ) (v : List ℕ) → Vector K n v → scaled K 1 v ≡ v
-  scaled-one zero [] h = refl
-  scaled-one zero (a ∷ v) h = absurd h
-  scaled-one (suc n) [] h = absurd h
-  scaled-one (suc n) (a ∷ v) h = ap₂ ◌∷◌ (one_mul K F a h.0) (scaled-one n v h.1)
+  pub multiple-one : (n : ℕ) (v : List ℕ) → Vector K n v → multiple K 1 v ≡ v
+  multiple-one zero [] h = refl
+  multiple-one zero (a ∷ v) h = absurd h
+  multiple-one (suc n) [] h = absurd h
+  multiple-one (suc n) (a ∷ v) h = ap₂ ◌∷◌ (one_mul K F a h.0) (multiple-one n v h.1)
 
-  pub scaled-neg_one : (n : ℕ) (v : List ℕ) → Vector K n v → scaled K (K.neg 1) v ≡ negative K v
-  scaled-neg_one n v h = scaled-neg 1 v ∙ ap (negative K) (scaled-one n v h)
+  pub multiple-neg_one : (n : ℕ) (v : List ℕ) → Vector K n v → multiple K (K.neg 1) v ≡ negative K v
+  multiple-neg_one n v h = multiple-neg 1 v ∙ ap (negative K) (multiple-one n v h)
 
   -- the product of two vectors is linear in each
   pub dot-below : (u v : List ℕ) → dot K u v < K.order
@@ -226,14 +226,14 @@ module _ (K : Ops) (F : IsField K) where
   plus-dot n u v r hu hv =
       dot-comm (plus K u v) r ∙ dot-plus n r u v hu hv ∙ ap₂ K.add (dot-comm r u) (dot-comm r v)
 
-  pub dot-scaled : (k : ℕ) (u v : List ℕ) → dot K u (scaled K k v) ≡ K.mul k (dot K u v)
-  dot-scaled k [] v = sym (mul_zero K F k)
-  dot-scaled k (a ∷ u) [] = sym (mul_zero K F k)
-  dot-scaled k (a ∷ u) (b ∷ v) =
-      ap₂ K.add (mul_left_comm K F a k b) (dot-scaled k u v) ∙ sym (F.mul_add k (K.mul a b) (dot K u v))
+  pub dot-multiple : (k : ℕ) (u v : List ℕ) → dot K u (multiple K k v) ≡ K.mul k (dot K u v)
+  dot-multiple k [] v = sym (mul_zero K F k)
+  dot-multiple k (a ∷ u) [] = sym (mul_zero K F k)
+  dot-multiple k (a ∷ u) (b ∷ v) =
+      ap₂ K.add (mul_left_comm K F a k b) (dot-multiple k u v) ∙ sym (F.mul_add k (K.mul a b) (dot K u v))
 
-  pub scaled-dot : (k : ℕ) (u v : List ℕ) → dot K (scaled K k u) v ≡ K.mul k (dot K u v)
-  scaled-dot k u v = dot-comm (scaled K k u) v ∙ dot-scaled k v u ∙ ap (K.mul k) (dot-comm v u)
+  pub multiple-dot : (k : ℕ) (u v : List ℕ) → dot K (multiple K k u) v ≡ K.mul k (dot K u v)
+  multiple-dot k u v = dot-comm (multiple K k u) v ∙ dot-multiple k v u ∙ ap (K.mul k) (dot-comm v u)
 
   pub dot-negative : (u v : List ℕ) → dot K u (negative K v) ≡ K.neg (dot K u v)
   dot-negative [] v = sym (neg_zero K F)
@@ -286,27 +286,27 @@ module _ (K : Ops) (F : IsField K) where
   combination-plus (suc m) n (c ∷ cs) [] vs hc hd = absurd hd
   combination-plus (suc m) n (c ∷ cs) (d ∷ ds) [] hc hd = sym (zeros-plus-zeros n)
   combination-plus (suc m) n (c ∷ cs) (d ∷ ds) (v ∷ vs) hc hd =
-      ap₂ (plus K) (scaled-add c d v) (combination-plus m n cs ds vs hc.1 hd.1)
-      ∙ plus-cross (scaled K c v) (scaled K d v) (combination K n cs vs) (combination K n ds vs)
+      ap₂ (plus K) (multiple-add c d v) (combination-plus m n cs ds vs hc.1 hd.1)
+      ∙ plus-cross (multiple K c v) (multiple K d v) (combination K n cs vs) (combination K n ds vs)
 
-  pub combination-scaled : (n k : ℕ) (cs : List ℕ) (vs : List (List ℕ)) → combination K n (scaled K k cs) vs ≡ scaled K k (combination K n cs vs)
-  combination-scaled n k [] vs = sym (scaled-zeros k n)
-  combination-scaled n k (c ∷ cs) [] = sym (scaled-zeros k n)
-  combination-scaled n k (c ∷ cs) (v ∷ vs) =
-      ap₂ (plus K) (scaled-mul k c v) (combination-scaled n k cs vs) ∙ sym (scaled-plus k (scaled K c v) (combination K n cs vs))
+  pub combination-multiple : (n k : ℕ) (cs : List ℕ) (vs : List (List ℕ)) → combination K n (multiple K k cs) vs ≡ multiple K k (combination K n cs vs)
+  combination-multiple n k [] vs = sym (multiple-zeros k n)
+  combination-multiple n k (c ∷ cs) [] = sym (multiple-zeros k n)
+  combination-multiple n k (c ∷ cs) (v ∷ vs) =
+      ap₂ (plus K) (multiple-mul k c v) (combination-multiple n k cs vs) ∙ sym (multiple-plus k (multiple K c v) (combination K n cs vs))
 
   pub combination-negative : (n : ℕ) (cs : List ℕ) (vs : List (List ℕ)) → combination K n (negative K cs) vs ≡ negative K (combination K n cs vs)
   combination-negative n [] vs = sym (negative-zeros n)
   combination-negative n (c ∷ cs) [] = sym (negative-zeros n)
   combination-negative n (c ∷ cs) (v ∷ vs) =
-      ap₂ (plus K) (scaled-neg c v) (combination-negative n cs vs) ∙ sym (negative-of-plus (scaled K c v) (combination K n cs vs))
+      ap₂ (plus K) (multiple-neg c v) (combination-negative n cs vs) ∙ sym (negative-of-plus (multiple K c v) (combination K n cs vs))
 
   pub combination-zeros : (k m n : ℕ) (vs : List (List ℕ)) → Matrix K m n vs → combination K n (zeros k) vs ≡ zeros n
   combination-zeros zero m n vs h = refl
   combination-zeros (suc k) m n [] h = refl
   combination-zeros (suc k) zero n (v ∷ vs) h = absurd h
   combination-zeros (suc k) (suc m) n (v ∷ vs) h =
-      ap₂ (plus K) (scaled-zero n v h.0) (combination-zeros k m n vs h.1) ∙ zeros-plus-zeros n
+      ap₂ (plus K) (multiple-zero n v h.0) (combination-zeros k m n vs h.1) ∙ zeros-plus-zeros n
 
   -- the combination of vectors that follow one another
   pub combination-append : (m n : ℕ) (cs ds : List ℕ) (vs ws : List (List ℕ)) → length cs ≡ length vs → Matrix K m n ws
@@ -315,14 +315,14 @@ module _ (K : Ops) (F : IsField K) where
   combination-append m n [] ds (v ∷ vs) ws e h = absurd (omega arith)
   combination-append m n (c ∷ cs) ds [] ws e h = absurd (omega arith)
   combination-append m n (c ∷ cs) ds (v ∷ vs) ws e h =
-      ap (plus K (scaled K c v)) (combination-append m n cs ds vs ws (omega arith) h)
-      ∙ sym (plus-assoc (scaled K c v) (combination K n cs vs) (combination K n ds ws))
+      ap (plus K (multiple K c v)) (combination-append m n cs ds vs ws (omega arith) h)
+      ∙ sym (plus-assoc (multiple K c v) (combination K n cs vs) (combination K n ds ws))
 
-  pub combination-one : (n c : ℕ) (v : List ℕ) → Vector K n v → combination K n (c ∷ []) (v ∷ []) ≡ scaled K c v
-  combination-one n c v h = plus-zeros n (scaled K c v) (scaled-vector n c v h)
+  pub combination-one : (n c : ℕ) (v : List ℕ) → Vector K n v → combination K n (c ∷ []) (v ∷ []) ≡ multiple K c v
+  combination-one n c v h = plus-zeros n (multiple K c v) (multiple-vector n c v h)
 
   pub combination-push : (n : ℕ) (cs : List ℕ) (vs : List (List ℕ)) (c : ℕ) (v : List ℕ) → length cs ≡ length vs → Vector K n v
-      → combination K n (cs ++ c ∷ []) (vs ++ v ∷ []) ≡ plus K (combination K n cs vs) (scaled K c v)
+      → combination K n (cs ++ c ∷ []) (vs ++ v ∷ []) ≡ plus K (combination K n cs vs) (multiple K c v)
   combination-push n cs vs c v e h =
       combination-append 1 n cs (c ∷ []) vs (v ∷ []) e (h, tt) ∙ ap (plus K (combination K n cs vs)) (combination-one n c v h)
 
@@ -333,8 +333,8 @@ module _ (K : Ops) (F : IsField K) where
   combination-combination l m n (c ∷ cs) [] vs hd hv = combination-zeros m m n vs hv
   combination-combination zero m n (c ∷ cs) (d ∷ ds) vs hd hv = absurd hd
   combination-combination (suc l) m n (c ∷ cs) (d ∷ ds) vs hd hv =
-      combination-plus m n (scaled K c d) (combination K m cs ds) vs (scaled-vector m c d hd.0) (combination-vector l m cs ds hd.1)
-      ∙ ap₂ (plus K) (combination-scaled n c d vs) (combination-combination l m n cs ds vs hd.1 hv)
+      combination-plus m n (multiple K c d) (combination K m cs ds) vs (multiple-vector m c d hd.0) (combination-vector l m cs ds hd.1)
+      ∙ ap₂ (plus K) (combination-multiple n c d vs) (combination-combination l m n cs ds vs hd.1 hv)
 
   -- the functional of a combination: the combination of the functionals
   pub combination-dot : (m n : ℕ) (cs : List ℕ) (vs : List (List ℕ)) (w : List ℕ) → Matrix K m n vs
@@ -343,8 +343,8 @@ module _ (K : Ops) (F : IsField K) where
   combination-dot m n (c ∷ cs) [] w h = zeros-dot n w
   combination-dot zero n (c ∷ cs) (v ∷ vs) w h = absurd h
   combination-dot (suc m) n (c ∷ cs) (v ∷ vs) w h =
-      plus-dot n (scaled K c v) (combination K n cs vs) w (scaled-vector n c v h.0) (combination-vector m n cs vs h.1)
-      ∙ ap₂ K.add (scaled-dot c v w) (combination-dot m n cs vs w h.1)
+      plus-dot n (multiple K c v) (combination K n cs vs) w (multiple-vector n c v h.0) (combination-vector m n cs vs h.1)
+      ∙ ap₂ K.add (multiple-dot c v w) (combination-dot m n cs vs w h.1)
 
   pub dot-combination : (m n : ℕ) (w cs : List ℕ) (vs : List (List ℕ)) → Matrix K m n vs
       → dot K w (combination K n cs vs) ≡ dot K cs (map (dot K w) vs)
@@ -352,8 +352,8 @@ module _ (K : Ops) (F : IsField K) where
   dot-combination m n w (c ∷ cs) [] h = dot-zeros n w
   dot-combination zero n w (c ∷ cs) (v ∷ vs) h = absurd h
   dot-combination (suc m) n w (c ∷ cs) (v ∷ vs) h =
-      dot-plus n w (scaled K c v) (combination K n cs vs) (scaled-vector n c v h.0) (combination-vector m n cs vs h.1)
-      ∙ ap₂ K.add (dot-scaled c w v) (dot-combination m n w cs vs h.1)
+      dot-plus n w (multiple K c v) (combination K n cs vs) (multiple-vector n c v h.0) (combination-vector m n cs vs h.1)
+      ∙ ap₂ K.add (dot-multiple c w v) (dot-combination m n w cs vs h.1)
 
   -- coefficients 0, .., 0, 1, 0, .., 0 pick a member
   pub combination-unit : (l m n : ℕ) (vs ws : List (List ℕ)) (v : List ℕ) → Matrix K l n vs → Vector K n v → Matrix K m n ws
@@ -361,7 +361,7 @@ module _ (K : Ops) (F : IsField K) where
   combination-unit l m n vs ws v hs hv hw =
       combination-append (suc m) n (zeros (length vs)) (1 ∷ zeros m) vs (v ∷ ws) (zeros-size (length vs)) (hv, hw)
       ∙ ap₂ (plus K) (combination-zeros (length vs) l n vs hs)
-      (ap₂ (plus K) (scaled-one n v hv) (combination-zeros m m n ws hw) ∙ plus-zeros n v hv)
+      (ap₂ (plus K) (multiple-one n v hv) (combination-zeros m m n ws hw) ∙ plus-zeros n v hv)
       ∙ zeros-plus n v hv
 
 pub ruleset pushing = (zeros-pushed)

@@ -1,17 +1,17 @@
 -- Columns brought to those of the identity, one by one.
 use Rattle.std.specs.Prelude.{◌≡◌, ◌≢◌, ℕ, zero, suc, ◌+◌, ◌-◌, ◌*◌, ◌<◌, Bool, true, false, List, [], ◌∷◌, ◌++◌, map, take, drop, All, slice_index}
 use Rattle.dense_blocks.specs.Field.{Ops}
-use Rattle.dense_blocks.specs.Vectors.{IsVector, zeros, plus, scaled, dot}
+use Rattle.dense_blocks.specs.Vectors.{IsVector, zeros, plus, multiple, dot}
 use Rattle.dense_blocks.specs.Matrices.{IsMatrix}
 
 -- the row less as many times the pivot as the row's entry in the column says
-abbrev pub without : Ops → ℕ → List ℕ → List ℕ → List ℕ
-without K column pivot row = plus K row (scaled K (K.neg (slice_index row column)) pivot)
+abbrev pub row_remainder : Ops → ℕ → List ℕ → List ℕ → List ℕ
+row_remainder K column pivot row = plus K row (multiple K (K.neg (slice_index row column)) pivot)
 
 -- each row is 0 on x
-abbrev pub Kills : Ops → List (List ℕ) → List ℕ → Type 0
-Kills K [] x = Unit {0}
-Kills K (row ∷ rows) x = (dot K row x ≡ 0) × Kills K rows x
+abbrev pub Annihilate : Ops → List (List ℕ) → List ℕ → Type 0
+Annihilate K [] x = Unit {0}
+Annihilate K (row ∷ rows) x = (dot K row x ≡ 0) × Annihilate K rows x
 
 -- the unit vector of n coordinates with its 1 at i; zero where i is no place of it
 abbrev pub unit : ℕ → ℕ → List ℕ
@@ -25,27 +25,27 @@ StartUnits n i [] = Unit {0}
 StartUnits n i (row ∷ rows) = (take n row ≡ unit n i) × StartUnits n (suc i) rows
 
 -- n rows of 2 n entries that kill the same vectors as those of before, and whose first columns are those of the identity
-pub record Cleared (K : Ops) (n columns : ℕ) (before now : List (List ℕ)) : Type 0 where
+pub record HasUnitColumns (K : Ops) (n columns : ℕ) (before now : List (List ℕ)) : Type 0 where
   pub matrix : IsMatrix K n (2 * n) now
-  pub there : (x : List ℕ) → Kills K before x → Kills K now x
-  pub back : (x : List ℕ) → Kills K now x → Kills K before x
+  pub there : (x : List ℕ) → Annihilate K before x → Annihilate K now x
+  pub back : (x : List ℕ) → Annihilate K now x → Annihilate K before x
   pub units : StartUnits columns 0 now
 
 -- the next column has only zeros from the diagonal on
-pub record Stuck (K : Ops) (n column : ℕ) (before now : List (List ℕ)) : Type 0 where
+pub record HasNoPivot (K : Ops) (n column : ℕ) (before now : List (List ℕ)) : Type 0 where
   pub inside : column < n
-  pub so_far : Cleared K n column before now
+  pub so_far : HasUnitColumns K n column before now
   pub zero : All (λ row. slice_index row column ≡ 0) (drop column now)
 
 -- one more column is cleared, or there are only zeros from the diagonal on
-abbrev pub Clears : Ops → ℕ → ℕ → List (List ℕ) → List (List ℕ) → Bool → Type 0
-Clears K n column old new true = (before : List (List ℕ)) → Cleared K n column before old → Cleared K n (column + 1) before new
-Clears K n column old new false = (new ≡ old) × All (λ row. slice_index row column ≡ 0) (drop column old)
+abbrev pub ClearsColumn : Ops → ℕ → ℕ → List (List ℕ) → List (List ℕ) → Bool → Type 0
+ClearsColumn K n column old new true = (before : List (List ℕ)) → HasUnitColumns K n column before old → HasUnitColumns K n (column + 1) before new
+ClearsColumn K n column old new false = (new ≡ old) × All (λ row. slice_index row column ≡ 0) (drop column old)
 
 -- where the rows below are 0 the row is what it was; its entry in the column is not 0
 pub record IsRaised (K : Ops) (column width : ℕ) (below : List (List ℕ)) (old new : List ℕ) : Type 0 where
   pub vector : IsVector K width new
-  pub same : (x : List ℕ) → Kills K below x → dot K new x ≡ dot K old x
+  pub same : (x : List ℕ) → Annihilate K below x → dot K new x ≡ dot K old x
   pub start : StartUnits column column (old ∷ below) → take column new ≡ zeros column
   pub not_zero : slice_index new column ≢ 0
 

@@ -1,12 +1,12 @@
 -- Elimination: vectors reduced by pivots.
 use Rattle.std.specs.Prelude.{◌≡◌, ◌≢◌, ℕ, ◌<◌, List, [], ◌∷◌, length, map, take, All, slice_index, slice_index_or}
 use Rattle.dense_blocks.specs.Field.{Ops}
-use Rattle.dense_blocks.specs.Vectors.{IsVector, zeros, plus, scaled, dot}
-use Rattle.dense_blocks.specs.Solving.{IsEarlier}
+use Rattle.dense_blocks.specs.Vectors.{IsVector, zeros, plus, multiple, dot}
+use Rattle.dense_blocks.specs.Solving.{IsDependent}
 use Rattle.dense_blocks.specs.declared.solving.Pivot.{Pivot}
 
 -- a pivot that reduces vectors of n coordinates; its place is the first where its row is not 0
-pub record Fits (K : Ops) (n : ℕ) (p : Pivot) : Type 0 where
+pub record IsPivot (K : Ops) (n : ℕ) (p : Pivot) : Type 0 where
   pub place : p.place < n
   pub row : IsVector K n p.row.items
   pub first : take p.place p.row.items ≡ zeros p.place
@@ -19,22 +19,22 @@ abbrev pub rows : List Pivot → List (List ℕ)
 rows ps = map (λ p. p.row.items) ps
 
 -- how many times its row a pivot takes off u
-abbrev pub part : Ops → Pivot → List ℕ → ℕ
-part K p u = K.mul (slice_index u p.place) p.inverse
+abbrev pub pivot_multiple : Ops → Pivot → List ℕ → ℕ
+pivot_multiple K p u = K.mul (slice_index u p.place) p.inverse
 
 -- u without that
-abbrev pub cleared : Ops → Pivot → List ℕ → List ℕ
-cleared K p u = plus K u (scaled K (K.neg (part K p u)) p.row.items)
+abbrev pub pivot_remainder : Ops → Pivot → List ℕ → List ℕ
+pivot_remainder K p u = plus K u (multiple K (K.neg (pivot_multiple K p u)) p.row.items)
 
 -- u reduced by each pivot in turn
 unfoldable pub reduced : Ops → List Pivot → List ℕ → List ℕ
 reduced K [] u = u
-reduced K (p ∷ ps) u = reduced K ps (cleared K p u)
+reduced K (p ∷ ps) u = reduced K ps (pivot_remainder K p u)
 
 -- how many times its row each pivot takes off in turn
 unfoldable pub parts : Ops → List Pivot → List ℕ → List ℕ
 parts K [] u = []
-parts K (p ∷ ps) u = part K p u ∷ parts K ps (cleared K p u)
+parts K (p ∷ ps) u = pivot_multiple K p u ∷ parts K ps (pivot_remainder K p u)
 
 -- the pivot is one of the vectors, reduced by the pivots before it
 pub record ComesFrom (K : Ops) (vectors : List (List ℕ)) (before : List Pivot) (p : Pivot) : Type 0 where
@@ -44,9 +44,9 @@ pub record ComesFrom (K : Ops) (vectors : List (List ℕ)) (before : List Pivot)
 
 -- pivots that come from the vectors which earlier ones do not give, and reduce the first so many vectors to zero
 pub record Eliminates (K : Ops) (n : ℕ) (vectors : List (List ℕ)) (count : ℕ) (ps : List Pivot) : Type 0 where
-  pub fit : All (Fits K n) ps
+  pub fit : All (IsPivot K n) ps
   pub come_from : (k : ℕ) (d : Pivot) → k < length ps → ComesFrom K vectors (take k ps) (slice_index_or ps k d)
-  pub not_earlier : (k : ℕ) (d : Pivot) → k < length ps → IsEarlier K n vectors (slice_index_or ps k d).source → ⊥
+  pub not_earlier : (k : ℕ) (d : Pivot) → k < length ps → IsDependent K n vectors (slice_index_or ps k d).source → ⊥
   pub zero : (j : ℕ) → j < count → reduced K ps (slice_index_or vectors j []) ≡ zeros n
 
 -- the functional p gives k times one coordinate of each vector once that is reduced; other coordinates it reads only at places of pivots

@@ -2,7 +2,7 @@
 use Rattle.std.specs.Prelude.{◌≡◌, ◌≢◌, ℕ, List}
 use Rattle.dense_blocks.specs.Field.{Ops}
 use Rattle.dense_blocks.specs.Vectors.{AllScalars, IsVector, zeros}
-use Rattle.dense_blocks.specs.Matrices.{applied, IsInverse}
+use Rattle.dense_blocks.specs.Matrices.{image_of, IsInverse}
 use Rattle.dense_blocks.specs.Blocks.{matrix_of}
 use Rattle.dense_blocks.specs.declared.block.Block.{Block}
 use Rattle.dense_blocks.specs.declared.inverse.Inverse.{Inverse}
@@ -19,7 +19,7 @@ pub record IsInverseBlock (K : Ops) (a b : Block) : Type 0 where
 pub record InKernel (K : Ops) (n : ℕ) (A : List (List ℕ)) (v : List ℕ) : Type 0 where
   pub vector : IsVector K n v
   pub not_zero : v ≢ zeros n
-  pub zero : applied K A v ≡ zeros n
+  pub zero : image_of K A v ≡ zeros n
 
 -- the inverse of a square block; where there is none, a vector in the kernel
 abbrev pub Inverts : Ops → Block → Inverse → Type 0

@@ -14,8 +14,8 @@ cut zero n entries = []
 cut (suc m) n entries = take n entries ∷ cut m n (drop n entries)
 
 -- A v: the product of each row with v
-abbrev pub applied : Ops → List (List ℕ) → List ℕ → List ℕ
-applied K A v = map (λ row. dot K row v) A
+abbrev pub image_of : Ops → List (List ℕ) → List ℕ → List ℕ
+image_of K A v = map (λ row. dot K row v) A
 
 -- A B, for a B of n columns: its rows are the combinations of the rows of B by the rows of A
 abbrev pub product : Ops → ℕ → List (List ℕ) → List (List ℕ) → List (List ℕ)

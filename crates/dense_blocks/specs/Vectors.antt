@@ -27,8 +27,8 @@ abbrev pub negative : Ops → List ℕ → List ℕ
 negative K v = map K.neg v
 
 -- k v
-abbrev pub scaled : Ops → ℕ → List ℕ → List ℕ
-scaled K k v = map (K.mul k) v
+abbrev pub multiple : Ops → ℕ → List ℕ → List ℕ
+multiple K k v = map (K.mul k) v
 
 -- the sum of the products of coordinates: the functional u at the vector v
 abbrev pub dot : Ops → List ℕ → List ℕ → ℕ
@@ -40,4 +40,4 @@ dot K (a ∷ u) (b ∷ v) = K.add (K.mul a b) (dot K u v)
 abbrev pub combination : Ops → ℕ → List ℕ → List (List ℕ) → List ℕ
 combination K n [] vs = zeros n
 combination K n (c ∷ cs) [] = zeros n
-combination K n (c ∷ cs) (v ∷ vs) = plus K (scaled K c v) (combination K n cs vs)
+combination K n (c ∷ cs) (v ∷ vs) = plus K (multiple K c v) (combination K n cs vs)

@@ -1,7 +1,7 @@
 ghost use Rattle.std.specs.Prelude.{[], ◌≡◌, ◌≢◌, ◌+◌, ◌*◌, ◌<◌, ◌≤◌, length, map, All, IfSome, IfNone, MatchOption, slice_index, slice_index_or};
 ghost use Rattle.dense_blocks.specs.Vectors.{AllScalars};
 ghost use Rattle.dense_blocks.specs.Matrices.{cut};
-ghost use Rattle.dense_blocks.specs.Clearing.{Cleared, Clears, Raises, Stuck, without};
+ghost use Rattle.dense_blocks.specs.Clearing.{HasUnitColumns, ClearsColumn, Raises, HasNoPivot, row_remainder};
 
 use crate::rows::{add_scaled, scale};
 use crate::scalars::Scalars;
@@ -13,8 +13,8 @@ pub(crate) fn eliminate<F: Scalars>(f: &F, size: usize, rows: &mut [u8]) -> Opti
     requires full { length rows.old ≡ size * (2 * size) }
     requires scalars { AllScalars (F.ops f.now) rows.old }
     ensures { MatchOption result
-        (Cleared (F.ops f.now) size size (cut size (2 * size) rows.old) (cut size (2 * size) rows.new))
-        (λ j. Stuck (F.ops f.now) size j (cut size (2 * size) rows.old) (cut size (2 * size) rows.new)) }
+        (HasUnitColumns (F.ops f.now) size size (cut size (2 * size) rows.old) (cut size (2 * size) rows.new))
+        (λ j. HasNoPivot (F.ops f.now) size j (cut size (2 * size) rows.old) (cut size (2 * size) rows.new)) }
 {
     for column in 0..size {
         if !clear_column(f, size, column, rows) {
@@ -30,7 +30,7 @@ fn clear_column<F: Scalars>(f: &F, size: usize, column: usize, rows: &mut [u8]) 
     requires column { column < size }
     requires full { length rows.old ≡ size * (2 * size) }
     requires scalars { AllScalars (F.ops f.now) rows.old }
-    ensures { Clears (F.ops f.now) size column (cut size (2 * size) rows.old) (cut size (2 * size) rows.new) result }
+    ensures { ClearsColumn (F.ops f.now) size column (cut size (2 * size) rows.old) (cut size (2 * size) rows.new) result }
 {
     let width = 2 * size;
     let later = size - column - 1;
@@ -92,7 +92,7 @@ fn clear_rows<F: Scalars>(f: &F, column: usize, count: usize, pivot: &[u8], rows
     requires pivot_scalars { AllScalars (F.ops f.now) pivot.now }
     requires row_scalars { AllScalars (F.ops f.now) rows.old }
     ensures { cut count (length pivot.now) rows.new
-        ≡ map (without (F.ops f.now) column pivot.now) (cut count (length pivot.now) rows.old) }
+        ≡ map (row_remainder (F.ops f.now) column pivot.now) (cut count (length pivot.now) rows.old) }
 {
     let width = pivot.len();
     for i in 0..count {

@@ -1,6 +1,6 @@
 ghost use Rattle.std.specs.Prelude.{◌≡◌, length, IfOk};
 ghost use Rattle.dense_blocks.specs.Vectors.{AllScalars};
-ghost use Rattle.dense_blocks.specs.Matrices.{applied, product, matrix_sum, matrix_negative};
+ghost use Rattle.dense_blocks.specs.Matrices.{image_of, product, matrix_sum, matrix_negative};
 ghost use Rattle.dense_blocks.specs.Blocks.{matrix_of, IsBlock};
 
 use crate::block::Block;
@@ -81,7 +81,7 @@ pub fn apply<F: Scalars>(alloc: Global, f: &F, a: &Block, v: &[u8]) -> Result<Ve
     requires size { length v.now ≡ a.now.cols }
     requires a_scalars { AllScalars (F.ops f.now) a.now.entries }
     requires v_scalars { AllScalars (F.ops f.now) v.now }
-    ensures image { IfOk result (λ w. w.items ≡ applied (F.ops f.now) (matrix_of a.now) v.now) }
+    ensures image { IfOk result (λ w. w.items ≡ image_of (F.ops f.now) (matrix_of a.now) v.now) }
     ensures scalars { IfOk result (λ w. AllScalars (F.ops f.now) w.items) }
 {
     let mut image = Vec::with_capacity(alloc, a.rows as usize)?;

@@ -1,5 +1,5 @@
 ghost use Rattle.std.specs.Prelude.{◌≡◌, ◌≢◌, ◌<◌, length, take, IfOk, IfSome, IfNone, slice_index, vec_len};
-ghost use Rattle.dense_blocks.specs.Vectors.{AllScalars, zeros, plus, scaled, dot};
+ghost use Rattle.dense_blocks.specs.Vectors.{AllScalars, zeros, plus, multiple, dot};
 
 use crate::scalars::Scalars;
 use std::alloc::{AllocError as NoMemory, Global};
@@ -18,7 +18,7 @@ pub fn add_scaled<F: Scalars>(f: &F, target: &mut [u8], k: u8, row: &[u8])
     requires scalar { k < (F.ops f.now).order }
     requires target_scalars { AllScalars (F.ops f.now) target.old }
     requires row_scalars { AllScalars (F.ops f.now) row.now }
-    ensures sum { target.new ≡ plus (F.ops f.now) target.old (scaled (F.ops f.now) k row.now) }
+    ensures sum { target.new ≡ plus (F.ops f.now) target.old (multiple (F.ops f.now) k row.now) }
     ensures scalars { AllScalars (F.ops f.now) target.new }
 {
     if k == 0 {
@@ -33,7 +33,7 @@ pub fn add_scaled<F: Scalars>(f: &F, target: &mut [u8], k: u8, row: &[u8])
 pub fn scale<F: Scalars>(f: &F, target: &mut [u8], k: u8)
     requires scalar { k < (F.ops f.now).order }
     requires target_scalars { AllScalars (F.ops f.now) target.old }
-    ensures product { target.new ≡ scaled (F.ops f.now) k target.old }
+    ensures product { target.new ≡ multiple (F.ops f.now) k target.old }
     ensures scalars { AllScalars (F.ops f.now) target.new }
 {
     for entry in target.iter_mut() {

@@ -1,8 +1,8 @@
 ghost use Rattle.std.specs.Prelude.{◌≡◌, ◌≢◌, ◌+◌, ◌<◌, length, All, IfOk, OnOk, slice_index};
 ghost use Rattle.dense_blocks.specs.Vectors.{AllScalars, IsVector, combination};
 ghost use Rattle.dense_blocks.specs.Matrices.{IsMatrix};
-ghost use Rattle.dense_blocks.specs.Solving.{Combines, Leads, Solves, lists};
-ghost use Rattle.dense_blocks.specs.Elimination.{Eliminates, Fits, PullsBack, parts, reduced, rows};
+ghost use Rattle.dense_blocks.specs.Solving.{Combines, IsLeading, Solves, lists};
+ghost use Rattle.dense_blocks.specs.Elimination.{Eliminates, IsPivot, PullsBack, parts, reduced, rows};
 
 use crate::rows::{add_scaled, dot_product, first_nonzero, zeros};
 use crate::scalars::Scalars;
@@ -116,7 +116,7 @@ impl Elimination {
 
     /// The vector, reduced by each pivot in turn.
     fn reduce<F: Scalars>(&self, alloc: Global, f: &F, vector: &[u8]) -> Result<Reduced, NoMemory>
-        requires fit { All (Fits (F.ops f.now) self.now.size) self.now.pivots.items }
+        requires fit { All (IsPivot (F.ops f.now) self.now.size) self.now.pivots.items }
         requires vector { IsVector (F.ops f.now) self.now.size vector.now }
         ensures vector { IfOk result (λ r. IsVector (F.ops f.now) self.now.size r.row.items) }
         ensures row { IfOk result (λ r. r.row.items ≡ reduced (F.ops f.now) self.now.pivots.items vector.now) }
@@ -146,7 +146,7 @@ impl Elimination {
         ensures scalars { IfOk result (λ c. IsVector (F.ops f.now) (length columns.now) c.items) }
         ensures same { IfOk result (λ c. combination (F.ops f.now) self.now.size c.items (lists columns.now)
             ≡ combination (F.ops f.now) self.now.size parts.items (rows self.now.pivots.items)) }
-        ensures leading { IfOk result (λ c. Leads (F.ops f.now) self.now.size (lists columns.now) c.items) }
+        ensures leading { IfOk result (λ c. IsLeading (F.ops f.now) self.now.size (lists columns.now) c.items) }
     {
         let mut coefficients = zeros(alloc, columns.len())?;
         while let Some(last) = parts.pop() {
@@ -165,7 +165,7 @@ impl Elimination {
         place: usize,
         k: u8,
     ) -> Result<Vec<u8>, NoMemory>
-        requires fit { All (Fits (F.ops f.now) self.now.size) self.now.pivots.items }
+        requires fit { All (IsPivot (F.ops f.now) self.now.size) self.now.pivots.items }
         requires place { place < self.now.size }
         requires scalar { k < (F.ops f.now).order }
         ensures { IfOk result (λ p. PullsBack (F.ops f.now) self.now.size self.now.pivots.items place k p.items) }

@@ -6,7 +6,7 @@ use Rattle.std.proofs.lemmas.List.Folds.{list_any_at}
 use Rattle.std.proofs.lemmas.List.FromFn.{length-range_with_len, get_or-range_with_len}
 use Rattle.std.proofs.lemmas.Map.Views.{any-filter_same}
 use Rattle.cell_complex.specs.declared.face.Face.{Face}
-use Rattle.cell_complex.specs.Complexes.{CellComplex, IsComplex, joins, cells, is_face, faces_of, cofaces_of}
+use Rattle.cell_complex.specs.Complexes.{CellComplex, IsComplex, joins, all_cells, is_face, faces_of, cofaces_of}
 use Rattle.cell_complex.proofs.Callers.{incident_from_face, list_any-cofaces_of}
 use Rattle.edit_versions.specs.Edits.{is_end}
 use Rattle.edit_versions.specs.Works.{is_from, is_to}
@@ -51,14 +51,14 @@ any-second a x (q ∷ qs) =
 -- s is in the list below t just where s is a face of t
 list_any-faces_of : (c : CellComplex) → IsComplex c → (s t : ℕ) → list_any (nat_eq s) (faces_of c t) ≡ is_face c s t
 list_any-faces_of c h s t =
-    any-filter_same (nat_eq s) (λ q. is_face c q t) (is_face c s t) (λ k e. ap (λ q. is_face c q t) (sym (eqb-true s k e))) (cells c)
+    any-filter_same (nat_eq s) (λ q. is_face c q t) (is_face c s t) (λ k e. ap (λ q. is_face c q t) (sym (eqb-true s k e))) (all_cells c)
     ∙ by (is_face c s t) refl
   where
-    by : (b : Bool) → is_face c s t ≡ b → (b && list_any (nat_eq s) (cells c)) ≡ b
+    by : (b : Bool) → is_face c s t ≡ b → (b && list_any (nat_eq s) (all_cells c)) ≡ b
     by true e =
         let i = incident_from_face c h s t e in
-        list_any_at (nat_eq s) (cells c) s 0 (omega (arith, i.s_is_cell, length-range_with_len 0 (length c.dims)))
-        (eq-eqb s (get_or (cells c) s 0) (omega (arith, get_or-range_with_len 0 (length c.dims) s 0 i.s_is_cell)))
+        list_any_at (nat_eq s) (all_cells c) s 0 (omega (arith, i.s_is_cell, length-range_with_len 0 (length c.dims)))
+        (eq-eqb s (get_or (all_cells c) s 0) (omega (arith, get_or-range_with_len 0 (length c.dims) s 0 i.s_is_cell)))
     by false e = refl
 
 -- a face of the complex is one

@@ -16,8 +16,8 @@ use Rattle.sheaf_words.specs.declared.editing.Set.{Set}
 use Rattle.sheaf_words.specs.declared.editing.Set.TheVariants.{Stalk, Restrict}
 use Rattle.sheaf_words.specs.declared.editing.Cause.TheVariants.{NoCell, NoFace, StalkLimit, Shape, Entry}
 use Rattle.edit_versions.specs.declared.work.Work.{Work}
-use Rattle.edit_versions.specs.Edits.{WrittenMatrix, written, SheafLists, replaced, is_end, zero_at, matrix_between, with_set, fault_of, unless, sets_made}
-use Rattle.edit_versions.specs.Works.{IsWork, Takes}
+use Rattle.edit_versions.specs.Edits.{WrittenMatrix, written_matrix, SheafLists, with_replacements, is_end, zero_at, matrix_between, with_set, set_fault, unless, sets_made}
+use Rattle.edit_versions.specs.Works.{IsWork, TakesSet}
 
 -- a matrix of scalars that goes from the stalk of the face's cell s to that of its cell t
 pub record FitsFace (K : Ops) (stalks : List ℕ) (f : Face) (m : WrittenMatrix) : Type 0 where
@@ -26,7 +26,7 @@ pub record FitsFace (K : Ops) (stalks : List ℕ) (f : Face) (m : WrittenMatrix)
   pub scalars : AllScalars K m.entries
 
 to-zip : (K : Ops) (stalks : List ℕ) (fs : List Face) (bs : List Block) → HaveShapes stalks fs bs → All (λ b. AllScalars K b.entries) bs
-    → AllZip (FitsFace K stalks) fs (map written bs)
+    → AllZip (FitsFace K stalks) fs (map written_matrix bs)
 to-zip K stalks [] [] shapes scalars = _
 to-zip K stalks [] (b ∷ bs) shapes scalars = absurd (omega (arith, shapes.count))
 to-zip K stalks (f ∷ fs) [] shapes scalars = absurd (omega (arith, shapes.count))
@@ -45,7 +45,7 @@ to-zip K stalks (f ∷ fs) (b ∷ bs) shapes scalars = (
       (All-tail (λ b. AllScalars K b.entries) b bs scalars),
 )
 
-from-zip : (K : Ops) (stalks : List ℕ) (fs : List Face) (bs : List Block) → AllZip (FitsFace K stalks) fs (map written bs) → AreBlocks K fs stalks bs
+from-zip : (K : Ops) (stalks : List ℕ) (fs : List Face) (bs : List Block) → AllZip (FitsFace K stalks) fs (map written_matrix bs) → AreBlocks K fs stalks bs
 from-zip K stalks [] [] h = record {
   shapes = record { count = refl; cols = λ p f b e g. cc; rows = λ p f b e g. cc };
   scalars = All-nil (λ b. AllScalars K b.entries);
@@ -68,7 +68,7 @@ from-zip K stalks (f ∷ fs) (b ∷ bs) h =
     rows rest (suc p) g d e i = rest.rows p g d e i
 
 zip-replaced : (R S : Face → WrittenMatrix → Type 0) (p : Face → Bool) (make : Face → WrittenMatrix) (fs : List Face) (ms : List WrittenMatrix)
-    → ((f : Face) (m : WrittenMatrix) → R f m → S f (cond (p f) (make f) m)) → AllZip R fs ms → AllZip S fs (replaced p make fs ms)
+    → ((f : Face) (m : WrittenMatrix) → R f m → S f (cond (p f) (make f) m)) → AllZip R fs ms → AllZip S fs (with_replacements p make fs ms)
 zip-replaced R S p make [] [] step h = h
 zip-replaced R S p make [] (m ∷ ms) step h = absurd h
 zip-replaced R S p make (f ∷ fs) [] step h = absurd h
@@ -84,7 +84,7 @@ all-below K (x ∷ xs) e =
     let p = and_parts (nat_lt x K.order) (list_all (λ a. nat_lt a K.order) xs) e in
     All-cons (λ a. a < K.order) x xs (ltb-true x K.order p.0) (all-below K xs p.1)
 
-stalk-low : (K : Ops) (c : CellComplex) (stalks : List ℕ) (i s n : ℕ) → fault_of K c stalks i (Stalk s n) ≡ None → n ≤ 16
+stalk-low : (K : Ops) (c : CellComplex) (stalks : List ℕ) (i s n : ℕ) → set_fault K c stalks i (Stalk s n) ≡ None → n ≤ 16
 stalk-low K c stalks i s n e = ltb-false 16 n (by (nat_lt s (length c.dims)) (nat_lt 16 n) e)
   where
     by : (a b : Bool) → cond (not a) (Some (NoCell i)) (cond b (Some (StalkLimit i)) None) ≡ None → b ≡ false
@@ -92,7 +92,7 @@ stalk-low K c stalks i s n e = ltb-false 16 n (by (nat_lt s (length c.dims)) (na
     by true false h = refl
     by false b h = cc
 
-entries-scalars : (K : Ops) (c : CellComplex) (stalks : List ℕ) (i s t : ℕ) (entries : List ℕ) → fault_of K c stalks i (Restrict s t entries) ≡ None → AllScalars K entries
+entries-scalars : (K : Ops) (c : CellComplex) (stalks : List ℕ) (i s t : ℕ) (entries : List ℕ) → set_fault K c stalks i (Restrict s t entries) ≡ None → AllScalars K entries
 entries-scalars K c stalks i s t entries e =
     all-below K entries
     (by (is_face c s t) (nat_eq (length entries) (slice_index stalks t * slice_index stalks s)) (list_all (λ a. nat_lt a K.order) entries) e)
@@ -127,11 +127,11 @@ fits-after-restriction K stalks s t entries scalars f m h = by (joins s t f) ref
     by false e = h
 
 -- a set without a fault keeps all that the work promises
-pub takes-work : (K : Ops) → 0 < K.order → (c : CellComplex) (i : ℕ) (x : Set) (old new : Work) → fault_of K c old.stalks.items i x ≡ None
-    → Takes c x old new → IsWork K c old → IsWork K c new
+pub takes-work : (K : Ops) → 0 < K.order → (c : CellComplex) (i : ℕ) (x : Set) (old new : Work) → set_fault K c old.stalks.items i x ≡ None
+    → TakesSet c x old new → IsWork K c old → IsWork K c new
 takes-work K l c i (Stalk s n) old new e h w =
     let stalks : new.stalks.items ≡ set old.stalks.items s n = ap (λ lists. lists.stalks) h.lists in
-    let fits = zip-replaced (FitsFace K old.stalks.items) (FitsFace K (set old.stalks.items s n)) (is_end s) (zero_at (set old.stalks.items s n)) c.faces (map written old.blocks.items)
+    let fits = zip-replaced (FitsFace K old.stalks.items) (FitsFace K (set old.stalks.items s n)) (is_end s) (zero_at (set old.stalks.items s n)) c.faces (map written_matrix old.blocks.items)
     (fits-after-stalk K l old.stalks.items s n) (to-zip K old.stalks.items c.faces old.blocks.items w.blocks_fit.shapes w.blocks_fit.scalars) in
     record {
       one_each = ap length stalks ∙ length-set old.stalks.items s n ∙ w.one_each;
@@ -142,7 +142,7 @@ takes-work K l c i (Stalk s n) old new e h w =
     }
 takes-work K l c i (Restrict s t entries) old new e h w =
     let stalks : new.stalks.items ≡ old.stalks.items = ap (λ lists. lists.stalks) h.lists in
-    let fits = zip-replaced (FitsFace K old.stalks.items) (FitsFace K old.stalks.items) (joins s t) (λ f. matrix_between old.stalks.items s t entries) c.faces (map written old.blocks.items)
+    let fits = zip-replaced (FitsFace K old.stalks.items) (FitsFace K old.stalks.items) (joins s t) (λ f. matrix_between old.stalks.items s t entries) c.faces (map written_matrix old.blocks.items)
     (fits-after-restriction K old.stalks.items s t entries (entries-scalars K c old.stalks.items i s t entries e))
     (to-zip K old.stalks.items c.faces old.blocks.items w.blocks_fit.shapes w.blocks_fit.scalars) in
     record {
@@ -154,7 +154,7 @@ takes-work K l c i (Restrict s t entries) old new e h w =
     }
 
 -- one set without a fault, and the rest
-pub sets_made-next : (K : Ops) (c : CellComplex) (l next : SheafLists) (i : ℕ) (x : Set) (xs : List Set) → fault_of K c l.stalks i x ≡ None
+pub sets_made-next : (K : Ops) (c : CellComplex) (l next : SheafLists) (i : ℕ) (x : Set) (xs : List Set) → set_fault K c l.stalks i x ≡ None
     → next ≡ with_set c l x → sets_made K c next (i + 1) xs ≡ sets_made K c l i (x ∷ xs)
 sets_made-next K c l next i x xs e h =
     ap (λ lists. sets_made K c lists (i + 1) xs) h ∙ ap (λ o. unless o (sets_made K c (with_set c l x) (i + 1) xs)) (sym e)

@@ -15,7 +15,7 @@ use Rattle.dense_blocks.proofs.Cutting.{flat-zero_matrix}
 use Rattle.dense_blocks.proofs.BlockLaws.{is_block-entries}
 use Rattle.square_check.proofs.Placed.{IsPlaced}
 use Rattle.edit_versions.specs.declared.work.Work.{Work}
-use Rattle.edit_versions.specs.Edits.{WrittenMatrix, written, replaced, zero_between, zero_at}
+use Rattle.edit_versions.specs.Edits.{WrittenMatrix, written_matrix, with_replacements, zero_between, zero_at}
 use Rattle.edit_versions.specs.Works.{IsTouched, Puts, is_from, is_to}
 use Rattle.edit_versions.proofs.Replacing.{replaced-one, replaced-none, replaced-same, replaced-agree, replaced-replaced, length-replaced}
 
@@ -38,13 +38,13 @@ slice_get-set (y ∷ xs) (suc i) (suc k) x h = slice_get-set xs i k x (by (nat_e
 -- one block put at the place of a face
 pub put-one : (c : CellComplex) → IsComplex c → (s t : ℕ) (p : IsPlaced c s t) (b : Block) (old new : Work) → length old.blocks.items ≡ length c.faces
     → new.stalks.items ≡ old.stalks.items → new.blocks.items ≡ set old.blocks.items p.at b → new.touched.items ≡ old.touched.items ++ p.at ∷ []
-    → Puts c (joins s t) (λ f. written b) old new
+    → Puts c (joins s t) (λ f. written_matrix b) old new
 put-one c h s t p b old new count stalks blocks touched =
     record {
       stalks = stalks;
       matrices =
-          ap (map written) blocks ∙ map-set written old.blocks.items p.at b
-          ∙ replaced-one s t (written b) c.faces (map written old.blocks.items) p.at p.face (sym (length-map old.blocks.items written ∙ count)) h.apart p.found
+          ap (map written_matrix) blocks ∙ map-set written_matrix old.blocks.items p.at b
+          ∙ replaced-one s t (written_matrix b) c.faces (map written_matrix old.blocks.items) p.at p.face (sym (length-map old.blocks.items written_matrix ∙ count)) h.apart p.found
           (and_from (nat_eq s p.face.s) (nat_eq t p.face.t) (eq-eqb s p.face.s (sym p.from)) (eq-eqb t p.face.t (sym p.to)));
       touched = λ start w. record {
         faces = subst (All (λ q. q < length c.faces)) (sym touched) (All-push (λ q. q < length c.faces) old.touched.items p.at w.faces p.inside);
@@ -67,16 +67,16 @@ put-one c h s t p b old new count stalks blocks touched =
 pub puts-count : (c : CellComplex) (p : Face → Bool) (make : Face → WrittenMatrix) (old new : Work) → length old.blocks.items ≡ length c.faces
     → Puts c p make old new → length new.blocks.items ≡ length c.faces
 puts-count c p make old new count h =
-    sym (length-map new.blocks.items written) ∙ ap length h.matrices
-    ∙ length-replaced p make c.faces (map written old.blocks.items) (sym (length-map old.blocks.items written ∙ count))
-    ∙ length-map old.blocks.items written ∙ count
+    sym (length-map new.blocks.items written_matrix) ∙ ap length h.matrices
+    ∙ length-replaced p make c.faces (map written_matrix old.blocks.items) (sym (length-map old.blocks.items written_matrix ∙ count))
+    ∙ length-map old.blocks.items written_matrix ∙ count
 
 pub puts-none : (c : CellComplex) (p : Face → Bool) (make : Face → WrittenMatrix) (w : Work) → length w.blocks.items ≡ length c.faces
     → ((f : Face) → p f ≡ false) → Puts c p make w w
 puts-none c p make w count none =
     record {
       stalks = refl;
-      matrices = sym (replaced-none p make c.faces (map written w.blocks.items) (sym (length-map w.blocks.items written ∙ count)) (λ k d l. none (get_or c.faces k d)));
+      matrices = sym (replaced-none p make c.faces (map written_matrix w.blocks.items) (sym (length-map w.blocks.items written_matrix ∙ count)) (λ k d l. none (get_or c.faces k d)));
       touched = λ start h. h;
     }
 
@@ -85,7 +85,7 @@ pub puts-same : (c : CellComplex) (p q : Face → Bool) (make : Face → Written
 puts-same c p q make old new same h =
     record {
       stalks = h.stalks;
-      matrices = h.matrices ∙ replaced-same p q make c.faces (map written old.blocks.items) same;
+      matrices = h.matrices ∙ replaced-same p q make c.faces (map written_matrix old.blocks.items) same;
       touched = h.touched;
     }
 
@@ -94,7 +94,7 @@ pub puts-agree : (c : CellComplex) (p : Face → Bool) (make again : Face → Wr
 puts-agree c p make again old new agree h =
     record {
       stalks = h.stalks;
-      matrices = h.matrices ∙ replaced-agree p make again c.faces (map written old.blocks.items) agree;
+      matrices = h.matrices ∙ replaced-agree p make again c.faces (map written_matrix old.blocks.items) agree;
       touched = h.touched;
     }
 
@@ -105,8 +105,8 @@ puts-puts c p q make old mid new g h =
     record {
       stalks = h.stalks ∙ g.stalks;
       matrices =
-          h.matrices ∙ ap (replaced q make c.faces) g.matrices
-          ∙ replaced-replaced p q make make c.faces (map written old.blocks.items) (λ f e. refl);
+          h.matrices ∙ ap (with_replacements q make c.faces) g.matrices
+          ∙ replaced-replaced p q make make c.faces (map written_matrix old.blocks.items) (λ f e. refl);
       touched = λ start w. h.touched start (g.touched start w);
     }
 
@@ -133,12 +133,12 @@ zero-joined stalks s t f e =
     ap₂ (zero_between stalks) (eqb-true s f.s p.0) (eqb-true t f.t p.1)
 
 pub same-written : (b : Block) (m n : ℕ) (entries : List ℕ) → b.rows ≡ m → b.cols ≡ n → b.entries ≡ entries
-    → written b ≡ record { rows = m; cols = n; entries = entries }
+    → written_matrix b ≡ record { rows = m; cols = n; entries = entries }
 same-written b m n entries e f g = ap₂ (λ r k. record { rows = r; cols = k; entries = b.entries }) e f ∙ ap (λ xs. record { rows = m; cols = n; entries = xs }) g
 
 -- the zero block is the zero matrix
 pub zero-written : (stalks : List ℕ) (s t m n : ℕ) (b : Block) → IsBlock b m n (zero_matrix m n) → m ≡ slice_index stalks t → n ≡ slice_index stalks s
-    → written b ≡ zero_between stalks s t
+    → written_matrix b ≡ zero_between stalks s t
 zero-written stalks s t m n b h e f =
     same-written b (slice_index stalks t) (slice_index stalks s) (zeros (slice_index stalks t * slice_index stalks s))
     (h.rows_are ∙ e) (h.columns_are ∙ f)

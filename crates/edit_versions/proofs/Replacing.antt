@@ -1,4 +1,4 @@
--- Matrices replaced at the faces that pass a test.
+-- Matrices with_replacements at the faces that pass a test.
 use Rattle.std.proofs.Common.{◌≡◌, ℕ, zero, suc, ◌+◌, ◌<◌, Bool, true, false, cond, not, ◌||◌, nat_eq, nat_lt, List, [], ◌∷◌, length, get_or, set, slice_get, None, Some, is_some, All, AllPairs, refl, sym, ap, ap₂, ◌∙◌, arith}
 use Rattle.std.specs.List.{list_any, prefix_len}
 use Rattle.std.proofs.lemmas.Bool.{both_ways, lt-ltb, ltb-true, ltb_from_iff, and_parts, eqb-true}
@@ -7,7 +7,7 @@ use Rattle.std.proofs.lemmas.Option.{slice_get_within, get_or_from_slice_get}
 use Rattle.cell_complex.specs.declared.face.Face.{Face}
 use Rattle.cell_complex.specs.Complexes.{CellComplex, joins, AreApart, is_face, place}
 use Rattle.square_check.proofs.Placed.{some-same}
-use Rattle.edit_versions.specs.Edits.{WrittenMatrix, replaced}
+use Rattle.edit_versions.specs.Edits.{WrittenMatrix, with_replacements}
 
 ltb-suc : (a b : ℕ) → nat_lt (suc a) (suc b) ≡ nat_lt a b
 ltb-suc a b = ltb_from_iff (λ e. let l : suc a < suc b = ltb-true (suc a) (suc b) e in omega arith, λ l. lt-ltb (suc a) (suc b) (omega arith))
@@ -37,15 +37,15 @@ is_some-place c s t =
     ∙ first-any (joins s t) c.faces
 
 pub length-replaced : (p : Face → Bool) (make : Face → WrittenMatrix) (fs : List Face) (ms : List WrittenMatrix) → length fs ≡ length ms
-    → length (replaced p make fs ms) ≡ length ms
+    → length (with_replacements p make fs ms) ≡ length ms
 length-replaced p make [] [] e = refl
 length-replaced p make [] (m ∷ ms) e = absurd (omega arith)
 length-replaced p make (f ∷ fs) [] e = absurd (omega arith)
 length-replaced p make (f ∷ fs) (m ∷ ms) e = ap suc (length-replaced p make fs ms (omega arith))
 
--- where no face passes, nothing is replaced
+-- where no face passes, nothing is with_replacements
 pub replaced-none : (p : Face → Bool) (make : Face → WrittenMatrix) (fs : List Face) (ms : List WrittenMatrix) → length fs ≡ length ms
-    → All (λ f. p f ≡ false) fs → replaced p make fs ms ≡ ms
+    → All (λ f. p f ≡ false) fs → with_replacements p make fs ms ≡ ms
 replaced-none p make [] [] e h = refl
 replaced-none p make [] (m ∷ ms) e h = absurd (omega arith)
 replaced-none p make (f ∷ fs) [] e h = absurd (omega arith)
@@ -55,16 +55,16 @@ replaced-none p make (f ∷ fs) (m ∷ ms) e h =
 
 -- two tests that agree on the faces replace the same
 pub replaced-same : (p q : Face → Bool) (make : Face → WrittenMatrix) (fs : List Face) (ms : List WrittenMatrix) → All (λ f. p f ≡ q f) fs
-    → replaced p make fs ms ≡ replaced q make fs ms
+    → with_replacements p make fs ms ≡ with_replacements q make fs ms
 replaced-same p q make [] ms h = refl
 replaced-same p q make (f ∷ fs) [] h = refl
 replaced-same p q make (f ∷ fs) (m ∷ ms) h =
     ap₂ (λ b rest. cond b (make f) m ∷ rest) (All-head (λ f. p f ≡ q f) f fs h)
     (replaced-same p q make fs ms (All-tail (λ f. p f ≡ q f) f fs h))
 
--- replaced twice: at the faces that pass either test
+-- with_replacements twice: at the faces that pass either test
 pub replaced-replaced : (p q : Face → Bool) (make again : Face → WrittenMatrix) (fs : List Face) (ms : List WrittenMatrix)
-    → ((f : Face) → q f ≡ true → again f ≡ make f) → replaced q again fs (replaced p make fs ms) ≡ replaced (λ f. p f || q f) make fs ms
+    → ((f : Face) → q f ≡ true → again f ≡ make f) → with_replacements q again fs (with_replacements p make fs ms) ≡ with_replacements (λ f. p f || q f) make fs ms
 replaced-replaced p q make again [] ms h = refl
 replaced-replaced p q make again (f ∷ fs) [] h = refl
 replaced-replaced p q make again (f ∷ fs) (m ∷ ms) h =
@@ -84,7 +84,7 @@ apart-from s t g h is away =
 
 -- a matrix put at the place of a face
 pub replaced-one : (s t : ℕ) (x : WrittenMatrix) (fs : List Face) (ms : List WrittenMatrix) (i : ℕ) (f : Face) → length fs ≡ length ms
-    → AllPairs AreApart fs → slice_get fs i ≡ Some f → joins s t f ≡ true → set ms i x ≡ replaced (joins s t) (λ g. x) fs ms
+    → AllPairs AreApart fs → slice_get fs i ≡ Some f → joins s t f ≡ true → set ms i x ≡ with_replacements (joins s t) (λ g. x) fs ms
 replaced-one s t x [] ms i f e apart here is = cc
 replaced-one s t x (g ∷ fs) [] i f e apart here is = absurd (omega arith)
 replaced-one s t x (g ∷ fs) (m ∷ ms) zero f e apart here is =
@@ -107,7 +107,7 @@ replaced-one s t x (g ∷ fs) (m ∷ ms) (suc i) f e apart here is =
 
 -- two makings that agree where the test passes replace the same
 pub replaced-agree : (p : Face → Bool) (make again : Face → WrittenMatrix) (fs : List Face) (ms : List WrittenMatrix)
-    → ((f : Face) → p f ≡ true → make f ≡ again f) → replaced p make fs ms ≡ replaced p again fs ms
+    → ((f : Face) → p f ≡ true → make f ≡ again f) → with_replacements p make fs ms ≡ with_replacements p again fs ms
 replaced-agree p make again [] ms h = refl
 replaced-agree p make again (f ∷ fs) [] h = refl
 replaced-agree p make again (f ∷ fs) (m ∷ ms) h = ap₂ (λ first rest. first ∷ rest) (by (p f) (h f)) (replaced-agree p make again fs ms h)

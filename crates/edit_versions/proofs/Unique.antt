@@ -6,7 +6,7 @@ use Rattle.std.proofs.lemmas.Bool.{cases_order, lt-ltb, eq-eqb}
 use Rattle.dense_blocks.specs.Field.{Ops}
 use Rattle.dense_blocks.specs.declared.block.Block.{Block}
 use Rattle.cell_complex.specs.Complexes.{CellComplex}
-use Rattle.square_check.specs.Answers.{IsFirst, is_before}
+use Rattle.square_check.specs.Answers.{IsFirstFailure, is_before}
 use Rattle.square_check.specs.Squares.{Commutes}
 use Rattle.sheaf_data.specs.Sheaves.{SheafData}
 use Rattle.sheaf_words.specs.declared.editing.Set.{Set}
@@ -16,12 +16,12 @@ use Rattle.sheaf_words.specs.declared.editing.Verdict.{Verdict}
 use Rattle.sheaf_words.specs.declared.editing.Verdict.TheVariants.{Accepted, Refused}
 use Rattle.edit_versions.specs.declared.fault.EditFault.{EditFault}
 use Rattle.edit_versions.specs.declared.fault.EditFault.TheVariants.{Refused as refused, NoMemory}
-use Rattle.edit_versions.specs.Edits.{WrittenMatrix, SheafLists, written, lists_of, sets_made}
+use Rattle.edit_versions.specs.Edits.{WrittenMatrix, SheafLists, written_matrix, sheaf_lists, sets_made}
 use Rattle.edit_versions.specs.Verdicts.{verdict_on_square, IsSquareVerdict, IsListVerdict, IsVerdict}
 use Rattle.edit_versions.specs.Faults.{Tells}
 
 -- a block is known by its shape and its entries
-pub written-injective : (a b : Block) → written a ≡ written b → a ≡ b
+pub written-injective : (a b : Block) → written_matrix a ≡ written_matrix b → a ≡ b
 written-injective a b e = by_rows b.rows (ap (λ m. m.rows) e) b.rows_fit b.full
   where
     by_proofs : (cols_fit : a.cols ≤ 4096) (rows_fit : a.rows ≤ 4096) (full : length a.entries ≡ a.rows * a.cols)
@@ -53,17 +53,17 @@ written-injective a b e = by_rows b.rows (ap (λ m. m.rows) e) b.rows_fit b.full
         → a ≡ record { rows = m; cols = b.cols; entries = b.entries; rows_fit = rows_fit; cols_fit = b.cols_fit; full = full } in
         subst P h (by_cols b.cols (ap (λ m. m.cols) e) b.cols_fit)
 
-pub all-written-injective : (ds bs : List Block) → map written ds ≡ map written bs → ds ≡ bs
+pub all-written-injective : (ds bs : List Block) → map written_matrix ds ≡ map written_matrix bs → ds ≡ bs
 all-written-injective [] [] e = refl
 all-written-injective [] (b ∷ bs) e = cc
 all-written-injective (a ∷ ds) [] e = cc
 all-written-injective (a ∷ ds) (b ∷ bs) e =
     ap₂ (λ x xs. x ∷ xs) (written-injective a b (head e)) (all-written-injective ds bs (tail e))
   where
-    head : (written a ∷ map written ds) ≡ (written b ∷ map written bs) → written a ≡ written b
+    head : (written_matrix a ∷ map written_matrix ds) ≡ (written_matrix b ∷ map written_matrix bs) → written_matrix a ≡ written_matrix b
     head h = cc
 
-    tail : (written a ∷ map written ds) ≡ (written b ∷ map written bs) → map written ds ≡ map written bs
+    tail : (written_matrix a ∷ map written_matrix ds) ≡ (written_matrix b ∷ map written_matrix bs) → map written_matrix ds ≡ map written_matrix bs
     tail h = cc
 
 -- of two pairs one comes first, or they are the same
@@ -96,7 +96,7 @@ pairs-ordered p q =
         (ap₂ (λ a b. a && b) (eq-eqb p.0 q.0 e) (lt-ltb p.1 q.1 l))
 
 -- there is one first pair
-pub first-unique : (P : ℕ → ℕ → Type 0) (count : ℕ) (a b : Option (ℕ × ℕ)) → IsFirst P count a → IsFirst P count b → a ≡ b
+pub first-unique : (P : ℕ → ℕ → Type 0) (count : ℕ) (a b : Option (ℕ × ℕ)) → IsFirstFailure P count a → IsFirstFailure P count b → a ≡ b
 first-unique P count None None h k = refl
 first-unique P count None (Some q) h k = absurd (k.fails (h q.0 q.1))
 first-unique P count (Some p) None h k = absurd (h.fails (k p.0 p.1))
@@ -109,7 +109,7 @@ first-unique P count (Some p) (Some q) h k =
 square-unique : (K : Ops) (c : CellComplex) (ms : List WrittenMatrix) (v w : Verdict) → IsSquareVerdict K c ms v → IsSquareVerdict K c ms w → v ≡ w
 square-unique K c ms v w h k =
     let blocks : h.blocks ≡ k.blocks = all-written-injective h.blocks k.blocks (h.same ∙ sym k.same) in
-    let here : IsFirst (Commutes K c k.blocks) (length c.dims) h.bad = subst (λ bs. IsFirst (Commutes K c bs) (length c.dims) h.bad) blocks h.first in
+    let here : IsFirstFailure (Commutes K c k.blocks) (length c.dims) h.bad = subst (λ bs. IsFirstFailure (Commutes K c bs) (length c.dims) h.bad) blocks h.first in
     h.verdict ∙ ap verdict_on_square (first-unique (Commutes K c k.blocks) (length c.dims) h.bad k.bad here k.first) ∙ sym k.verdict
 
 list-unique : (K : Ops) (c : CellComplex) (v w : Verdict) (l : SheafLists) → IsListVerdict K c v l → IsListVerdict K c w l → v ≡ w
@@ -120,7 +120,7 @@ list-unique K c v w l = by (nat_lt 4096 (sum l.stalks))
     by false h k = square-unique K c l.matrices v w h k
 
 pub verdict-unique : {F : Type 0} (K : Ops) (sheaf : SheafData F) (sets : List Set) (v w : Verdict) → IsVerdict K sheaf sets v → IsVerdict K sheaf sets w → v ≡ w
-verdict-unique K sheaf sets v w = by (sets_made K sheaf.complex (lists_of sheaf.stalks sheaf.blocks) 0 sets)
+verdict-unique K sheaf sets v w = by (sets_made K sheaf.complex (sheaf_lists sheaf.stalks sheaf.blocks) 0 sets)
   where
     by : (r : Result SheafLists Cause) → MatchResult r (IsListVerdict K sheaf.complex v) (λ cause. v ≡ Refused cause)
         → MatchResult r (IsListVerdict K sheaf.complex w) (λ cause. w ≡ Refused cause) → v ≡ w

@@ -11,31 +11,31 @@ use Rattle.sheaf_words.specs.declared.editing.Set.TheVariants.{Stalk, Restrict}
 use Rattle.sheaf_words.specs.declared.editing.Cause.{Cause}
 use Rattle.sheaf_words.specs.declared.editing.Cause.TheVariants.{NoCell, NoFace, StalkLimit, Shape, Entry}
 
--- a matrix, written row after row
+-- a matrix, written_matrix row after row
 pub record WrittenMatrix : Type 0 where
   pub rows : ℕ
   pub cols : ℕ
   pub entries : List ℕ
 
-abbrev pub written : Block → WrittenMatrix
-written b = record { rows = b.rows; cols = b.cols; entries = b.entries }
+abbrev pub written_matrix : Block → WrittenMatrix
+written_matrix b = record { rows = b.rows; cols = b.cols; entries = b.entries }
 
 -- the stalks and the restrictions of a sheaf, in the order of its cells and of its faces
 pub record SheafLists : Type 0 where
   pub stalks : List ℕ
   pub matrices : List WrittenMatrix
 
-abbrev pub lists_of : List ℕ → List Block → SheafLists
-lists_of stalks blocks = record { stalks = stalks; matrices = map written blocks }
+abbrev pub sheaf_lists : List ℕ → List Block → SheafLists
+sheaf_lists stalks blocks = record { stalks = stalks; matrices = map written_matrix blocks }
 
 -- the first of these: a stalk of no cell, a stalk above 16; a restriction of no face, of the wrong number of entries under
 -- these stalks, with an entry that is no scalar
-abbrev pub fault_of : Ops → CellComplex → List ℕ → ℕ → Set → Option Cause
-fault_of K c stalks i (Stalk s n) =
+abbrev pub set_fault : Ops → CellComplex → List ℕ → ℕ → Set → Option Cause
+set_fault K c stalks i (Stalk s n) =
     if not (nat_lt s (length c.dims)) then Some (NoCell i)
     else if nat_lt 16 n then Some (StalkLimit i)
     else None
-fault_of K c stalks i (Restrict s t entries) =
+set_fault K c stalks i (Restrict s t entries) =
     if not (is_face c s t) then Some (NoFace i)
     else if not (length entries == slice_index stalks t * slice_index stalks s) then Some (Shape i)
     else if not (list_all (λ a. nat_lt a K.order) entries) then Some (Entry i)
@@ -54,10 +54,10 @@ abbrev pub zero_at : List ℕ → Face → WrittenMatrix
 zero_at stalks f = zero_between stalks f.s f.t
 
 -- at each face that passes the test the matrix made for it, at each other face the one that was there
-abbrev pub replaced : (Face → Bool) → (Face → WrittenMatrix) → List Face → List WrittenMatrix → List WrittenMatrix
-replaced p make [] ms = []
-replaced p make (f ∷ fs) [] = []
-replaced p make (f ∷ fs) (m ∷ ms) = (if p f then make f else m) ∷ replaced p make fs ms
+abbrev pub with_replacements : (Face → Bool) → (Face → WrittenMatrix) → List Face → List WrittenMatrix → List WrittenMatrix
+with_replacements p make [] ms = []
+with_replacements p make (f ∷ fs) [] = []
+with_replacements p make (f ∷ fs) (m ∷ ms) = (if p f then make f else m) ∷ with_replacements p make fs ms
 
 -- whether the cell is an end of the face
 abbrev pub is_end : ℕ → Face → Bool
@@ -67,13 +67,13 @@ is_end s f = (s == f.s) || (s == f.t)
 abbrev pub with_stalk : CellComplex → SheafLists → ℕ → ℕ → SheafLists
 with_stalk c l s n =
     let stalks = slice_set l.stalks s n in
-    record { stalks = stalks; matrices = replaced (is_end s) (zero_at stalks) c.faces l.matrices }
+    record { stalks = stalks; matrices = with_replacements (is_end s) (zero_at stalks) c.faces l.matrices }
 
 -- what a set makes
 abbrev pub with_set : CellComplex → SheafLists → Set → SheafLists
 with_set c l (Stalk s n) = with_stalk c l s n
 with_set c l (Restrict s t entries) =
-    record l { matrices = replaced (joins s t) (λ f. matrix_between l.stalks s t entries) c.faces l.matrices }
+    record l { matrices = with_replacements (joins s t) (λ f. matrix_between l.stalks s t entries) c.faces l.matrices }
 
 -- a cause, or else what comes of the rest
 abbrev pub unless : Option Cause → Result SheafLists Cause → Result SheafLists Cause
@@ -83,4 +83,4 @@ unless (Some cause) rest = Err cause
 -- what the sets make, taken in order, or the fault of the first that has one; their places are counted from i on
 abbrev pub sets_made : Ops → CellComplex → SheafLists → ℕ → List Set → Result SheafLists Cause
 sets_made K c l i [] = Ok l
-sets_made K c l i (x ∷ xs) = unless (fault_of K c l.stalks i x) (sets_made K c (with_set c l x) (i + 1) xs)
+sets_made K c l i (x ∷ xs) = unless (set_fault K c l.stalks i x) (sets_made K c (with_set c l x) (i + 1) xs)

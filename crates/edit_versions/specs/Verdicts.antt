@@ -3,14 +3,14 @@ use Rattle.std.specs.Prelude.{◌≡◌, ℕ, List, Option, None, Some, Ok, Matc
 use Rattle.cell_complex.specs.Complexes.{CellComplex}
 use Rattle.dense_blocks.specs.Field.{Ops}
 use Rattle.dense_blocks.specs.declared.block.Block.{Block}
-use Rattle.square_check.specs.Answers.{IsFirst}
+use Rattle.square_check.specs.Answers.{IsFirstFailure}
 use Rattle.square_check.specs.Squares.{Commutes}
 use Rattle.sheaf_data.specs.Sheaves.{SheafData}
 use Rattle.sheaf_words.specs.declared.editing.Set.{Set}
 use Rattle.sheaf_words.specs.declared.editing.Cause.TheVariants.{TotalLimit, Square}
 use Rattle.sheaf_words.specs.declared.editing.Verdict.{Verdict}
 use Rattle.sheaf_words.specs.declared.editing.Verdict.TheVariants.{Accepted, Refused}
-use Rattle.edit_versions.specs.Edits.{WrittenMatrix, written, SheafLists, lists_of, sets_made}
+use Rattle.edit_versions.specs.Edits.{WrittenMatrix, written_matrix, SheafLists, sheaf_lists, sets_made}
 
 -- accepted where no square fails, else refused for this one
 abbrev pub verdict_on_square : Option (ℕ × ℕ) → Verdict
@@ -20,9 +20,9 @@ verdict_on_square (Some p) = Refused (Square p.0 p.1)
 -- the verdict on restrictions: the first of all pairs of cells whose square does not commute, if there is one
 pub record IsSquareVerdict (K : Ops) (c : CellComplex) (matrices : List WrittenMatrix) (v : Verdict) : Type 0 where
   pub blocks : List Block
-  pub same : map written blocks ≡ matrices
+  pub same : map written_matrix blocks ≡ matrices
   pub bad : Option (ℕ × ℕ)
-  pub first : IsFirst (Commutes K c blocks) (length c.dims) bad
+  pub first : IsFirstFailure (Commutes K c blocks) (length c.dims) bad
   pub verdict : v ≡ verdict_on_square bad
 
 -- the verdict on what all sets make: too large a total, else that on the restrictions
@@ -32,10 +32,10 @@ IsListVerdict K c v l = MatchBool (nat_lt 4096 (sum l.stalks)) (v ≡ Refused To
 -- the verdict on an edit of a sheaf over the field of K: the first set at fault, else that on what all sets make
 abbrev pub IsVerdict : {F : Type 0} → Ops → SheafData F → List Set → Verdict → Type 0
 IsVerdict K sheaf sets v =
-    MatchResult (sets_made K sheaf.complex (lists_of sheaf.stalks sheaf.blocks) 0 sets) (IsListVerdict K sheaf.complex v) (λ cause. v ≡ Refused cause)
+    MatchResult (sets_made K sheaf.complex (sheaf_lists sheaf.stalks sheaf.blocks) 0 sets) (IsListVerdict K sheaf.complex v) (λ cause. v ≡ Refused cause)
 
 -- the edited sheaf: what all sets make, over the same complex and field
 pub record IsEdited {F : Type 0} (K : Ops) (old : SheafData F) (sets : List Set) (new : SheafData F) : Type 0 where
   pub complex : new.complex ≡ old.complex
   pub field : new.field ≡ old.field
-  pub lists : sets_made K old.complex (lists_of old.stalks old.blocks) 0 sets ≡ Ok (lists_of new.stalks new.blocks)
+  pub lists : sets_made K old.complex (sheaf_lists old.stalks old.blocks) 0 sets ≡ Ok (sheaf_lists new.stalks new.blocks)

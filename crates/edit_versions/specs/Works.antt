@@ -9,11 +9,11 @@ use Rattle.sheaf_data.specs.Sheaves.{AreBlocks}
 use Rattle.sheaf_data.specs.Refusals.{AreSameElsewhere}
 use Rattle.sheaf_words.specs.declared.editing.Set.{Set}
 use Rattle.edit_versions.specs.declared.work.Work.{Work}
-use Rattle.edit_versions.specs.Edits.{WrittenMatrix, SheafLists, written, lists_of, replaced, with_set}
+use Rattle.edit_versions.specs.Edits.{WrittenMatrix, SheafLists, written_matrix, sheaf_lists, with_replacements, with_set}
 
 -- what the work stands for
 abbrev pub work_lists : Work → SheafLists
-work_lists w = lists_of w.stalks.items w.blocks.items
+work_lists w = sheaf_lists w.stalks.items w.blocks.items
 
 -- a stalk of at most 16 for each cell, and a matrix of scalars for each face, from stalk to stalk; nothing is said of the total
 pub record IsWork (K : Ops) (c : CellComplex) (w : Work) : Type 0 where
@@ -29,11 +29,11 @@ pub record IsTouched (c : CellComplex) (start : List Block) (w : Work) : Type 0 
 -- the stalks stay, at each face that passes the test stands the matrix made for it, and what was said of touched faces still holds
 pub record Puts (c : CellComplex) (p : Face → Bool) (make : Face → WrittenMatrix) (old new : Work) : Type 0 where
   pub stalks : new.stalks.items ≡ old.stalks.items
-  pub matrices : map written new.blocks.items ≡ replaced p make c.faces (map written old.blocks.items)
+  pub matrices : map written_matrix new.blocks.items ≡ with_replacements p make c.faces (map written_matrix old.blocks.items)
   pub touched : (start : List Block) → IsTouched c start old → IsTouched c start new
 
 -- the work after one set more
-pub record Takes (c : CellComplex) (x : Set) (old new : Work) : Type 0 where
+pub record TakesSet (c : CellComplex) (x : Set) (old new : Work) : Type 0 where
   pub lists : work_lists new ≡ with_set c (work_lists old) x
   pub touched : (start : List Block) → IsTouched c start old → IsTouched c start new
 

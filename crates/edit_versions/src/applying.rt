@@ -2,7 +2,7 @@ ghost use Rattle.std.specs.Prelude.{◌≡◌, ◌≤◌, ℕ, length, map, sum,
 ghost use Rattle.sheaf_words.specs.declared.editing.Cause.{Cause};
 ghost use Rattle.sheaf_words.specs.declared.editing.Verdict.{Verdict};
 ghost use Rattle.sheaf_words.specs.declared.editing.Verdict.TheVariants.{Accepted, Refused};
-ghost use Rattle.edit_versions.specs.Edits.{written};
+ghost use Rattle.edit_versions.specs.Edits.{written_matrix};
 ghost use Rattle.edit_versions.specs.Faults.{Tells};
 ghost use Rattle.edit_versions.specs.Verdicts.{IsSquareVerdict, IsVerdict, IsEdited};
 ghost use Rattle.edit_versions.specs.Works.{IsWork, IsTouched};
@@ -70,9 +70,9 @@ fn put_work<F: Scalars>(sheaf: &mut Sheaf<F>, work: Work) -> Result<(), EditFaul
     requires work { IsWork (F.ops sheaf.old.field) sheaf.old.complex work }
     requires few { sum work.stalks.items ≤ 4096 }
     requires touched { IsTouched sheaf.old.complex sheaf.old.blocks work }
-    ensures accepted { OnOk result (IsSquareVerdict (F.ops sheaf.old.field) sheaf.old.complex (map written work.blocks.items) Accepted) }
+    ensures accepted { OnOk result (IsSquareVerdict (F.ops sheaf.old.field) sheaf.old.complex (map written_matrix work.blocks.items) Accepted) }
     ensures refused { (cause : Cause) → IsErrOf result (EditFault.Refused cause)
-        → IsSquareVerdict (F.ops sheaf.old.field) sheaf.old.complex (map written work.blocks.items) (Refused cause) }
+        → IsSquareVerdict (F.ops sheaf.old.field) sheaf.old.complex (map written_matrix work.blocks.items) (Refused cause) }
     ensures ok { OnOk result (sheaf.new ≡ record sheaf.old { stalks = work.stalks.items; blocks = work.blocks.items }) }
     ensures err { OnErr result (sheaf.new ≡ sheaf.old) }
 {

@@ -2,7 +2,7 @@ ghost use Rattle.std.specs.Prelude.{◌≡◌, ℕ, ◌<◌, length, nat_lt};
 ghost use Rattle.std.specs.List.{list_all};
 ghost use Rattle.cell_complex.specs.Complexes.{IsComplex, is_face};
 ghost use Rattle.sheaf_words.specs.declared.editing.Set.TheVariants.{Stalk, Restrict};
-ghost use Rattle.edit_versions.specs.Edits.{fault_of};
+ghost use Rattle.edit_versions.specs.Edits.{set_fault};
 
 use cell_complex::Complex;
 use dense_blocks::Scalars;
@@ -21,7 +21,7 @@ pub(crate) fn fault_of<F: Scalars>(
 ) -> Option<Cause>
     requires complex { IsComplex c.now }
     requires one_each { length stalks.now ≡ length c.now.dims }
-    ensures { result ≡ fault_of (F.ops f.now) c.now stalks.now i set.now }
+    ensures { result ≡ set_fault (F.ops f.now) c.now stalks.now i set.now }
 {
     match set {
         Set::Stalk { s, n } => stalk_fault(f, c, stalks, i, *s, *n),
@@ -41,7 +41,7 @@ fn stalk_fault<F: Scalars>(
     n: u32,
 ) -> Option<Cause>
     requires { length stalks.now ≡ length c.now.dims }
-    ensures { result ≡ fault_of (F.ops f.now) c.now stalks.now i (Stalk s n) }
+    ensures { result ≡ set_fault (F.ops f.now) c.now stalks.now i (Stalk s n) }
 {
     if s as usize >= stalks.len() {
         return Some(Cause::NoCell { i });
@@ -64,7 +64,7 @@ fn restriction_fault<F: Scalars>(
 ) -> Option<Cause>
     requires complex { IsComplex c.now }
     requires one_each { length stalks.now ≡ length c.now.dims }
-    ensures { result ≡ fault_of (F.ops f.now) c.now stalks.now i (Restrict s t entries.now) }
+    ensures { result ≡ set_fault (F.ops f.now) c.now stalks.now i (Restrict s t entries.now) }
 {
     if !is_face(c, s, t) {
         return Some(Cause::NoFace { i });

@@ -2,8 +2,8 @@ ghost use Rattle.std.specs.Prelude.{◌≡◌, ◌≤◌, ℕ, List, None, Some,
 ghost use Rattle.cell_complex.specs.Complexes.{IsComplex};
 ghost use Rattle.dense_blocks.specs.declared.block.Block.{Block};
 ghost use Rattle.sheaf_words.specs.declared.editing.Cause.{Cause};
-ghost use Rattle.edit_versions.specs.Edits.{fault_of, sets_made};
-ghost use Rattle.edit_versions.specs.Works.{IsWork, IsTouched, Takes, work_lists};
+ghost use Rattle.edit_versions.specs.Edits.{set_fault, sets_made};
+ghost use Rattle.edit_versions.specs.Works.{IsWork, IsTouched, TakesSet, work_lists};
 
 use crate::fault::EditFault;
 use crate::judging::fault_of;
@@ -51,10 +51,10 @@ fn make_set<F: Scalars>(
 ) -> Result<(), EditFault>
     requires complex { IsComplex c.now }
     requires work { IsWork (F.ops f.now) c.now work.old }
-    ensures judged { OnOk result (fault_of (F.ops f.now) c.now work.old.stalks.items i set.now ≡ None) }
+    ensures judged { OnOk result (set_fault (F.ops f.now) c.now work.old.stalks.items i set.now ≡ None) }
     ensures refused { (cause : Cause) → IsErrOf result (EditFault.Refused cause)
-        → fault_of (F.ops f.now) c.now work.old.stalks.items i set.now ≡ Some cause }
-    ensures made { OnOk result (Takes c.now set.now work.old work.new) }
+        → set_fault (F.ops f.now) c.now work.old.stalks.items i set.now ≡ Some cause }
+    ensures made { OnOk result (TakesSet c.now set.now work.old work.new) }
 {
     if let Some(cause) = fault_of(f, c, &work.stalks, i, set) {
         return Err(EditFault::Refused(cause));

@@ -1,8 +1,8 @@
 ghost use Rattle.std.specs.Prelude.{◌≡◌, ℕ, ◌*◌, ◌<◌, ◌≤◌, List, [], true, length, map, slice_index, slice_set, All, IfOk, OnOk};
 ghost use Rattle.cell_complex.specs.Complexes.{IsComplex, joins, is_face, faces_of, cofaces_of};
 ghost use Rattle.sheaf_words.specs.declared.editing.Set.TheVariants.{Stalk, Restrict};
-ghost use Rattle.edit_versions.specs.Edits.{written, zero_at, is_end};
-ghost use Rattle.edit_versions.specs.Works.{Puts, Takes, is_from, is_to};
+ghost use Rattle.edit_versions.specs.Edits.{written_matrix, zero_at, is_end};
+ghost use Rattle.edit_versions.specs.Works.{Puts, TakesSet, is_from, is_to};
 
 use cell_complex::Complex;
 use dense_blocks::{Block, Listed};
@@ -39,7 +39,7 @@ impl Work {
         requires complex { IsComplex c.now }
         requires face { is_face c.now s t ≡ true }
         requires count { length self.old.blocks.items ≡ length c.now.faces }
-        ensures { OnOk result (Puts c.now (joins s t) (λ f. written block) self.old self.new) }
+        ensures { OnOk result (Puts c.now (joins s t) (λ f. written_matrix block) self.old self.new) }
     {
         let place = c.place(s, t).unwrap();
         self.touched.push(place)?;
@@ -114,7 +114,7 @@ impl Work {
         requires low { n ≤ 16 }
         requires one_each { length self.old.stalks.items ≡ length c.now.dims }
         requires count { length self.old.blocks.items ≡ length c.now.faces }
-        ensures { OnOk result (Takes c.now (Stalk s n) self.old self.new) }
+        ensures { OnOk result (TakesSet c.now (Stalk s n) self.old self.new) }
     {
         self.stalks[s as usize] = n as u8;
         self.clear_at(alloc, c, s)
@@ -135,7 +135,7 @@ impl Work {
         requires count { length self.old.blocks.items ≡ length c.now.faces }
         requires full { length entries.now ≡ slice_index self.old.stalks.items t * slice_index self.old.stalks.items s }
         requires bytes { All (λ a. a < 256) entries.now }
-        ensures { OnOk result (Takes c.now (Restrict s t entries.now) self.old self.new) }
+        ensures { OnOk result (TakesSet c.now (Restrict s t entries.now) self.old self.new) }
     {
         let rows = size_at(&self.stalks, t);
         let cols = size_at(&self.stalks, s);

@@ -4,11 +4,11 @@ use Rattle.std.specs.List.{list_any, filter_map, flat_map}
 use Rattle.std.proofs.lemmas.Bool.{true≢false, cond-false, eq-eqb, eqb-true, and_parts, or_parts, or_cases}
 use Rattle.std.proofs.lemmas.List.Elements.{All-head, filter_passes}
 use Rattle.std.proofs.lemmas.List.Folds.{list_any_more}
-use Rattle.cell_complex.specs.Complexes.{CellComplex, IsComplex, cells, is_face, sign, faces_of, cofaces_of, middles}
+use Rattle.cell_complex.specs.Complexes.{CellComplex, IsComplex, all_cells, is_face, sign, faces_of, cofaces_of, middles}
 use Rattle.cell_complex.proofs.Callers.{AreIncident, incident_from_face, middles_by_cofaces, list_any-cofaces_of}
 use Rattle.incidence_check.specs.declared.incidence.Incidence.{Incidence}
 use Rattle.incidence_check.specs.declared.incidence.Incidence.TheVariants.{EdgeEnds, Signs}
-use Rattle.incidence_check.specs.Incidences.{are_opposite, are_opposite_pair, product, HasOppositeEnds, HasOppositeMiddles, HasRegularIncidences, edge_fault, middles_fault, pair_fault, pair_faults, faults, AnswersFirst}
+use Rattle.incidence_check.specs.Incidences.{are_opposite, are_opposite_pair, sign_product, HasOppositeEnds, HasOppositeMiddles, HasRegularIncidences, edge_fault, middles_fault, pair_fault, pair_faults, faults, AnswersFirst}
 use Rattle.incidence_check.specs.Reach.{reaches}
 use Rattle.incidence_check.proofs.Firsts.{filter_map-none, none_from_filter_map, flat_map-none, none_from_flat_map, none_from_append}
 
@@ -37,12 +37,12 @@ none_from_edge c t h =
     by true pair h = ap (λ b. cond (not b) (Some (EdgeEnds t)) None) (h refl)
     by false pair h = refl
 
--- the cells between two cells
-middles_from_none : (c : CellComplex) (s u : ℕ) (xs : List ℕ) → middles c s u ≡ xs → middles_fault s u (λ t. product c s t u) xs ≡ None
+-- the all_cells between two all_cells
+middles_from_none : (c : CellComplex) (s u : ℕ) (xs : List ℕ) → middles c s u ≡ xs → middles_fault s u (λ t. sign_product c s t u) xs ≡ None
     → (middles c s u ≡ []) ⊎ HasOppositeMiddles c s u
 middles_from_none c s u [] is h = inl is
 middles_from_none c s u (a ∷ []) is h = absurd (cc)
-middles_from_none c s u (a ∷ b ∷ []) is h = inr (record { first = a; second = b; middles = is; opposite = by (are_opposite (product c s a u) (product c s b u)) h })
+middles_from_none c s u (a ∷ b ∷ []) is h = inr (record { first = a; second = b; middles = is; opposite = by (are_opposite (sign_product c s a u) (sign_product c s b u)) h })
   where
     by : (o : Bool) → cond o None (Some (Signs s u)) ≡ None → o ≡ true
     by true h = refl
@@ -51,16 +51,16 @@ middles_from_none c s u (a ∷ b ∷ d ∷ xs) is h = absurd (cc)
 
 none_from_middles : (c : CellComplex) (s u : ℕ) → (middles c s u ≡ []) ⊎ HasOppositeMiddles c s u → pair_fault c s u ≡ None
 none_from_middles c s u h =
-    ⊎_elim (λ (e : middles c s u ≡ []). ap (middles_fault s u (λ t. product c s t u)) e)
+    ⊎_elim (λ (e : middles c s u ≡ []). ap (middles_fault s u (λ t. sign_product c s t u)) e)
     (λ (m : HasOppositeMiddles c s u).
-    ap (middles_fault s u (λ t. product c s t u)) m.middles ∙ ap (λ o. cond o None (Some (Signs s u))) m.opposite) h
+    ap (middles_fault s u (λ t. sign_product c s t u)) m.middles ∙ ap (λ o. cond o None (Some (Signs s u))) m.opposite) h
 
 -- a cell between s and u puts u two dimensions above s
 middle_dims : (c : CellComplex) → IsComplex c → (s u : ℕ) (t : ℕ) (ts : List ℕ) → middles c s u ≡ t ∷ ts → slice_index c.dims u ≡ slice_index c.dims s + 2
 middle_dims c h s u t ts is =
     let passes : (is_face c s t && is_face c t u) ≡ true =
     All-head (λ t. (is_face c s t && is_face c t u) ≡ true) t ts
-    (subst (λ xs. All (λ t. (is_face c s t && is_face c t u) ≡ true) xs) is (filter_passes (λ t. is_face c s t && is_face c t u) (cells c))) in
+    (subst (λ xs. All (λ t. (is_face c s t && is_face c t u) ≡ true) xs) is (filter_passes (λ t. is_face c s t && is_face c t u) (all_cells c))) in
     let p = and_parts (is_face c s t) (is_face c t u) passes in
     let low : AreIncident c.dims s t = incident_from_face c h s t p.0 in
     let high : AreIncident c.dims t u = incident_from_face c h t u p.1 in
@@ -70,7 +70,7 @@ middle_dims c h s u t ts is =
 pub regular_from_none : (c : CellComplex) → faults c ≡ [] → HasRegularIncidences c
 regular_from_none c h =
     let n : ℕ = length c.dims in
-    let parts = none_from_append (filter_map (edge_fault c) (cells c)) (flat_map (pair_faults c) (cells c)) h in
+    let parts = none_from_append (filter_map (edge_fault c) (all_cells c)) (flat_map (pair_faults c) (all_cells c)) h in
     record {
       edges = λ t l one. edge_from_none c t (none_from_filter_map (edge_fault c) 0 n parts.0 t (omega arith) (omega arith)) one;
       squares = λ s u l m two.

@@ -4,7 +4,7 @@ use Rattle.std.specs.List.{filter_map, flat_map}
 use Rattle.std.specs.Option.{option_map, option_and_then}
 use Rattle.cell_complex.specs.declared.face.Sign.{Sign}
 use Rattle.cell_complex.specs.declared.face.Sign.TheVariants.{Plus, Minus}
-use Rattle.cell_complex.specs.Complexes.{CellComplex, cells, sign, faces_of, middles}
+use Rattle.cell_complex.specs.Complexes.{CellComplex, all_cells, sign, faces_of, middles}
 use Rattle.incidence_check.specs.declared.incidence.Incidence.{Incidence}
 use Rattle.incidence_check.specs.declared.incidence.Incidence.TheVariants.{EdgeEnds, Middles, Signs}
 
@@ -19,9 +19,9 @@ times Plus b = b
 times Minus Plus = Minus
 times Minus Minus = Plus
 
--- the product of the signs of s in t and of t in u
-abbrev pub product : CellComplex → ℕ → ℕ → ℕ → Option Sign
-product c s t u = option_and_then (λ a. option_map (times a) (sign c t u)) (sign c s t)
+-- the sign_product of the signs of s in t and of t in u
+abbrev pub sign_product : CellComplex → ℕ → ℕ → ℕ → Option Sign
+sign_product c s t u = option_and_then (λ a. option_map (times a) (sign c t u)) (sign c s t)
 
 -- the cell t has exactly two faces, of opposite sign
 pub record HasOppositeEnds (c : CellComplex) (t : ℕ) : Type 0 where
@@ -30,20 +30,20 @@ pub record HasOppositeEnds (c : CellComplex) (t : ℕ) : Type 0 where
   pub ends : faces_of c t ≡ first ∷ second ∷ []
   pub opposite : IsTrue (are_opposite (sign c first t) (sign c second t))
 
--- between s and u are exactly two cells, with opposite products of signs
+-- between s and u are exactly two all_cells, with opposite products of signs
 pub record HasOppositeMiddles (c : CellComplex) (s u : ℕ) : Type 0 where
   pub first : ℕ
   pub second : ℕ
   pub middles : middles c s u ≡ first ∷ second ∷ []
-  pub opposite : IsTrue (are_opposite (product c s first u) (product c s second u))
+  pub opposite : IsTrue (are_opposite (sign_product c s first u) (sign_product c s second u))
 
--- each edge has two ends of opposite sign; between two cells two dimensions apart are no cells, or two whose signs cancel
+-- each edge has two ends of opposite sign; between two all_cells two dimensions apart are no all_cells, or two whose signs cancel
 pub record HasRegularIncidences (c : CellComplex) : Type 0 where
   pub edges : (t : ℕ) → t < length c.dims → slice_index c.dims t ≡ 1 → HasOppositeEnds c t
   pub squares : (s u : ℕ) → s < length c.dims → u < length c.dims → slice_index c.dims u ≡ slice_index c.dims s + 2
       → (middles c s u ≡ []) ⊎ HasOppositeMiddles c s u
 
--- exactly two cells, with opposite signs
+-- exactly two all_cells, with opposite signs
 abbrev pub are_opposite_pair : (ℕ → Option Sign) → List ℕ → Bool
 are_opposite_pair sign_at (a ∷ b ∷ []) = are_opposite (sign_at a) (sign_at b)
 are_opposite_pair sign_at _ = false
@@ -53,7 +53,7 @@ abbrev pub edge_fault : CellComplex → ℕ → Option Incidence
 edge_fault c t =
     if (slice_index c.dims t == 1) && not (are_opposite_pair (λ s. sign c s t) (faces_of c t)) then Some (EdgeEnds t) else None
 
--- what is wrong with these cells between s and u, with these products of signs
+-- what is wrong with these all_cells between s and u, with these products of signs
 abbrev pub middles_fault : ℕ → ℕ → (ℕ → Option Sign) → List ℕ → Option Incidence
 middles_fault s u product_at [] = None
 middles_fault s u product_at (a ∷ b ∷ []) = if are_opposite (product_at a) (product_at b) then None else Some (Signs s u)
@@ -61,15 +61,15 @@ middles_fault s u product_at ts = Some (Middles s u (length ts))
 
 -- what is wrong between s and u
 abbrev pub pair_fault : CellComplex → ℕ → ℕ → Option Incidence
-pair_fault c s u = middles_fault s u (λ t. product c s t u) (middles c s u)
+pair_fault c s u = middles_fault s u (λ t. sign_product c s t u) (middles c s u)
 
 -- the faults of the pairs of s with each cell, in order
 abbrev pub pair_faults : CellComplex → ℕ → List Incidence
-pair_faults c s = filter_map (pair_fault c s) (cells c)
+pair_faults c s = filter_map (pair_fault c s) (all_cells c)
 
--- all faults: those of the edges in order, then those of the pairs of cells in order
+-- all faults: those of the edges in order, then those of the pairs of all_cells in order
 abbrev pub faults : CellComplex → List Incidence
-faults c = filter_map (edge_fault c) (cells c) ++ flat_map (pair_faults c) (cells c)
+faults c = filter_map (edge_fault c) (all_cells c) ++ flat_map (pair_faults c) (all_cells c)
 
 -- the answer is the first of these, and ok where there are none
 abbrev pub AnswersFirst : List Incidence → Result (Unit {0}) Incidence → Type 0

@@ -1,5 +1,5 @@
 ghost use Rattle.std.specs.Prelude.{◌≡◌};
-ghost use Rattle.incidence_check.specs.Incidences.{are_opposite, product};
+ghost use Rattle.incidence_check.specs.Incidences.{are_opposite, sign_product};
 
 use cell_complex::{Complex, Sign};
 
@@ -15,7 +15,7 @@ pub(crate) fn are_opposite(first: Option<Sign>, second: Option<Sign>) -> bool
 
 /// The product of the signs of `s` in `t` and of `t` in `u`; none where one of them is no face.
 pub(crate) fn product(c: &Complex, s: u32, t: u32, u: u32) -> Option<Sign>
-    ensures { result ≡ product c.now s t u }
+    ensures { result ≡ sign_product c.now s t u }
 {
     let first = c.sign(s, t)?;
     let second = c.sign(t, u)?;

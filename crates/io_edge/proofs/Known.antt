@@ -3,7 +3,7 @@ use Rattle.std.proofs.Common.{◌≡◌, ℕ, ◌-◌, ◌^◌, ◌<◌, ◌≤�
 use Rattle.std.specs.Prelude.{IfSome}
 use Rattle.std.proofs.lemmas.List.{append-nil, length-append}
 use Rattle.std.specs.Io.KnownBytes.{prepend_known, append_known, IsAtEnd}
-use Rattle.io_edge.specs.Bytes.{Gave, Took, TookFront}
+use Rattle.io_edge.specs.Bytes.{Gave, Took, TookPrefix}
 use Rattle.io_edge.specs.Faults.{Rose}
 
 pub append_known-nil : (known : Option (List ℕ)) → append_known known [] ≡ known
@@ -31,11 +31,11 @@ pub took_then : (old between new : Option (List ℕ)) (xs ys : List ℕ) → Too
 took_then old between new xs ys first second = second ∙ ap (λ (known : Option (List ℕ)). append_known known ys) first ∙ append_known-then old xs ys
 
 -- what was taken whole was taken as a front
-pub took_whole_front : (old new : Option (List ℕ)) (xs : List ℕ) → Took old new xs → TookFront old new xs
+pub took_whole_front : (old new : Option (List ℕ)) (xs : List ℕ) → Took old new xs → TookPrefix old new xs
 took_whole_front old new xs took = record { front = xs; rest = []; split = sym (append-nil xs); took = took }
 
 -- a front of xs is one of xs ++ ys
-pub took_front_longer : (old new : Option (List ℕ)) (xs ys : List ℕ) → TookFront old new xs → TookFront old new (xs ++ ys)
+pub took_front_longer : (old new : Option (List ℕ)) (xs ys : List ℕ) → TookPrefix old new xs → TookPrefix old new (xs ++ ys)
 took_front_longer old new xs ys first = record {
   front = first.front;
   rest = first.rest ++ ys;
@@ -44,7 +44,7 @@ took_front_longer old new xs ys first = record {
 }
 
 -- xs were taken, and then a front of ys
-pub took_front_then : (old between new : Option (List ℕ)) (xs ys : List ℕ) → Took old between xs → TookFront between new ys → TookFront old new (xs ++ ys)
+pub took_front_then : (old between new : Option (List ℕ)) (xs ys : List ℕ) → Took old between xs → TookPrefix between new ys → TookPrefix old new (xs ++ ys)
 took_front_then old between new xs ys first second = record {
   front = xs ++ second.front;
   rest = second.rest;

@@ -11,7 +11,7 @@ abbrev pub Took : Option (List ℕ) → Option (List ℕ) → List ℕ → Type 
 Took old new bytes = new ≡ append_known old bytes
 
 -- the sink took a front of these bytes
-pub record TookFront (old new : Option (List ℕ)) (bytes : List ℕ) : Type 0 where
+pub record TookPrefix (old new : Option (List ℕ)) (bytes : List ℕ) : Type 0 where
   pub front : List ℕ
   pub rest : List ℕ
   pub split : bytes ≡ front ++ rest

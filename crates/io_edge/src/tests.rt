@@ -1,5 +1,5 @@
 ghost use Rattle.std.specs.Prelude.{◌≡◌, ◌++◌, OnOk, OnErr};
-ghost use Rattle.io_edge.specs.Bytes.{Took, TookFront};
+ghost use Rattle.io_edge.specs.Bytes.{Took, TookPrefix};
 ghost use Rattle.io_edge.specs.Faults.{HasCause};
 
 use crate::{
@@ -185,7 +185,7 @@ fn write_three<K: Sink>(
     ensures ok { OnOk result
         (Took (K.taken sink.old) (K.taken sink.new) (first.now ++ second.now ++ third.now)) }
     ensures err { OnErr result
-        (TookFront (K.taken sink.old) (K.taken sink.new) (first.now ++ second.now ++ third.now)) }
+        (TookPrefix (K.taken sink.old) (K.taken sink.new) (first.now ++ second.now ++ third.now)) }
     ensures flushed { K.flushed sink.new ≡ K.flushed sink.old }
     ensures cause { HasCause (K.fault_count sink.old) (K.fault_count sink.new) result }
 {

@@ -1,6 +1,6 @@
 ghost use Rattle.std.specs.Prelude.{◌≡◌, [], OnOk, OnErr, IsOk};
 ghost use Rattle.io_edge.specs.Faults.{HasCause};
-ghost use Rattle.io_edge.specs.Bytes.{Took, TookFront};
+ghost use Rattle.io_edge.specs.Bytes.{Took, TookPrefix};
 
 use crate::edge::Sink;
 use thiserror::Error;
@@ -17,7 +17,7 @@ pub struct WriteFault;
 /// `WriteFault` at the first write that fails. The sink took a front of the bytes then.
 pub fn write_all<K: Sink>(sink: &mut K, bytes: &[u8]) -> Result<(), WriteFault>
     ensures ok { OnOk result (Took (K.taken sink.old) (K.taken sink.new) bytes.now) }
-    ensures err { OnErr result (TookFront (K.taken sink.old) (K.taken sink.new) bytes.now) }
+    ensures err { OnErr result (TookPrefix (K.taken sink.old) (K.taken sink.new) bytes.now) }
     ensures flushed { K.flushed sink.new ≡ K.flushed sink.old }
     ensures cause { HasCause (K.fault_count sink.old) (K.fault_count sink.new) result }
 

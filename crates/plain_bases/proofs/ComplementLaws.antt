@@ -5,11 +5,11 @@ use Rattle.std.proofs.lemmas.List.{length-append}
 use Rattle.std.proofs.lemmas.List.Elements.{All-push, All-contains, Contains-get_or}
 use Rattle.std.proofs.lemmas.Bool.{cases_eq, cases_lt}
 use Rattle.dense_blocks.specs.Field.{Ops, IsField}
-use Rattle.dense_blocks.specs.Vectors.{IsVector, zeros, plus, negative, scaled, combination}
+use Rattle.dense_blocks.specs.Vectors.{IsVector, zeros, plus, negative, multiple, combination}
 use Rattle.dense_blocks.specs.Spans.{IsCombination}
 use Rattle.dense_blocks.proofs.Shapes.{Vector, Matrix, to_vector, from_vector, vector-size, append-matrix, matrix_of_rows, matrix-rows, row-vector}
-use Rattle.dense_blocks.proofs.VectorLaws.{zeros-append, scaled-vector, combination-vector, combination-push, plus-zeros, scaled-zero, scaled-mul, scaled-one, plus-moved, plus-comm}
-use Rattle.dense_blocks.proofs.SpanLaws.{combines, spans-append, spans-behind, spans-last, spans-plus, spans-scaled, spans-negative}
+use Rattle.dense_blocks.proofs.VectorLaws.{zeros-append, multiple-vector, combination-vector, combination-push, plus-zeros, multiple-zero, multiple-mul, multiple-one, plus-moved, plus-comm}
+use Rattle.dense_blocks.proofs.SpanLaws.{combines, spans-append, spans-behind, spans-last, spans-plus, spans-multiple, spans-negative}
 use Rattle.plain_bases.specs.Complements.{Completes, IsIndependentOf}
 use Rattle.plain_bases.proofs.RelationLaws.{vector_ends}
 
@@ -53,7 +53,7 @@ module _ (K : Ops) (F : IsField K) (n : ℕ) (others candidates : List (List ℕ
     module _ (apart : (c : List ℕ) → combination K n c (others ++ chosen) ≢ get_or candidates i []) where
       -- a combination with the candidate that is one of the others does not use the candidate
       not_used : (u : List ℕ) (a : ℕ) → Vector K (length chosen) u → a < K.order
-          → IsCombination K n others (plus K (combination K n u chosen) (scaled K a candidate)) → a ≡ 0
+          → IsCombination K n others (plus K (combination K n u chosen) (multiple K a candidate)) → a ≡ 0
       unfolding candidate
       not_used u a hu la s = go (cases_eq a 0)
         where
@@ -62,30 +62,30 @@ module _ (K : Ops) (F : IsField K) (n : ℕ) (others candidates : List (List ℕ
           go (inr not) =
               let v = combination K n u chosen in
               let hv = combination-vector K F (length chosen) n u chosen rows in
-              let w = plus K v (scaled K a candidate) in
+              let w = plus K v (multiple K a candidate) in
               let k = K.inv a in
-              let alone : scaled K a candidate ≡ plus K w (negative K v) =
-              plus-moved K F n (scaled K a candidate) v w (scaled-vector K F n a candidate candidate-vector) hv (plus-comm K F (scaled K a candidate) v) in
+              let alone : multiple K a candidate ≡ plus K w (negative K v) =
+              plus-moved K F n (multiple K a candidate) v w (multiple-vector K F n a candidate candidate-vector) hv (plus-comm K F (multiple K a candidate) v) in
               let of_w = spans-append K F n (length others) others chosen w ho rows s in
               let of_v = spans-behind K F n others chosen v ho rows (combines K n chosen v u hu refl) in
               let both = spans-plus K F n (others ++ chosen) w (negative K v) of_w (spans-negative K F n (others ++ chosen) v of_v) in
-              let all = spans-scaled K F n (others ++ chosen) k (plus K w (negative K v)) both in
-              let back : scaled K k (plus K w (negative K v)) ≡ candidate =
-              ap (scaled K k) (sym alone) ∙ sym (scaled-mul K F k a candidate) ∙ ap (λ x. scaled K x candidate) (F.mul_comm k a ∙ F.mul_inv a la not)
-              ∙ scaled-one K F n candidate candidate-vector in
+              let all = spans-multiple K F n (others ++ chosen) k (plus K w (negative K v)) both in
+              let back : multiple K k (plus K w (negative K v)) ≡ candidate =
+              ap (multiple K k) (sym alone) ∙ sym (multiple-mul K F k a candidate) ∙ ap (λ x. multiple K x candidate) (F.mul_comm k a ∙ F.mul_inv a la not)
+              ∙ multiple-one K F n candidate candidate-vector in
               absurd (apart all.coefficients (all.gives ∙ back))
 
       still_independent : IsIndependentOf K n others (chosen ++ candidate ∷ [])
       still_independent b hb s =
           let size : length (chosen ++ candidate ∷ []) ≡ suc (length chosen) = length-append chosen (candidate ∷ []) ∙ add-one (length chosen) in
           let e = vector_ends K (length chosen) b (subst (λ k. Vector K k b) size (to_vector K (length (chosen ++ candidate ∷ [])) b hb)) in
-          let parts : combination K n b (chosen ++ candidate ∷ []) ≡ plus K (combination K n e.front chosen) (scaled K e.last candidate) =
+          let parts : combination K n b (chosen ++ candidate ∷ []) ≡ plus K (combination K n e.front chosen) (multiple K e.last candidate) =
           ap (λ x. combination K n x (chosen ++ candidate ∷ [])) e.is
           ∙ combination-push K F n e.front chosen e.last candidate (vector-size K (length chosen) e.front e.front_is) candidate-vector in
           let last_zero : e.last ≡ 0 = not_used e.front e.last e.front_is e.last_is (subst (IsCombination K n others) parts s) in
-          let rest : plus K (combination K n e.front chosen) (scaled K e.last candidate) ≡ combination K n e.front chosen =
-          ap (λ x. plus K (combination K n e.front chosen) (scaled K x candidate)) last_zero
-          ∙ ap (plus K (combination K n e.front chosen)) (scaled-zero K F n candidate candidate-vector)
+          let rest : plus K (combination K n e.front chosen) (multiple K e.last candidate) ≡ combination K n e.front chosen =
+          ap (λ x. plus K (combination K n e.front chosen) (multiple K x candidate)) last_zero
+          ∙ ap (plus K (combination K n e.front chosen)) (multiple-zero K F n candidate candidate-vector)
           ∙ plus-zeros K F n (combination K n e.front chosen) (combination-vector K F (length chosen) n e.front chosen rows) in
           let front_zero : e.front ≡ zeros (length chosen) =
           h.independent e.front (from_vector K (length chosen) e.front e.front_is) (subst (IsCombination K n others) (parts ∙ rest) s) in

@@ -12,7 +12,7 @@ use Rattle.cochain_vec.specs.Complexes as complexes
 use Rattle.cochain_vec.specs.Complexes.{CellularComplex, total_size, coordinates, RowsFit}
 use Rattle.plain_bases.specs.declared.complex.Arrow.{Arrow}
 use Rattle.plain_bases.specs.declared.complex.Complex.{Complex}
-use Rattle.plain_bases.specs.View.{arrow_of, complex_of, FitsCells, IsComplexOver}
+use Rattle.plain_bases.specs.View.{arrow_of, plain_complex_of, FitsCells, IsComplexOver}
 use Rattle.plain_bases.specs.Columns.{columns_from}
 use Rattle.plain_bases.specs.Parts.{images}
 use Rattle.plain_bases.proofs.BasisLaws.{columns_from-rows}
@@ -39,7 +39,7 @@ fits-filter K p cs arrows h i d l =
 
 module _ (K : Ops) (F : IsField K) (c : Complex) (h : IsComplexOver K c) where
   -- the rows of the matrices are those of the cells that they go to
-  pub rows_fit : RowsFit (complex_of c)
+  pub rows_fit : RowsFit (plain_complex_of c)
   rows_fit i t l =
       let cell = get_or c.cells i t in
       All-map (λ (a : complexes.Arrow). a.to ≡ cell.cell → length a.matrix ≡ cell.size) arrow_of c.arrows
@@ -49,14 +49,14 @@ module _ (K : Ops) (F : IsField K) (c : Complex) (h : IsComplexOver K c) where
   few_of p = let le = total_size-filter-le p c.cells in let few = h.few in omega arith
 
   -- the columns that the code makes are those of the coboundary
-  pub images-columns : (k : ℕ) → images K c.arrows (filter (λ x. x.degree == k) c.cells) (filter (λ x. x.degree == k + 1) c.cells) ≡ columns_from K (complex_of c) k
+  pub images-columns : (k : ℕ) → images K c.arrows (filter (λ x. x.degree == k) c.cells) (filter (λ x. x.degree == k + 1) c.cells) ≡ columns_from K (plain_complex_of c) k
   images-columns k = ap (λ j. images K c.arrows (filter (λ x. x.degree == k) c.cells) (filter (λ x. x.degree == j) c.cells)) (add-one k)
 
-  pub columns_from-vectors : (k : ℕ) (vs : List (Vec ℕ Global)) → lists vs ≡ columns_from K (complex_of c) k → IsMatrix K (length vs) (coordinates (complex_of c) (k + 1)) (lists vs)
+  pub columns_from-vectors : (k : ℕ) (vs : List (Vec ℕ Global)) → lists vs ≡ columns_from K (plain_complex_of c) k → IsMatrix K (length vs) (coordinates (plain_complex_of c) (k + 1)) (lists vs)
   columns_from-vectors k vs e =
-      let size : length (columns_from K (complex_of c) k) ≡ length vs = sym (ap length e) ∙ lists-size vs in
-      subst (λ (us : List (List ℕ)). IsMatrix K (length vs) (coordinates (complex_of c) (k + 1)) us) (sym e)
-      (from_matrix K (length vs) (coordinates (complex_of c) (k + 1)) (columns_from K (complex_of c) k)
-      (subst (λ m. Matrix K m (coordinates (complex_of c) (k + 1)) (columns_from K (complex_of c) k)) size
-      (subst (λ j. Matrix K (length (columns_from K (complex_of c) k)) (coordinates (complex_of c) j) (columns_from K (complex_of c) k)) (sym (add-one k))
-      (columns_from-rows K F (complex_of c) rows_fit k))))
+      let size : length (columns_from K (plain_complex_of c) k) ≡ length vs = sym (ap length e) ∙ lists-size vs in
+      subst (λ (us : List (List ℕ)). IsMatrix K (length vs) (coordinates (plain_complex_of c) (k + 1)) us) (sym e)
+      (from_matrix K (length vs) (coordinates (plain_complex_of c) (k + 1)) (columns_from K (plain_complex_of c) k)
+      (subst (λ m. Matrix K m (coordinates (plain_complex_of c) (k + 1)) (columns_from K (plain_complex_of c) k)) size
+      (subst (λ j. Matrix K (length (columns_from K (plain_complex_of c) k)) (coordinates (plain_complex_of c) j) (columns_from K (plain_complex_of c) k)) (sym (add-one k))
+      (columns_from-rows K F (plain_complex_of c) rows_fit k))))

@@ -8,7 +8,7 @@ use Rattle.dense_blocks.specs.Spans.{IsCombination}
 use Rattle.dense_blocks.specs.Solving.{lists, Combines}
 use Rattle.dense_blocks.proofs.Shapes.{Matrix, to_matrix, from_matrix, append-matrix}
 use Rattle.plain_bases.specs.Relations.{SpansRelationsBelow}
-use Rattle.plain_bases.specs.Complements.{Completes, Considered}
+use Rattle.plain_bases.specs.Complements.{Completes, IsConsidered}
 use Rattle.plain_bases.proofs.RelationLaws.{relations_more, relations_same}
 use Rattle.plain_bases.proofs.ComplementLaws.{chosen_rows, completes_more, completes_same}
 use Rattle.plain_bases.proofs.VecLaws.{lists-size}
@@ -42,7 +42,7 @@ module _ (K : Ops) (F : IsField K) (n : ℕ) (vs : List (Vec ℕ Global)) (hm : 
       (λ c e. apart c (ap₂ (λ k us. combination K k c us) size front ∙ e ∙ sym is))
 
 -- a candidate makes the list at most one longer
-pub considered-size : (K : Ops) (n : ℕ) (taken : List (Vec ℕ Global)) (candidate : List ℕ) (new : List (Vec ℕ Global)) → Considered K n (lists taken) candidate (lists new)
+pub considered-size : (K : Ops) (n : ℕ) (taken : List (Vec ℕ Global)) (candidate : List ℕ) (new : List (Vec ℕ Global)) → IsConsidered K n (lists taken) candidate (lists new)
     → length new ≤ length taken + 1
 considered-size K n taken candidate new (inl s) = omega (arith, lists-size taken, lists-size new, ap length s.1)
 considered-size K n taken candidate new (inr s) = omega (arith, lists-size taken, lists-size new, ap length s.1, length-append (lists taken) (candidate ∷ []))
@@ -67,7 +67,7 @@ module _ (K : Ops) (F : IsField K) (n : ℕ) (others candidates : List (List ℕ
       (subst (λ (ts : List (List ℕ)). Matrix K (length taken) n ts) (sym parts) (subst (λ m. Matrix K m n (others ++ chosen)) size both))
 
   -- one candidate more
-  pub next_candidate : i < length candidates → (new : List (List ℕ)) → Considered K n taken (get_or candidates i []) new
+  pub next_candidate : i < length candidates → (new : List (List ℕ)) → IsConsidered K n taken (get_or candidates i []) new
       → (take count new ≡ others) × Completes K n others candidates (i + 1) (drop count new)
   next_candidate l new (inl s) =
       let same : new ≡ taken = s.1 in (

@@ -4,7 +4,7 @@ use Rattle.std.proofs.lemmas.List.{map-append, append-nil, take_more}
 use Rattle.std.proofs.lemmas.Grind.{flat_map-append, common_steps}
 use Rattle.dense_blocks.specs.Field.{Ops, IsField}
 use Rattle.dense_blocks.specs.Vectors.{AllScalars, IsVector, zeros, plus}
-use Rattle.dense_blocks.specs.Matrices.{applied}
+use Rattle.dense_blocks.specs.Matrices.{image_of}
 use Rattle.dense_blocks.proofs.Shapes.{vector_of, vector-scalars, append-vector, to_vector, from_vector}
 use Rattle.dense_blocks.proofs.VectorLaws.{plus-assoc, plus-comm}
 use Rattle.cochain_vec.specs.declared.cell.Cell.{Cell}
@@ -25,14 +25,14 @@ module _ (K : Ops) (F : IsField K) where
 
   -- one arrow more
   sum_into-push : (arrows : List Arrow) (a : Arrow) (value : ℕ → List ℕ) (n t : ℕ) → sum_into K (arrows ++ a ∷ []) value n t
-      ≡ cond (eqb a.to t) (plus K (sum_into K arrows value n t) (applied K a.matrix (value a.from))) (sum_into K arrows value n t)
+      ≡ cond (eqb a.to t) (plus K (sum_into K arrows value n t) (image_of K a.matrix (value a.from))) (sum_into K arrows value n t)
   sum_into-push [] a value n t =
-      elim (eqb a.to t) as (λ b. cond b (plus K (applied K a.matrix (value a.from)) (zeros n)) (zeros n) ≡ cond b (plus K (zeros n) (applied K a.matrix (value a.from))) (zeros n)) [
-        | true ↦ plus-comm K F (applied K a.matrix (value a.from)) (zeros n)
+      elim (eqb a.to t) as (λ b. cond b (plus K (image_of K a.matrix (value a.from)) (zeros n)) (zeros n) ≡ cond b (plus K (zeros n) (image_of K a.matrix (value a.from))) (zeros n)) [
+        | true ↦ plus-comm K F (image_of K a.matrix (value a.from)) (zeros n)
         | false ↦ refl
       ]
   sum_into-push (c ∷ arrows) a value n t =
-      let image : Arrow → List ℕ = λ x. applied K x.matrix (value x.from) in
+      let image : Arrow → List ℕ = λ x. image_of K x.matrix (value x.from) in
       let before = sum_into K arrows value n t in
       ap (λ rest. cond (eqb c.to t) (plus K (image c) rest) rest) (sum_into-push arrows a value n t)
       ∙ elim (eqb c.to t) as (λ x. cond x (plus K (image c) (cond (eqb a.to t) (plus K before (image a)) before)) (cond (eqb a.to t) (plus K before (image a)) before)
@@ -48,7 +48,7 @@ module _ (K : Ops) (F : IsField K) where
   pub part-next : (arrows : List declared_arrow.Arrow) (source : List Cell) (z : List ℕ) (t : Cell) (i : ℕ) (d : declared_arrow.Arrow) → i < length arrows
       → part_at K (take (i + 1) arrows) source z t
       ≡ cond (eqb (get_or arrows i d).to t.cell)
-      (plus K (part_at K (take i arrows) source z t) (applied K (matrix_of (get_or arrows i d).block) (value_at source z (get_or arrows i d).from)))
+      (plus K (part_at K (take i arrows) source z t) (image_of K (matrix_of (get_or arrows i d).block) (value_at source z (get_or arrows i d).from)))
       (part_at K (take i arrows) source z t)
   part-next arrows source z t i d l =
       ap (λ xs. part_at K xs source z t) (take_more arrows i d l)

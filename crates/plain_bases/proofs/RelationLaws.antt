@@ -5,12 +5,12 @@ use Rattle.std.proofs.Math.Seq.{take-append_seam, take-append-add, take-length, 
 use Rattle.std.proofs.lemmas.List.Elements.{All-push}
 use Rattle.std.proofs.lemmas.Bool.{cases_eq}
 use Rattle.dense_blocks.specs.Field.{Ops, IsField}
-use Rattle.dense_blocks.specs.Vectors.{IsVector, zeros, plus, negative, scaled, combination}
+use Rattle.dense_blocks.specs.Vectors.{IsVector, zeros, plus, negative, multiple, combination}
 use Rattle.dense_blocks.specs.Spans.{IsCombination}
 use Rattle.dense_blocks.proofs.ScalarLaws.{zero_add, mul_neg, neg_neg}
 use Rattle.dense_blocks.proofs.Shapes.{Vector, Matrix, to_vector, from_vector, vector-size, append-vector, matrix_of_rows, matrix-size}
-use Rattle.dense_blocks.proofs.VectorLaws.{zeros-vector, plus-vector, scaled-vector, combination-vector, combination-plus, combination-scaled, combination-negative, combination-zeros, combination-append, combination-push, plus-append, scaled-append, scaled-zeros, scaled-zero, scaled-neg_one, scaled-neg, scaled-mul, scaled-one, plus-zeros, plus-negative, negative-unique, zeros-plus-zeros, plus-assoc}
-use Rattle.dense_blocks.proofs.SpanLaws.{spans-append, spans-last, spans-plus, spans-scaled}
+use Rattle.dense_blocks.proofs.VectorLaws.{zeros-vector, plus-vector, multiple-vector, combination-vector, combination-plus, combination-multiple, combination-negative, combination-zeros, combination-append, combination-push, plus-append, multiple-append, multiple-zeros, multiple-zero, multiple-neg_one, multiple-neg, multiple-mul, multiple-one, plus-zeros, plus-negative, negative-unique, zeros-plus-zeros, plus-assoc}
+use Rattle.dense_blocks.proofs.SpanLaws.{spans-append, spans-last, spans-plus, spans-multiple}
 use Rattle.plain_bases.specs.Relations.{IsRelation, SpansRelations, SpansRelationsBelow}
 
 -- a vector of one coordinate more ends with a scalar
@@ -38,12 +38,12 @@ module _ (K : Ops) (F : IsField K) (n : ℕ) where
 
     -- the combination of the columns by coefficients that use none after the column
     without_later : (u : List ℕ) (a : ℕ) → length u ≡ length before
-        → combination K n (u ++ a ∷ zeros (length after)) whole ≡ plus K (combination K n u before) (scaled K a column)
+        → combination K n (u ++ a ∷ zeros (length after)) whole ≡ plus K (combination K n u before) (multiple K a column)
     unfolding whole
     without_later u a e =
         combination-append K F (suc (length after)) n u (a ∷ zeros (length after)) before (column ∷ after) e (hc, ha)
-        ∙ ap (λ t. plus K (combination K n u before) (plus K (scaled K a column) t)) (combination-zeros K F (length after) (length after) n after ha)
-        ∙ ap (plus K (combination K n u before)) (plus-zeros K F n (scaled K a column) (scaled-vector K F n a column hc))
+        ∙ ap (λ t. plus K (combination K n u before) (plus K (multiple K a column) t)) (combination-zeros K F (length after) (length after) n after ha)
+        ∙ ap (plus K (combination K n u before)) (plus-zeros K F n (multiple K a column) (multiple-vector K F n a column hc))
 
     whole-size : length whole ≡ length before + suc (length after)
     unfolding whole
@@ -66,59 +66,59 @@ module _ (K : Ops) (F : IsField K) (n : ℕ) where
       own-zero : combination K n own whole ≡ zeros n
       unfolding own
       own-zero =
-          without_later c (K.neg 1) (vector-size K (length before) c hcs) ∙ ap₂ (plus K) gives (scaled-neg_one K F n column hc) ∙ plus-negative K F n column hc
+          without_later c (K.neg 1) (vector-size K (length before) c hcs) ∙ ap₂ (plus K) gives (multiple-neg_one K F n column hc) ∙ plus-negative K F n column hc
 
       -- a relation up to the column is one before the column, less a multiple of the column's own
       moved : List ℕ → ℕ → List ℕ
-      moved u a = plus K u (scaled K a c)
+      moved u a = plus K u (multiple K a c)
 
       moved-vector : (u : List ℕ) (a : ℕ) → Vector K (length before) u → Vector K (length before) (moved u a)
       unfolding moved
-      moved-vector u a hu = plus-vector K F (length before) u (scaled K a c) hu (scaled-vector K F (length before) a c hcs)
+      moved-vector u a hu = plus-vector K F (length before) u (multiple K a c) hu (multiple-vector K F (length before) a c hcs)
 
-      moved-zero : (u : List ℕ) (a : ℕ) → Vector K (length before) u → plus K (combination K n u before) (scaled K a column) ≡ zeros n
+      moved-zero : (u : List ℕ) (a : ℕ) → Vector K (length before) u → plus K (combination K n u before) (multiple K a column) ≡ zeros n
           → combination K n (moved u a) before ≡ zeros n
       unfolding moved
       moved-zero u a hu e =
-          combination-plus K F (length before) n u (scaled K a c) before hu (scaled-vector K F (length before) a c hcs)
-          ∙ ap (plus K (combination K n u before)) (combination-scaled K F n a c before ∙ ap (scaled K a) gives) ∙ e
+          combination-plus K F (length before) n u (multiple K a c) before hu (multiple-vector K F (length before) a c hcs)
+          ∙ ap (plus K (combination K n u before)) (combination-multiple K F n a c before ∙ ap (multiple K a) gives) ∙ e
 
       moved-back : (u : List ℕ) (a : ℕ) → Vector K (length before) u → a < K.order
-          → plus K (moved u a ++ 0 ∷ zeros (length after)) (scaled K (K.neg a) own) ≡ u ++ a ∷ zeros (length after)
+          → plus K (moved u a ++ 0 ∷ zeros (length after)) (multiple K (K.neg a) own) ≡ u ++ a ∷ zeros (length after)
       unfolding moved own
       moved-back u a hu l =
           let k = K.neg a in
-          let same : length (plus K u (scaled K a c)) ≡ length (scaled K k c) =
-          vector-size K (length before) (plus K u (scaled K a c)) (plus-vector K F (length before) u (scaled K a c) hu (scaled-vector K F (length before) a c hcs))
-          ∙ sym (vector-size K (length before) (scaled K k c) (scaled-vector K F (length before) k c hcs)) in
-          let gone : plus K (scaled K a c) (scaled K k c) ≡ zeros (length before) =
-          ap (plus K (scaled K a c)) (scaled-neg K F a c) ∙ plus-negative K F (length before) (scaled K a c) (scaled-vector K F (length before) a c hcs) in
-          let front : plus K (plus K u (scaled K a c)) (scaled K k c) ≡ u =
-          plus-assoc K F u (scaled K a c) (scaled K k c) ∙ ap (plus K u) gone ∙ plus-zeros K F (length before) u hu in
+          let same : length (plus K u (multiple K a c)) ≡ length (multiple K k c) =
+          vector-size K (length before) (plus K u (multiple K a c)) (plus-vector K F (length before) u (multiple K a c) hu (multiple-vector K F (length before) a c hcs))
+          ∙ sym (vector-size K (length before) (multiple K k c) (multiple-vector K F (length before) k c hcs)) in
+          let gone : plus K (multiple K a c) (multiple K k c) ≡ zeros (length before) =
+          ap (plus K (multiple K a c)) (multiple-neg K F a c) ∙ plus-negative K F (length before) (multiple K a c) (multiple-vector K F (length before) a c hcs) in
+          let front : plus K (plus K u (multiple K a c)) (multiple K k c) ≡ u =
+          plus-assoc K F u (multiple K a c) (multiple K k c) ∙ ap (plus K u) gone ∙ plus-zeros K F (length before) u hu in
           let last : K.add 0 (K.mul k (K.neg 1)) ≡ a =
           ap (K.add 0) (mul_neg K F k 1 ∙ ap K.neg (F.mul_one k (F.neg_below a)) ∙ neg_neg K F a l) ∙ zero_add K F a l in
-          let rest : plus K (zeros (length after)) (scaled K k (zeros (length after))) ≡ zeros (length after) =
-          ap (plus K (zeros (length after))) (scaled-zeros K F k (length after)) ∙ zeros-plus-zeros K F (length after) in
-          ap (plus K (plus K u (scaled K a c) ++ 0 ∷ zeros (length after))) (scaled-append K k c (K.neg 1 ∷ zeros (length after)))
-          ∙ plus-append K (plus K u (scaled K a c)) (scaled K k c) (0 ∷ zeros (length after)) (scaled K k (K.neg 1 ∷ zeros (length after))) same
+          let rest : plus K (zeros (length after)) (multiple K k (zeros (length after))) ≡ zeros (length after) =
+          ap (plus K (zeros (length after))) (multiple-zeros K F k (length after)) ∙ zeros-plus-zeros K F (length after) in
+          ap (plus K (plus K u (multiple K a c) ++ 0 ∷ zeros (length after))) (multiple-append K k c (K.neg 1 ∷ zeros (length after)))
+          ∙ plus-append K (plus K u (multiple K a c)) (multiple K k c) (0 ∷ zeros (length after)) (multiple K k (K.neg 1 ∷ zeros (length after))) same
           ∙ ap₂ ◌++◌ front (ap₂ ◌∷◌ last rest)
 
       -- with the column's own relation, the relations up to the column are spanned
       spans_with_own : (zs : List (List ℕ)) → Matrix K (length zs) (length whole) zs
           → ((u : List ℕ) → Vector K (length before) u → combination K n u before ≡ zeros n → IsCombination K (length whole) zs (u ++ 0 ∷ zeros (length after)))
-          → (u : List ℕ) (a : ℕ) → Vector K (length before) u → a < K.order → plus K (combination K n u before) (scaled K a column) ≡ zeros n
+          → (u : List ℕ) (a : ℕ) → Vector K (length before) u → a < K.order → plus K (combination K n u before) (multiple K a column) ≡ zeros n
           → IsCombination K (length whole) (zs ++ own ∷ []) (u ++ a ∷ zeros (length after))
       spans_with_own zs hz all u a hu l e =
           let w = length whole in
           let first = spans-append K F w (length zs) zs (own ∷ []) (moved u a ++ 0 ∷ zeros (length after)) hz (own-vector, tt)
           (all (moved u a) (moved-vector u a hu) (moved-zero u a hu e)) in
-          let second = spans-scaled K F w (zs ++ own ∷ []) (K.neg a) own (spans-last K F w (length zs) zs own hz own-vector) in
+          let second = spans-multiple K F w (zs ++ own ∷ []) (K.neg a) own (spans-last K F w (length zs) zs own hz own-vector) in
           subst (IsCombination K w (zs ++ own ∷ [])) (moved-back u a hu l)
-          (spans-plus K F w (zs ++ own ∷ []) (moved u a ++ 0 ∷ zeros (length after)) (scaled K (K.neg a) own) first second)
+          (spans-plus K F w (zs ++ own ∷ []) (moved u a ++ 0 ∷ zeros (length after)) (multiple K (K.neg a) own) first second)
 
     -- a column that is no combination of those before it has coefficient 0 in each relation up to it
     not_used : ((c : List ℕ) → combination K n c before ≢ column)
-        → (u : List ℕ) (a : ℕ) → Vector K (length before) u → a < K.order → plus K (combination K n u before) (scaled K a column) ≡ zeros n → a ≡ 0
+        → (u : List ℕ) (a : ℕ) → Vector K (length before) u → a < K.order → plus K (combination K n u before) (multiple K a column) ≡ zeros n → a ≡ 0
     not_used apart u a hu l e = go (cases_eq a 0)
       where
         go : (a ≡ 0) ⊎ (a ≡ 0 → ⊥) → a ≡ 0
@@ -127,11 +127,11 @@ module _ (K : Ops) (F : IsField K) (n : ℕ) where
             let v = combination K n u before in
             let hv = combination-vector K F (length before) n u before hb in
             let k = K.inv a in
-            let other : scaled K a column ≡ negative K v = negative-unique K F n v (scaled K a column) hv (scaled-vector K F n a column hc) e in
-            let back : scaled K k (negative K v) ≡ column =
-            ap (scaled K k) (sym other) ∙ sym (scaled-mul K F k a column) ∙ ap (λ x. scaled K x column) (F.mul_comm k a ∙ F.mul_inv a l not) ∙ scaled-one K F n column hc in
-            absurd (apart (scaled K k (negative K u))
-            (combination-scaled K F n k (negative K u) before ∙ ap (scaled K k) (combination-negative K F n u before) ∙ back))
+            let other : multiple K a column ≡ negative K v = negative-unique K F n v (multiple K a column) hv (multiple-vector K F n a column hc) e in
+            let back : multiple K k (negative K v) ≡ column =
+            ap (multiple K k) (sym other) ∙ sym (multiple-mul K F k a column) ∙ ap (λ x. multiple K x column) (F.mul_comm k a ∙ F.mul_inv a l not) ∙ multiple-one K F n column hc in
+            absurd (apart (multiple K k (negative K u))
+            (combination-multiple K F n k (negative K u) before ∙ ap (multiple K k) (combination-negative K F n u before) ∙ back))
 
     -- the columns up to the column
     upto : take (suc (length before)) whole ≡ before ++ column ∷ []
@@ -153,7 +153,7 @@ module _ (K : Ops) (F : IsField K) (n : ℕ) where
     record Parts (w : List ℕ) (more : ℕ) : Type 0 where
       ends : Ends K (length before) w
       rest : more ≡ length after
-      zero : plus K (combination K n ends.front before) (scaled K ends.last column) ≡ zeros n
+      zero : plus K (combination K n ends.front before) (multiple K ends.last column) ≡ zeros n
 
     parts : (w : List ℕ) (more : ℕ) → suc (length before) + more ≡ length whole → IsVector K (suc (length before)) w
         → combination K n w (take (suc (length before)) whole) ≡ zeros n → Parts w more
@@ -192,7 +192,7 @@ module _ (K : Ops) (F : IsField K) (n : ℕ) where
           let none : p.ends.last ≡ 0 = not_used apart p.ends.front p.ends.last p.ends.front_is p.ends.last_is p.zero in
           let front_zero : combination K n p.ends.front before ≡ zeros n =
           sym (plus-zeros K F n (combination K n p.ends.front before) (combination-vector K F (length before) n p.ends.front before hb))
-          ∙ ap (plus K (combination K n p.ends.front before)) (sym (scaled-zero K F n column hc) ∙ ap (λ a. scaled K a column) (sym none)) ∙ p.zero in
+          ∙ ap (plus K (combination K n p.ends.front before)) (sym (multiple-zero K F n column hc) ∙ ap (λ a. multiple K a column) (sym none)) ∙ p.zero in
           subst (IsCombination K (length whole) zs) (ap (λ a. p.ends.front ++ a ∷ zeros (length after)) (sym none) ∙ sym (rejoined w more p))
           (spanned_before zs h p.ends.front p.ends.front_is front_zero);
     }

@@ -16,6 +16,6 @@ pub record Completes (K : Ops) (n : ℕ) (others candidates : List (List ℕ)) (
   pub independent : IsIndependentOf K n others chosen
 
 -- the candidate is a combination of what was taken and is left out, or it is none and is taken
-abbrev pub Considered : Ops → ℕ → List (List ℕ) → List ℕ → List (List ℕ) → Type 0
-Considered K n taken candidate new =
+abbrev pub IsConsidered : Ops → ℕ → List (List ℕ) → List ℕ → List (List ℕ) → Type 0
+IsConsidered K n taken candidate new =
     (IsCombination K n taken candidate × (new ≡ taken)) ⊎ (((c : List ℕ) → combination K n c taken ≢ candidate) × (new ≡ taken ++ candidate ∷ []))

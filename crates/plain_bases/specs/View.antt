@@ -13,8 +13,8 @@ use Rattle.plain_bases.specs.declared.complex.Complex.{Complex}
 abbrev pub arrow_of : Arrow → complexes.Arrow
 arrow_of a = record { from = a.from; to = a.to; matrix = matrix_of a.block }
 
-abbrev pub complex_of : Complex → CellularComplex
-complex_of c = record { cells = c.cells; arrows = map arrow_of c.arrows }
+abbrev pub plain_complex_of : Complex → CellularComplex
+plain_complex_of c = record { cells = c.cells; arrows = map arrow_of c.arrows }
 
 -- the block goes between these cells, where it goes between cells of these numbers
 pub record FitsCells (K : Ops) (cells : List Cell) (a : Arrow) : Type 0 where

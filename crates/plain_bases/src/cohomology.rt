@@ -4,7 +4,7 @@ ghost use Rattle.dense_blocks.specs.Solving.{lists};
 ghost use Rattle.cochain_vec.specs.Complexes.{coordinates};
 ghost use Rattle.cochain_vec.specs.Cohomology.{IsBasis};
 ghost use Rattle.plain_bases.specs.Columns.{columns_from, columns_into};
-ghost use Rattle.plain_bases.specs.View.{complex_of, IsComplexOver};
+ghost use Rattle.plain_bases.specs.View.{plain_complex_of, IsComplexOver};
 
 use crate::columns::{Vectors, columns, total_size};
 use crate::complements::complement;
@@ -35,8 +35,8 @@ fn columns_from<F: Scalars>(
 ) -> Result<Vectors, NoMemory>
     requires complex { IsComplexOver (F.ops f.now) complex.now }
     requires degree { degree + 1 < 2 ^ 32 }
-    ensures size { IfOk result (λ cs. cs.size ≡ coordinates (complex_of complex.now) (degree + 1)) }
-    ensures columns { IfOk result (λ cs. lists cs.all.items ≡ columns_from (F.ops f.now) (complex_of complex.now) degree) }
+    ensures size { IfOk result (λ cs. cs.size ≡ coordinates (plain_complex_of complex.now) (degree + 1)) }
+    ensures columns { IfOk result (λ cs. lists cs.all.items ≡ columns_from (F.ops f.now) (plain_complex_of complex.now) degree) }
     ensures vectors { IfOk result (λ cs. IsMatrix (F.ops f.now) (length cs.all.items) cs.size (lists cs.all.items)) }
 {
     let source = cells_of(alloc, complex, degree)?;
@@ -53,8 +53,8 @@ fn columns_into<F: Scalars>(
     degree: u32,
 ) -> Result<Vectors, NoMemory>
     requires complex { IsComplexOver (F.ops f.now) complex.now }
-    ensures size { IfOk result (λ cs. cs.size ≡ coordinates (complex_of complex.now) degree) }
-    ensures columns { IfOk result (λ cs. lists cs.all.items ≡ columns_into (F.ops f.now) (complex_of complex.now) degree) }
+    ensures size { IfOk result (λ cs. cs.size ≡ coordinates (plain_complex_of complex.now) degree) }
+    ensures columns { IfOk result (λ cs. lists cs.all.items ≡ columns_into (F.ops f.now) (plain_complex_of complex.now) degree) }
     ensures vectors { IfOk result (λ cs. IsMatrix (F.ops f.now) (length cs.all.items) cs.size (lists cs.all.items)) }
 {
     if degree > 0 {
@@ -80,7 +80,7 @@ pub fn basis<F: Scalars>(
 ) -> Result<Vec<Vec<u8>>, NoMemory>
     requires complex { IsComplexOver (F.ops f.now) complex.now }
     requires degree { degree + 1 < 2 ^ 32 }
-    ensures basis { IfOk result (λ b. IsBasis (F.ops f.now) (complex_of complex.now) degree (lists b.items)) }
+    ensures basis { IfOk result (λ b. IsBasis (F.ops f.now) (plain_complex_of complex.now) degree (lists b.items)) }
     ensures few { IfOk result (λ b. length b.items ≤ 4096) }
 {
     let outgoing = columns_from(alloc, f, complex, degree)?;

@@ -3,7 +3,7 @@ ghost use Rattle.dense_blocks.specs.Vectors.{IsVector, combination};
 ghost use Rattle.dense_blocks.specs.Matrices.{IsMatrix};
 ghost use Rattle.dense_blocks.specs.Spans.{IsCombination};
 ghost use Rattle.dense_blocks.specs.Solving.{lists};
-ghost use Rattle.plain_bases.specs.Complements.{Completes, Considered};
+ghost use Rattle.plain_bases.specs.Complements.{Completes, IsConsidered};
 
 use crate::columns::Vectors;
 use dense_blocks::{Scalars, Solution, solve};
@@ -19,7 +19,7 @@ fn consider<F: Scalars>(
     requires taken { IsMatrix (F.ops f.now) (length taken.old.all.items) taken.old.size (lists taken.old.all.items) }
     requires candidate { IsVector (F.ops f.now) taken.old.size candidate.now }
     ensures size { taken.new.size ≡ taken.old.size }
-    ensures considered { OnOk result (Considered (F.ops f.now) taken.old.size (lists taken.old.all.items) candidate.now (lists taken.new.all.items)) }
+    ensures considered { OnOk result (IsConsidered (F.ops f.now) taken.old.size (lists taken.old.all.items) candidate.now (lists taken.new.all.items)) }
 {
     match solve(alloc, f, &taken.all, candidate)? {
         Solution::Combination(_) => Ok(()),

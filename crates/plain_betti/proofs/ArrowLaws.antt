@@ -7,7 +7,7 @@ use Rattle.dense_blocks.specs.declared.block.Block.{Block}
 use Rattle.cell_complex.specs.declared.face.Face.{Face}
 use Rattle.plain_bases.specs.declared.complex.Arrow.{Arrow}
 use Rattle.plain_bases.specs.View.{FitsCells}
-use Rattle.sheaf_data.specs.Betti.{numbered, arrows_of, arrow_of_face}
+use Rattle.sheaf_data.specs.Betti.{numbered_cells, arrows_of, arrow_of_face}
 use Rattle.plain_betti.proofs.CellLaws.{size_at_number}
 
 pub length-arrows : (K : Ops) (fs : List Face) (bs : List Block) → length bs ≡ length fs → length (arrows_of K fs bs) ≡ length fs
@@ -24,7 +24,7 @@ arrow_at_place K (g ∷ fs) (c ∷ bs) (suc k) f b p q = arrow_at_place K fs bs 
 
 -- an arrow of the shape of its face fits the cells of the sheaf
 pub fits_numbered : (K : Ops) (ds ss : List ℕ) (a : Arrow) (s t : ℕ) → length ss ≡ length ds → a.from ≡ s → a.to ≡ t → a.block.rows ≡ slice_index ss t
-    → a.block.cols ≡ slice_index ss s → AllScalars K a.block.entries → FitsCells K (numbered 0 ds ss) a
+    → a.block.cols ≡ slice_index ss s → AllScalars K a.block.entries → FitsCells K (numbered_cells 0 ds ss) a
 fits_numbered K ds ss a s t e from to rows columns scalars = record {
   rows = λ k c l same. rows ∙ ap (slice_index ss) (sym to ∙ same) ∙ size_at_number ds ss k c e l;
   columns = λ k c l same. columns ∙ ap (slice_index ss) (sym from ∙ same) ∙ size_at_number ds ss k c e l;

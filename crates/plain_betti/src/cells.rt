@@ -1,5 +1,5 @@
 ghost use Rattle.std.specs.Prelude.{◌≡◌, ◌≤◌, length, All, IfOk};
-ghost use Rattle.sheaf_data.specs.Betti.{numbered, degree_count};
+ghost use Rattle.sheaf_data.specs.Betti.{numbered_cells, degree_count};
 
 use cochain_vec::Cell;
 use std::alloc::{AllocError as NoMemory, Global};
@@ -21,7 +21,7 @@ pub fn degree_count(dims: &[u8]) -> u32
 pub fn numbered(alloc: Global, dims: &[u8], stalks: &[u8]) -> Result<Vec<Cell>, NoMemory>
     requires few { length dims.now ≤ 4096 }
     requires one_each { length stalks.now ≡ length dims.now }
-    ensures { IfOk result (λ cells. cells.items ≡ numbered 0 dims.now stalks.now) }
+    ensures { IfOk result (λ cells. cells.items ≡ numbered_cells 0 dims.now stalks.now) }
 {
     let mut cells = Vec::new(alloc);
     for (i, dim) in dims.iter().enumerate() {

@@ -1,5 +1,5 @@
 ghost use Rattle.std.specs.Prelude.{◌≡◌, IfOk};
-ghost use Rattle.plain_bases.specs.View.{complex_of, IsComplexOver};
+ghost use Rattle.plain_bases.specs.View.{plain_complex_of, IsComplexOver};
 ghost use Rattle.sheaf_data.specs.Betti.{cochain_complex_of, AreBetti};
 
 use crate::arrows::arrows_of;
@@ -11,7 +11,7 @@ use std::alloc::{AllocError as NoMemory, Global};
 
 /// The whole complex of a draft, as cells and matrices.
 fn complex_of<F: Scalars>(alloc: Global, draft: &Draft<F>) -> Result<Complex, NoMemory>
-    ensures complex { IfOk result (λ c. complex_of c ≡ cochain_complex_of (F.ops draft.now.field) draft.now.complex draft.now.stalks draft.now.blocks) }
+    ensures complex { IfOk result (λ c. plain_complex_of c ≡ cochain_complex_of (F.ops draft.now.field) draft.now.complex draft.now.stalks draft.now.blocks) }
     ensures over { IfOk result (IsComplexOver (F.ops draft.now.field)) }
 {
     let cells = numbered(alloc, draft.complex.dims(), draft.stalks.as_slice())?;

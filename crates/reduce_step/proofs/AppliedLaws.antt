@@ -7,11 +7,11 @@ use Rattle.dense_blocks.specs.Field.{Ops, IsField}
 use Rattle.dense_blocks.specs.Matrices.{IsInverse}
 use Rattle.rising_lists.specs.Rising.{has, keys}
 use Rattle.block_complexes.specs.BlockComplexes.{AreConsecutive, cells, degree_of, size_of, IsBlockComplex}
-use Rattle.block_sparse.specs.StoredBlocks.{StoredBlocks, held, matrix, complex_in}
-use Rattle.block_sparse.specs.Grids.{part, placed}
+use Rattle.block_sparse.specs.StoredBlocks.{StoredBlocks, block_at, matrix, complex_in}
+use Rattle.block_sparse.specs.Grids.{part, as_block}
 use Rattle.block_sparse.specs.Invariants.{IsSound}
-use Rattle.block_sparse.proofs.ScalarBlocks.{held-between}
-use Rattle.removals.specs.Removals.{corner, without, IsRemoval}
+use Rattle.block_sparse.proofs.ScalarBlocks.{block_at-between}
+use Rattle.removals.specs.Removals.{corner, live_without, IsRemoval}
 use Rattle.block_sparse.specs.Flags.{KeepsFlags}
 use Rattle.block_complexes.proofs.Sums.{is_other}
 use Rattle.removals.proofs.CornerLaws.{has-without, without-twice, spared}
@@ -20,17 +20,17 @@ use Rattle.reduce_step.proofs.HeldLaws.{written-removal, written-flags}
 -- the three steps: the parts of N are put at the listed cells of v, then the cell x is taken out, and then the cell y
 pub record AreSteps (v grid first w : StoredBlocks) (x y : ℕ) (left below : List (ℕ × ℕ)) (N : List (List ℕ)) : Type 0 where
   pub grid_live : grid.live ≡ v.live
-  pub grid_held : (s t : ℕ) → held grid s t ≡ (if has s (keys left) && has t (keys below) then placed (part left below N s t) else held v s t)
+  pub grid_held : (s t : ℕ) → block_at grid s t ≡ (if has s (keys left) && has t (keys below) then as_block (part left below N s t) else block_at v s t)
   pub first_live : first.live ≡ filter (λ l. not (l.0 == x)) grid.live
-  pub first_held : (s t : ℕ) → held first s t ≡ (if s == x || t == x then None else held grid s t)
+  pub first_held : (s t : ℕ) → block_at first s t ≡ (if s == x || t == x then None else block_at grid s t)
   pub second_live : w.live ≡ filter (λ l. not (l.0 == y)) first.live
-  pub second_held : (s t : ℕ) → held w s t ≡ (if s == y || t == y then None else held first s t)
+  pub second_held : (s t : ℕ) → block_at w s t ≡ (if s == y || t == y then None else block_at first s t)
 
 -- a block stands from x to y; on the left are the other cells from which blocks go to y, below the other cells to which blocks go from x
 pub record AreListed (v : StoredBlocks) (x y : ℕ) (left below : List (ℕ × ℕ)) : Type 0 where
-  pub stands : is_some (held v x y) ≡ true
-  pub on_left : (s : ℕ) → has s (keys left) ≡ (is_some (held v s y) && not (s == x))
-  pub is_below : (t : ℕ) → has t (keys below) ≡ (is_some (held v x t) && not (t == y))
+  pub stands : is_some (block_at v x y) ≡ true
+  pub on_left : (s : ℕ) → has s (keys left) ≡ (is_some (block_at v s y) && not (s == x))
+  pub is_below : (t : ℕ) → has t (keys below) ≡ (is_some (block_at v x t) && not (t == y))
 
 -- the block is square and a its inverse; the parts of N, which are the new corners, are put at these cells, and x and y are taken out
 pub record IsApplied (K : Ops) (v : StoredBlocks) (x y : ℕ) (a : List (List ℕ)) (left below : List (ℕ × ℕ)) (N : List (List ℕ)) (grid first w : StoredBlocks) : Type 0 where
@@ -57,50 +57,50 @@ and_not b c e = ap (λ d. b && not d) e ∙ go b
 pub listed-degrees : (v : StoredBlocks) → IsSound v.live v.rows v.columns → (x y : ℕ) (left below : List (ℕ × ℕ)) → AreListed v x y left below
     → (s t : ℕ) → has s (keys left) ≡ true → has t (keys below) ≡ true → degree_of v.live t ≡ degree_of v.live s + 1
 listed-degrees v sound x y left below h s t hs ht =
-    let p = and_parts (is_some (held v s y)) (not (eqb s x)) (sym (h.on_left s) ∙ hs) in
-    let q = and_parts (is_some (held v x t)) (not (eqb t y)) (sym (h.is_below t) ∙ ht) in
-    omega (arith, (held-between v sound s y p.0).degrees, (held-between v sound x t q.0).degrees, (held-between v sound x y h.stands).degrees)
+    let p = and_parts (is_some (block_at v s y)) (not (eqb s x)) (sym (h.on_left s) ∙ hs) in
+    let q = and_parts (is_some (block_at v x t)) (not (eqb t y)) (sym (h.is_below t) ∙ ht) in
+    omega (arith, (block_at-between v sound s y p.0).degrees, (block_at-between v sound x t q.0).degrees, (block_at-between v sound x y h.stands).degrees)
 
 module _ (K : Ops) (F : IsField K) (v : StoredBlocks) (sound : IsSound v.live v.rows v.columns) (over : IsBlockComplex K (complex_in v)) (x y : ℕ) (a : List (List ℕ))
     (left below : List (ℕ × ℕ)) (N : List (List ℕ)) (grid first w : StoredBlocks) (h : IsApplied K v x y a left below N grid first w) where
-  pub applied-live : w.live ≡ without v.live x y
-  applied-live =
+  pub image_of-live : w.live ≡ live_without v.live x y
+  image_of-live =
       h.steps.second_live
       ∙ ap (filter (λ l. not (l.0 == y))) (h.steps.first_live ∙ ap (filter (λ l. not (l.0 == x))) h.steps.grid_live)
       ∙ without-twice x y v.live
 
   other : (c : ℕ) → has c (cells w.live) ≡ true → is_other x y c ≡ true
-  other c m = (has-without x y v.live c (subst (λ live. has c (cells live) ≡ true) applied-live m)).1
+  other c m = (has-without x y v.live c (subst (λ live. has c (cells live) ≡ true) image_of-live m)).1
 
   -- a listed pair of cells is one between which a new corner is put
   both-listed : (s t : ℕ) → is_other x y s ≡ true → is_other x y t ≡ true
-      → (has s (keys left) && has t (keys below)) ≡ (is_some (held v s y) && is_some (held v x t))
+      → (has s (keys left) && has t (keys below)) ≡ (is_some (block_at v s y) && is_some (block_at v x t))
   both-listed s t os ot =
-      ap₂ ◌&&◌ (h.listed.on_left s ∙ and_not (is_some (held v s y)) (eqb s x) (apart (eqb s x) (eqb s y) os).0)
-      (h.listed.is_below t ∙ and_not (is_some (held v x t)) (eqb t y) (apart (eqb t x) (eqb t y) ot).1)
+      ap₂ ◌&&◌ (h.listed.on_left s ∙ and_not (is_some (block_at v s y)) (eqb s x) (apart (eqb s x) (eqb s y) os).0)
+      (h.listed.is_below t ∙ and_not (is_some (block_at v x t)) (eqb t y) (apart (eqb t x) (eqb t y) ot).1)
 
   written : (s t : ℕ) → has s (cells w.live) ≡ true → has t (cells w.live) ≡ true
-      → held w s t ≡ cond (is_some (held v s y) && is_some (held v x t)) (placed (corner K (complex_in v) x y a s t)) (held v s t)
+      → block_at w s t ≡ cond (is_some (block_at v s y) && is_some (block_at v x t)) (as_block (corner K (complex_in v) x y a s t)) (block_at v s t)
   written s t hs ht =
       let os = other s hs in
       let ot = other t ht in
       h.steps.second_held s t
       ∙ ap (cond (eqb s y || eqb t y) None) (h.steps.first_held s t)
-      ∙ spared x y s t (held grid s t) os ot
+      ∙ spared x y s t (block_at grid s t) os ot
       ∙ h.steps.grid_held s t
       ∙ chosen (has s (keys left) && has t (keys below)) refl
-      ∙ ap (λ b. cond b (placed (corner K (complex_in v) x y a s t)) (held v s t)) (both-listed s t os ot)
+      ∙ ap (λ b. cond b (as_block (corner K (complex_in v) x y a s t)) (block_at v s t)) (both-listed s t os ot)
     where
       chosen : (b : Bool) → (has s (keys left) && has t (keys below)) ≡ b
-          → cond b (placed (part left below N s t)) (held v s t) ≡ cond b (placed (corner K (complex_in v) x y a s t)) (held v s t)
-      chosen true e = let l = and_parts (has s (keys left)) (has t (keys below)) e in ap placed (h.corners s t l.0 l.1)
+          → cond b (as_block (part left below N s t)) (block_at v s t) ≡ cond b (as_block (corner K (complex_in v) x y a s t)) (block_at v s t)
+      chosen true e = let l = and_parts (has s (keys left)) (has t (keys below)) e in ap as_block (h.corners s t l.0 l.1)
       chosen false e = refl
 
   pair : AreConsecutive v.live x y
-  pair = held-between v sound x y h.listed.stands
+  pair = block_at-between v sound x y h.listed.stands
 
-  pub applied-removal : IsRemoval K (complex_in v) x y a (complex_in w)
-  applied-removal = written-removal K F v sound over x y a w pair h.square h.inverse applied-live written
+  pub image_of-removal : IsRemoval K (complex_in v) x y a (complex_in w)
+  image_of-removal = written-removal K F v sound over x y a w pair h.square h.inverse image_of-live written
 
-  pub applied-flags : KeepsFlags v x y w
-  applied-flags = written-flags K F v sound over x y a w pair h.square h.inverse applied-live written
+  pub image_of-flags : KeepsFlags v x y w
+  image_of-flags = written-flags K F v sound over x y a w pair h.square h.inverse image_of-live written

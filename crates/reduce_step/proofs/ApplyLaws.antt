@@ -10,7 +10,7 @@ use Rattle.dense_blocks.proofs.Cutting.{Sized, matrix-sized}
 use Rattle.rising_lists.specs.Rising.{entry_of}
 use Rattle.open_columns.specs.declared.mark.Mark.{Mark}
 use Rattle.block_complexes.specs.BlockComplexes.{size_of, IsBlockComplex}
-use Rattle.block_sparse.specs.StoredBlocks.{StoredBlocks, standing, is_zero, held, matrix, complex_in}
+use Rattle.block_sparse.specs.StoredBlocks.{StoredBlocks, stored_block, is_zero, block_at, matrix, complex_in}
 use Rattle.block_sparse.specs.Grids.{part}
 use Rattle.block_sparse.specs.Invariants.{IsSound}
 use Rattle.block_sparse.proofs.ScalarBlocks.{row-between, matrix-size_of}
@@ -19,7 +19,7 @@ use Rattle.removals.specs.Removals.{IsRemoval}
 use Rattle.block_sparse.specs.Flags.{KeepsFlags}
 use Rattle.block_sparse.proofs.StoredLaws.{block_complex-full}
 use Rattle.reduce_step.proofs.JoinedCorners.{AreAround, part-reduced}
-use Rattle.reduce_step.proofs.AppliedLaws.{AreSteps, IsApplied, applied-removal, applied-flags}
+use Rattle.reduce_step.proofs.AppliedLaws.{AreSteps, IsApplied, image_of-removal, image_of-flags}
 use Rattle.reduce_step.specs.declared.footprint.Footprint.{Footprint}
 use Rattle.reduce_step.specs.Footprints.{IsFootprint}
 use Rattle.reduce_step.specs.Records.{IsRecord}
@@ -31,13 +31,13 @@ one-width zero n p q (r ∷ A) e h k = absurd h
 one-width (suc m) n zero q (r ∷ A) e h k = absurd k
 one-width (suc m) n (suc p) q (r ∷ A) e h k = sym h.0 ∙ k.0
 
-block-held : (o : Option Block) (m : Option Mark) → is_some (standing o m) ≡ true → is_some o ≡ true
-block-held None m e = e
-block-held (Some b) m e = e
+block-block_at : (o : Option Block) (m : Option Mark) → is_some (stored_block o m) ≡ true → is_some o ≡ true
+block-block_at None m e = e
+block-block_at (Some b) m e = e
 
 -- a record whose footprint stands
 module _ (K : Ops) (F : IsField K) (v : StoredBlocks) (sound : IsSound v.live v.rows v.columns) (over : IsBlockComplex K (complex_in v)) (foot : Footprint)
-    (stands : is_some (held v foot.x foot.y) ≡ true) (is : IsFootprint v foot.x foot.y foot) where
+    (stands : is_some (block_at v foot.x foot.y) ≡ true) (is : IsFootprint v foot.x foot.y foot) where
   pivot-rows : foot.pivot.rows ≡ size_of v.live foot.y
   pivot-rows = sym (block-size foot.pivot) ∙ ap length is.pivot ∙ matrix-size_of v sound foot.x foot.y
 
@@ -47,7 +47,7 @@ module _ (K : Ops) (F : IsField K) (v : StoredBlocks) (sound : IsSound v.live v.
       let n = size_of v.live foot.x in
       let b = foot.pivot in
       let nonzero : is_zero (matrix v foot.x foot.y) ≡ false =
-      (row-between v sound foot.x foot.y (block-held (entry_of v.rows foot.y foot.x) (entry_of v.columns foot.x foot.y) stands)).nonzero in
+      (row-between v sound foot.x foot.y (block-block_at (entry_of v.rows foot.y foot.x) (entry_of v.columns foot.x foot.y) stands)).nonzero in
       one-width b.rows b.cols m n (matrix v foot.x foot.y) nonzero
       (subst (Sized b.rows b.cols) is.pivot (sized-cut b.rows b.cols b.entries (omega (arith, b.full))))
       (matrix-sized K m n (matrix v foot.x foot.y) ((block_complex-full K F v sound over).shape foot.x foot.y))
@@ -67,10 +67,10 @@ module _ (K : Ops) (F : IsField K) (v : StoredBlocks) (sound : IsSound v.live v.
   }
 
   -- once the new corners are put and x and y are taken out, the record is applied
-  record-applied : (inverse new_corners : Block) → IsRecord K foot inverse new_corners → (grid first w : StoredBlocks)
+  record-image_of : (inverse new_corners : Block) → IsRecord K foot inverse new_corners → (grid first w : StoredBlocks)
       → AreSteps v grid first w foot.x foot.y foot.left foot.below (matrix_of new_corners)
       → IsApplied K v foot.x foot.y (matrix_of inverse) foot.left foot.below (matrix_of new_corners) grid first w
-  record-applied inverse new_corners r grid first w steps =
+  record-image_of inverse new_corners r grid first w steps =
       let a = matrix_of inverse in
       record {
         listed = record { stands = stands; on_left = is.left; is_below = is.below };
@@ -88,7 +88,7 @@ module _ (K : Ops) (F : IsField K) (v : StoredBlocks) (sound : IsSound v.live v.
       (grid first w : StoredBlocks) (steps : AreSteps v grid first w foot.x foot.y left below (matrix_of new_corners)) where
     applied : IsApplied K v foot.x foot.y (matrix_of inverse) foot.left foot.below (matrix_of new_corners) grid first w
     applied =
-        record-applied inverse new_corners r grid first w
+        record-image_of inverse new_corners r grid first w
         (subst (λ l. AreSteps v grid first w foot.x foot.y l foot.below (matrix_of new_corners)) on_left
         (subst (λ l. AreSteps v grid first w foot.x foot.y left l (matrix_of new_corners)) is_below steps))
 
@@ -96,6 +96,6 @@ module _ (K : Ops) (F : IsField K) (v : StoredBlocks) (sound : IsSound v.live v.
     record-removed =
         let a = matrix_of inverse in
         let N = matrix_of new_corners in (
-          applied-removal K F v sound over foot.x foot.y a foot.left foot.below N grid first w applied,
-          applied-flags K F v sound over foot.x foot.y a foot.left foot.below N grid first w applied,
+          image_of-removal K F v sound over foot.x foot.y a foot.left foot.below N grid first w applied,
+          image_of-flags K F v sound over foot.x foot.y a foot.left foot.below N grid first w applied,
         )

@@ -7,21 +7,21 @@ use Rattle.dense_blocks.specs.Vectors.{AllScalars}
 use Rattle.dense_blocks.specs.declared.block.Block.{Block}
 use Rattle.rising_lists.specs.Rising.{IsRising, has, keys}
 use Rattle.block_complexes.specs.BlockComplexes.{size_of, IsBlockComplex}
-use Rattle.block_sparse.specs.StoredBlocks.{StoredBlocks, IsBetween, StandsAt, held, is_zero, complex_in}
+use Rattle.block_sparse.specs.StoredBlocks.{StoredBlocks, IsBetween, StandsAt, block_at, is_zero, complex_in}
 use Rattle.block_sparse.proofs.StoredLaws.{standing-scalars}
 use Rattle.block_complexes.proofs.Sums.{has-head}
 use Rattle.reduce_step.proofs.JoinedScalars.{AreAllLive, sized-live, one-live, joined-scalars}
 use Rattle.reduce_step.specs.declared.footprint.Footprint.{Footprint}
 use Rattle.reduce_step.specs.Footprints.{IsFootprint, IsOverField}
-use Rattle.reduce_step.specs.Parts.{AreParts, IsJoinedBlock, sized_others}
+use Rattle.reduce_step.specs.Parts.{AreFootprintParts, IsJoinedBlock, sized_others}
 use Rattle.reduce_step.proofs.ListLaws.{AreListed, others-has, others-there, others-without, one-rises}
 use Rattle.reduce_step.proofs.PartLaws.{row-part, column-part}
 
 -- the cells of row y and of column x, and what was copied of them
 pub record IsCopy (v : StoredBlocks) (x y : ℕ) (in_row in_column : List ℕ) (left below : List (ℕ × ℕ)) (pivot row column corners : Block) : Type 0 where
-  pub row_has : (s : ℕ) → has s in_row ≡ is_some (held v s y)
+  pub row_has : (s : ℕ) → has s in_row ≡ is_some (block_at v s y)
   pub row_blocks : (s : ℕ) → has s in_row ≡ true → IsBetween v s y
-  pub column_has : (t : ℕ) → has t in_column ≡ is_some (held v x t)
+  pub column_has : (t : ℕ) → has t in_column ≡ is_some (block_at v x t)
   pub column_blocks : (t : ℕ) → has t in_column ≡ true → IsBetween v x t
   pub left_is : left ≡ sized_others v.live in_row x
   pub left_listed : AreListed v.live left
@@ -34,7 +34,7 @@ pub record IsCopy (v : StoredBlocks) (x y : ℕ) (in_row in_column : List ℕ) (
   pub corners_are : IsJoinedBlock v left below corners
 
 pub copy-parts : {v : StoredBlocks} {x y : ℕ} {in_row in_column : List ℕ} {left below : List (ℕ × ℕ)} {pivot row column corners : Block}
-    → IsCopy v x y in_row in_column left below pivot row column corners → AreParts x y left below pivot row column
+    → IsCopy v x y in_row in_column left below pivot row column corners → AreFootprintParts x y left below pivot row column
 copy-parts {v} {x} {y} {in_row} {in_column} {left} {below} {pivot} {row} {column} {corners} h =
     let m : ℕ = size_of v.live y in
     let n : ℕ = size_of v.live x in

@@ -10,14 +10,14 @@ use Rattle.dense_blocks.specs.declared.block.Block.{Block}
 use Rattle.rising_lists.specs.Rising.{IsRising, has, keys}
 use Rattle.rising_lists.proofs.Keyed.{place_of, rising_tail, rising_le, head-absent}
 use Rattle.block_complexes.specs.BlockComplexes.{cells, size_of}
-use Rattle.block_sparse.specs.StoredBlocks.{StoredBlocks, held, matrix, AreLive}
+use Rattle.block_sparse.specs.StoredBlocks.{StoredBlocks, block_at, matrix, AreLive}
 use Rattle.block_sparse.specs.Grids.{width, AreSized, IsJoined, IsFirstOther, segment, part, columns_of}
 use Rattle.block_sparse.proofs.GridLaws.{key-listed, map-same}
 use Rattle.block_complexes.proofs.LiveLaws.{cell-at, length-cells, of_cell-at}
 use Rattle.block_sparse.proofs.Windows.{width-take}
 use Rattle.reduce_step.proofs.PartLaws.{row-part, column-part, columns-one}
 use Rattle.reduce_step.specs.declared.footprint.Footprint.{Footprint}
-use Rattle.reduce_step.specs.Differences.{sources, targets, is_copied, kept, listed_size, IsSized, IsLiveAs, IsKept, IsBeside, IsSameAt, IsFirstResized, IsResized, IsReached, IsGained, IsBefore, IsEarlier, Found, FoundResized, FoundUnlisted}
+use Rattle.reduce_step.specs.Differences.{sources, targets, is_copied, copied_matrix, listed_size, IsSized, IsLiveAs, IsAsCopied, IsBeside, IsSameAt, IsFirstResized, IsResized, IsReached, IsGained, IsBefore, IsEarlier, Found, FoundResized, FoundUnlisted}
 use Rattle.reduce_step.proofs.FirstLaws.{not-before, found-either, found-within}
 use Rattle.reduce_step.proofs.ListLaws.{one-rises}
 
@@ -32,7 +32,7 @@ live-size live c are h =
       All-get_or (λ l. 1 ≤ l.2) live p.at (0, 0, 0) l are.sizes,
     )
 
--- the pair was not copied: nothing was to be kept
+-- the pair was not copied: nothing was to be copied_matrix
 pub not-both : {A : Type 0} (b : Bool) → b ≡ true → b ≡ false → A
 not-both b e f = let g : true ≡ false = sym e ∙ f in cc
 
@@ -43,7 +43,7 @@ and_false false = refl
 pub both-listed : (foot : Footprint) (s t : ℕ) → has s (keys (sources foot)) ≡ true → has t (keys (targets foot)) ≡ true → is_copied foot s t ≡ true
 both-listed foot s t hs ht = ap₂ (λ a b. a && b) hs ht
 
-pub same-kept : (v : StoredBlocks) (foot : Footprint) (s t : ℕ) → is_copied foot s t ≡ true → IsKept v foot s t → IsSameAt v foot s t
+pub same-kept : (v : StoredBlocks) (foot : Footprint) (s t : ℕ) → is_copied foot s t ≡ true → IsAsCopied v foot s t → IsSameAt v foot s t
 same-kept v foot s t e k = record { copied = λ _. k; others = λ f _. not-both (is_copied foot s t) e f }
 
 -- a stretch of the first cells is that of all
@@ -109,7 +109,7 @@ least-first c m ls r low first k h = elim (cell-of c ls k h) [
       omega (arith, first start, get_or-map (λ l. l.0) ls 0 (0, 0) 0 start, rising_le (keys ls) r 0 p.at (omega arith) p.inside, p.is)
 ]
 
--- cells that are kept up to a place of a list
+-- cells that are copied_matrix up to a place of a list
 pub each-kept : (there all : List ℕ) → ((i : ℕ) → i < length there → has (get_or there i 0) all ≡ true) → (c : ℕ) → has c there ≡ true → has c all ≡ true
 each-kept there all h c m = let p = place_of there c m in subst (λ k. has k all ≡ true) p.is (h p.at p.inside)
 
@@ -294,7 +294,7 @@ module _ (v : StoredBlocks) (foot : Footprint) where
   Same = IsSameAt v foot
 
   pub kept-at : (s t : ℕ) (a b : Bool) → eqb s foot.x ≡ a → eqb t foot.y ≡ b
-      → kept foot s t ≡ cond a (cond b (matrix_of foot.pivot) (segment foot.below (matrix_of foot.column) t))
+      → copied_matrix foot s t ≡ cond a (cond b (matrix_of foot.pivot) (segment foot.below (matrix_of foot.column) t))
       (cond b (columns_of foot.left (matrix_of foot.row) s) (part foot.left foot.below (matrix_of foot.corners) s t))
   kept-at s t a b e f =
       ap₂ (λ a b. cond a (cond b (matrix_of foot.pivot) (segment foot.below (matrix_of foot.column) t))
@@ -317,7 +317,7 @@ module _ (v : StoredBlocks) (foot : Footprint) where
     pub copied : is_copied foot s t ≡ true
     pub from : IsLiveAs v.live (sources foot) s
     pub to : IsLiveAs v.live (targets foot) t
-    pub part_is : part ls bs A s t ≡ kept foot s t
+    pub part_is : part ls bs A s t ≡ copied_matrix foot s t
 
   abbrev Within : List (ℕ × ℕ) → List (ℕ × ℕ) → ℕ → ℕ → Type 0
   Within ls bs s t = (has s (keys ls) ≡ true) × (has t (keys bs) ≡ true)
@@ -567,17 +567,17 @@ module _ (v : StoredBlocks) (foot : Footprint) where
   ]
 
   -- nothing stands at a pair that was not copied, if each block beside it was
-  not-gained : (s t : ℕ) → is_copied foot s t ≡ false → (is_some (held v s t) ≡ true → is_copied foot s t ≡ true) → Same s t
+  not-gained : (s t : ℕ) → is_copied foot s t ≡ false → (is_some (block_at v s t) ≡ true → is_copied foot s t ≡ true) → Same s t
   not-gained s t e h = record {
     copied = λ f. not-both (is_copied foot s t) f e;
-    others = λ _ _. elim (cases_Bool (is_some (held v s t))) [
+    others = λ _ _. elim (cases_Bool (is_some (block_at v s t))) [
       | inl f ↦ not-both (is_copied foot s t) (h f) e
       | inr f ↦ f
     ];
   }
 
-  gained : (s t : ℕ) → is_copied foot s t ≡ false → IsBeside v foot s t → is_some (held v s t) ≡ true → Same s t → ⊥
-  gained s t e beside h same = not-both (is_some (held v s t)) h (same.others e beside)
+  gained : (s t : ℕ) → is_copied foot s t ≡ false → IsBeside v foot s t → is_some (block_at v s t) ≡ true → Same s t → ⊥
+  gained s t e beside h same = not-both (is_some (block_at v s t)) h (same.others e beside)
 
   -- pairs with y, and pairs with x, that were not copied
   abbrev pub Beside_y : ℕ → ℕ → Type 0
@@ -588,14 +588,14 @@ module _ (v : StoredBlocks) (foot : Footprint) where
 
   -- blocks beside x and y that were not copied
   module _ (x_live : has foot.x (cells v.live) ≡ true) (y_live : has foot.y (cells v.live) ≡ true) where
-    found-gained_from : (there : List ℕ) (o : Option ℕ) (r : Option (ℕ × ℕ)) → ((s : ℕ) → has s there ≡ is_some (held v s foot.y))
+    found-gained_from : (there : List ℕ) (o : Option ℕ) (r : Option (ℕ × ℕ)) → ((s : ℕ) → has s there ≡ is_some (block_at v s foot.y))
         → FoundUnlisted there (keys (sources foot)) o
         → r ≡ option_map (λ s. (s, foot.y)) o → Found Same Beside_y r
     found-gained_from there o r are f e = subst (Found Same Beside_y) (sym e) (go o f)
       where
         same : (s t : ℕ) → Beside_y s t → (has s there ≡ true → has s (keys (sources foot)) ≡ true) → Same s t
         same s t h listed = not-gained s t h.0 (λ f.
-            both-listed foot s t (listed (are s ∙ ap (λ t. is_some (held v s t)) (sym h.1) ∙ f))
+            both-listed foot s t (listed (are s ∙ ap (λ t. is_some (block_at v s t)) (sym h.1) ∙ f))
             (ap (λ t. has t (keys (targets foot))) h.1 ∙ listed-one v.live foot.y foot.pivot.rows foot.below foot.parts.below_rises foot.parts.without_y))
 
         go : (o : Option ℕ) → FoundUnlisted there (keys (sources foot)) o
@@ -606,7 +606,7 @@ module _ (v : StoredBlocks) (foot : Footprint) where
           λ s t h l. same s t h (λ m. first.2 s m (elim l [ inl u ↦ u | inr u ↦ absurd (omega (arith, u.1, h.1)) ])),
         )
 
-    found-gained_to : (there : List ℕ) (o : Option ℕ) (r : Option (ℕ × ℕ)) → ((t : ℕ) → has t there ≡ is_some (held v foot.x t))
+    found-gained_to : (there : List ℕ) (o : Option ℕ) (r : Option (ℕ × ℕ)) → ((t : ℕ) → has t there ≡ is_some (block_at v foot.x t))
         → FoundUnlisted there (keys (targets foot)) o
         → r ≡ option_map (λ t. (foot.x, t)) o → Found Same Beside_x r
     found-gained_to there o r are f e = subst (Found Same Beside_x) (sym e) (go o f)
@@ -615,7 +615,7 @@ module _ (v : StoredBlocks) (foot : Footprint) where
         same s t h listed = not-gained s t h.0 (λ f.
             both-listed foot s t
             (ap (λ s. has s (keys (sources foot))) h.1 ∙ listed-one v.live foot.x foot.pivot.cols foot.left foot.parts.left_rises foot.parts.without_x)
-            (listed (are t ∙ ap (λ s. is_some (held v s t)) (sym h.1) ∙ f)))
+            (listed (are t ∙ ap (λ s. is_some (block_at v s t)) (sym h.1) ∙ f)))
 
         go : (o : Option ℕ) → FoundUnlisted there (keys (targets foot)) o
             → Found Same Beside_x (option_map (λ t. (foot.x, t)) o)
@@ -626,8 +626,8 @@ module _ (v : StoredBlocks) (foot : Footprint) where
         )
 
     -- the first of them
-    pub found-gained : (left below : List (ℕ × ℕ)) → left ≡ foot.left → below ≡ foot.below → (row column : List ℕ) → ((s : ℕ) → has s row ≡ is_some (held v s foot.y))
-        → ((t : ℕ) → has t column ≡ is_some (held v foot.x t)) → (from to : Option ℕ) → FoundUnlisted row (foot.x ∷ keys left) from → FoundUnlisted column (foot.y ∷ keys below) to
+    pub found-gained : (left below : List (ℕ × ℕ)) → left ≡ foot.left → below ≡ foot.below → (row column : List ℕ) → ((s : ℕ) → has s row ≡ is_some (block_at v s foot.y))
+        → ((t : ℕ) → has t column ≡ is_some (block_at v foot.x t)) → (from to : Option ℕ) → FoundUnlisted row (foot.x ∷ keys left) from → FoundUnlisted column (foot.y ∷ keys below) to
         → (p q r : Option (ℕ × ℕ)) → p ≡ option_map (λ s. (s, foot.y)) from → q ≡ option_map (λ t. (foot.x, t)) to → IsEarlier p q r → Found Same (IsGained v foot) r
     found-gained left below is_left is_below row column in_row in_column from to f g p q r e h i =
         found-within Same (λ s t. Beside_y s t ⊎ Beside_x s t) (IsGained v foot) r (λ s t h. elim h.1.beside [ inl a ↦ inr (h.0, a) | inr b ↦ inl (h.0, b) ])

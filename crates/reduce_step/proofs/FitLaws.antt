@@ -11,16 +11,16 @@ use Rattle.dense_blocks.specs.Blocks.{matrix_of}
 use Rattle.dense_blocks.proofs.ScalarLaws.{one_below}
 use Rattle.dense_blocks.proofs.Shapes.{from_vector}
 use Rattle.dense_blocks.proofs.VectorLaws.{zeros-vector}
-use Rattle.dense_blocks.proofs.MatrixLaws.{zero_matrix-matrix, zero_matrix-applied}
+use Rattle.dense_blocks.proofs.MatrixLaws.{zero_matrix-matrix, zero_matrix-image_of}
 use Rattle.dense_blocks.proofs.InverseLaws.{kernel-no_inverse}
 use Rattle.rising_lists.specs.Rising.{has, keys}
 use Rattle.block_complexes.specs.BlockComplexes.{size_of}
-use Rattle.block_sparse.specs.StoredBlocks.{StoredBlocks, held, is_zero, matrix, AreLive}
+use Rattle.block_sparse.specs.StoredBlocks.{StoredBlocks, block_at, is_zero, matrix, AreLive}
 use Rattle.block_sparse.specs.Grids.{segment, part, columns_of, IsJoined}
-use Rattle.block_sparse.proofs.ScalarBlocks.{matrix-none, not-held}
+use Rattle.block_sparse.proofs.ScalarBlocks.{matrix-none, not-block_at}
 use Rattle.reduce_step.specs.declared.footprint.Footprint.{Footprint}
 use Rattle.reduce_step.specs.Footprints.{IsFootprint}
-use Rattle.reduce_step.specs.Differences.{sources, targets, Fits, IsKept, IsSized}
+use Rattle.reduce_step.specs.Differences.{sources, targets, Fits, IsAsCopied, IsSized}
 use Rattle.reduce_step.proofs.PartLaws.{row-part, column-part}
 use Rattle.reduce_step.proofs.DifferenceLaws.{not-both, and_false, live-size, both-listed, listed-one, listed-too, sized-one, all-sized, one-of, kept-at, not_x, not_y}
 
@@ -33,11 +33,11 @@ zero_matrix-zero zero n = refl
 zero_matrix-zero (suc m) n = ap₂ (λ a b. a && b) (zeros-zero n) (zero_matrix-zero m n)
 
 -- a matrix that is not zero is that of a block
-nonzero-held : (K : Ops) (v : StoredBlocks) (s t : ℕ) → is_zero (matrix v s t) ≡ false → is_some (held v s t) ≡ true
-nonzero-held K v s t e = elim (cases_Bool (is_some (held v s t))) [
+nonzero-block_at : (K : Ops) (v : StoredBlocks) (s t : ℕ) → is_zero (matrix v s t) ≡ false → is_some (block_at v s t) ≡ true
+nonzero-block_at K v s t e = elim (cases_Bool (is_some (block_at v s t))) [
   | inl h ↦ h
   | inr n ↦ not-both (is_zero (matrix v s t))
-      (ap is_zero (matrix-none K v s t (not-held (held v s t) n)) ∙ zero_matrix-zero (size_of v.live t) (size_of v.live s)) e
+      (ap is_zero (matrix-none K v s t (not-block_at (block_at v s t) n)) ∙ zero_matrix-zero (size_of v.live t) (size_of v.live s)) e
 ]
 
 -- a zero matrix has no inverse
@@ -48,7 +48,7 @@ zero-no_inverse K F (suc n) B l inverse =
     kernel-no_inverse K F (suc n) (zero_matrix (suc n) (suc n)) (zero_matrix-matrix K F (suc n) (suc n)) v B (record {
       vector = from_vector K (suc n) v (one_below K F, zeros-vector K F n);
       not_zero = λ e. let same : ◌≡◌ {A = ℕ} 1 0 = ap (λ t. get_or t 0 0) e in omega arith;
-      zero = zero_matrix-applied K F (suc n) (suc n) v;
+      zero = zero_matrix-image_of K F (suc n) (suc n) v;
     }) inverse
 
 -- the listed cells are those with a block but one
@@ -75,7 +75,7 @@ module _ (K : Ops) (v : StoredBlocks) (foot : Footprint) (fits : Fits v foot) wh
   y-target : has foot.y (keys (targets foot)) ≡ true
   y-target = listed-one v.live foot.y foot.pivot.rows foot.below foot.parts.below_rises foot.parts.without_y
 
-  kept-pair : (s t : ℕ) → has s (keys (sources foot)) ≡ true → has t (keys (targets foot)) ≡ true → IsKept v foot s t
+  kept-pair : (s t : ℕ) → has s (keys (sources foot)) ≡ true → has t (keys (targets foot)) ≡ true → IsAsCopied v foot s t
   kept-pair s t hs ht = (fits s t).copied (both-listed foot s t hs ht)
 
   x-sized : IsSized v.live foot.x foot.pivot.cols
@@ -101,11 +101,11 @@ module _ (K : Ops) (v : StoredBlocks) (foot : Footprint) (fits : Fits v foot) wh
   fit-footprint = record {
     from = refl;
     to = refl;
-    left = others-are foot.x foot.left (λ s. is_some (held v s foot.y)) foot.parts.without_x
-        (λ s h. nonzero-held K v s foot.y (ap is_zero (row-is s h) ∙ foot.parts.row_blocks s h))
+    left = others-are foot.x foot.left (λ s. is_some (block_at v s foot.y)) foot.parts.without_x
+        (λ s h. nonzero-block_at K v s foot.y (ap is_zero (row-is s h) ∙ foot.parts.row_blocks s h))
         (λ s n. (fits s foot.y).others (ap (λ b. b && has foot.y (keys (targets foot))) n) (record { from = x-sized.0; to = y-sized.0; beside = inr refl }));
-    below = others-are foot.y foot.below (λ t. is_some (held v foot.x t)) foot.parts.without_y
-        (λ t h. nonzero-held K v foot.x t (ap is_zero (column-is t h) ∙ foot.parts.column_blocks t h))
+    below = others-are foot.y foot.below (λ t. is_some (block_at v foot.x t)) foot.parts.without_y
+        (λ t h. nonzero-block_at K v foot.x t (ap is_zero (column-is t h) ∙ foot.parts.column_blocks t h))
         (λ t n. (fits foot.x t).others (ap (λ b. has foot.x (keys (sources foot)) && b) n ∙ and_false (has foot.x (keys (sources foot))))
         (record { from = x-sized.0; to = y-sized.0; beside = inl refl }));
     left_sized = all-sized v.live foot.x foot.pivot.cols foot.left foot.parts.left_rises foot.parts.without_x (λ s h. (kept-pair s foot.y (source s h) y-target).from);
@@ -122,12 +122,12 @@ module _ (K : Ops) (v : StoredBlocks) (foot : Footprint) (fits : Fits v foot) wh
   }
 
   -- a pivot with an inverse stands
-  pub fit-stands : (F : IsField K) (B : List (List ℕ)) → AreLive v.live → IsInverse K foot.pivot.rows (matrix_of foot.pivot) B → is_some (held v foot.x foot.y) ≡ true
-  fit-stands F B live inverse = elim (cases_Bool (is_some (held v foot.x foot.y))) [
+  pub fit-stands : (F : IsField K) (B : List (List ℕ)) → AreLive v.live → IsInverse K foot.pivot.rows (matrix_of foot.pivot) B → is_some (block_at v foot.x foot.y) ≡ true
+  fit-stands F B live inverse = elim (cases_Bool (is_some (block_at v foot.x foot.y))) [
     | inl h ↦ h
     | inr n ↦
         let k : ℕ = foot.pivot.rows in
         let zero_pivot : matrix_of foot.pivot ≡ zero_matrix k k =
-        sym pivot-is ∙ matrix-none K v foot.x foot.y (not-held (held v foot.x foot.y) n) ∙ ap₂ zero_matrix y-sized.1 (x-sized.1 ∙ sym foot.parts.square) in
+        sym pivot-is ∙ matrix-none K v foot.x foot.y (not-block_at (block_at v foot.x foot.y) n) ∙ ap₂ zero_matrix y-sized.1 (x-sized.1 ∙ sym foot.parts.square) in
         absurd (zero-no_inverse K F k B (omega (arith, live-size v.live foot.y live y-sized.0, y-sized.1)) (subst (λ A. IsInverse K k A B) zero_pivot inverse))
   ]

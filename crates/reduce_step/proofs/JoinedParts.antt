@@ -6,7 +6,7 @@ use Rattle.std.proofs.lemmas.List.{take-map, drop-map, take_all}
 use Rattle.std.proofs.lemmas.List.Elements.{All-head, All-tail}
 use Rattle.std.proofs.Math.Seq.{take-append_seam, drop-append_seam}
 use Rattle.dense_blocks.specs.Field.{Ops}
-use Rattle.dense_blocks.specs.Vectors.{zeros, plus, negative, scaled, combination}
+use Rattle.dense_blocks.specs.Vectors.{zeros, plus, negative, multiple, combination}
 use Rattle.dense_blocks.specs.Matrices.{product, matrix_sum, matrix_negative}
 use Rattle.dense_blocks.proofs.VectorLaws.{nil-plus, plus-nil, zeros-append, zeros-size}
 use Rattle.dense_blocks.proofs.Cutting.{Sized, sized-size}
@@ -97,7 +97,7 @@ module _ (K : Ops) where
   segment-combination left [] B s = segment-zeros left s
   segment-combination left (c ∷ cs) [] s = segment-zeros left s
   segment-combination left (c ∷ cs) (b ∷ B) s =
-      segment-plus left (scaled K c b) (combination K (width left) cs B) s
+      segment-plus left (multiple K c b) (combination K (width left) cs B) s
       ∙ ap₂ (plus K) (segment-map (K.mul c) left b s) (segment-combination left cs B s)
 
   pub columns-product : (left : List (ℕ × ℕ)) (A B : List (List ℕ)) (s : ℕ)

@@ -3,7 +3,7 @@ use Rattle.std.specs.Prelude.{◌≡◌, ◌==◌, ◌&&◌, ◌<◌, ◌≤◌,
 use Rattle.dense_blocks.specs.Blocks.{matrix_of}
 use Rattle.rising_lists.specs.Rising.{has, keys}
 use Rattle.block_complexes.specs.BlockComplexes.{cells, size_of}
-use Rattle.block_sparse.specs.StoredBlocks.{StoredBlocks, held, matrix}
+use Rattle.block_sparse.specs.StoredBlocks.{StoredBlocks, block_at, matrix}
 use Rattle.block_sparse.specs.Grids.{segment, part, columns_of}
 use Rattle.reduce_step.specs.declared.footprint.Footprint.{Footprint}
 
@@ -19,8 +19,8 @@ abbrev pub is_copied : Footprint → ℕ → ℕ → Bool
 is_copied foot s t = has s (keys (sources foot)) && has t (keys (targets foot))
 
 -- the matrix that was copied of a pair
-abbrev pub kept : Footprint → ℕ → ℕ → List (List ℕ)
-kept foot s t =
+abbrev pub copied_matrix : Footprint → ℕ → ℕ → List (List ℕ)
+copied_matrix foot s t =
     if s == foot.x then (if t == foot.y then matrix_of foot.pivot else segment foot.below (matrix_of foot.column) t)
     else (if t == foot.y then columns_of foot.left (matrix_of foot.row) s else part foot.left foot.below (matrix_of foot.corners) s t)
 
@@ -38,10 +38,10 @@ abbrev pub IsLiveAs : List (ℕ × ℕ × ℕ) → List (ℕ × ℕ) → ℕ →
 IsLiveAs live listed c = IsSized live c (listed_size listed c)
 
 -- both cells are live with their sizes, and the matrix is the one that was copied
-pub record IsKept (v : StoredBlocks) (foot : Footprint) (s t : ℕ) : Type 0 where
+pub record IsAsCopied (v : StoredBlocks) (foot : Footprint) (s t : ℕ) : Type 0 where
   pub from : IsLiveAs v.live (sources foot) s
   pub to : IsLiveAs v.live (targets foot) t
-  pub matrix_is : matrix v s t ≡ kept foot s t
+  pub matrix_is : matrix v s t ≡ copied_matrix foot s t
 
 -- x and y are live, and the pair is of a cell with y, or of x with a cell
 pub record IsBeside (v : StoredBlocks) (foot : Footprint) (s t : ℕ) : Type 0 where
@@ -49,12 +49,12 @@ pub record IsBeside (v : StoredBlocks) (foot : Footprint) (s t : ℕ) : Type 0 w
   pub to : has foot.y (cells v.live) ≡ true
   pub beside : (s ≡ foot.x) ⊎ (t ≡ foot.y)
 
--- at the pair nothing differs: what was copied is kept; beside x and y no block stands that was not copied
+-- at the pair nothing differs: what was copied is copied_matrix; beside x and y no block stands that was not copied
 pub record IsSameAt (v : StoredBlocks) (foot : Footprint) (s t : ℕ) : Type 0 where
-  pub copied : is_copied foot s t ≡ true → IsKept v foot s t
-  pub others : is_copied foot s t ≡ false → IsBeside v foot s t → is_some (held v s t) ≡ false
+  pub copied : is_copied foot s t ≡ true → IsAsCopied v foot s t
+  pub others : is_copied foot s t ≡ false → IsBeside v foot s t → is_some (block_at v s t) ≡ false
 
--- nothing differs from what was kept
+-- nothing differs from what was copied_matrix
 abbrev pub Fits : StoredBlocks → Footprint → Type 0
 Fits v foot = (s t : ℕ) → IsSameAt v foot s t
 

@@ -5,7 +5,7 @@ use Rattle.dense_blocks.specs.Vectors.{AllScalars}
 use Rattle.dense_blocks.specs.Blocks.{matrix_of}
 use Rattle.rising_lists.specs.Rising.{has, keys}
 use Rattle.block_complexes.specs.BlockComplexes.{size_of}
-use Rattle.block_sparse.specs.StoredBlocks.{StoredBlocks, held, matrix}
+use Rattle.block_sparse.specs.StoredBlocks.{StoredBlocks, block_at, matrix}
 use Rattle.block_sparse.specs.Grids.{AreSized, IsJoined}
 use Rattle.reduce_step.specs.declared.footprint.Footprint.{Footprint}
 
@@ -15,8 +15,8 @@ use Rattle.reduce_step.specs.declared.footprint.Footprint.{Footprint}
 pub record IsFootprint (v : StoredBlocks) (x y : ℕ) (foot : Footprint) : Type 0 where
   pub from : foot.x ≡ x
   pub to : foot.y ≡ y
-  pub left : (s : ℕ) → has s (keys foot.left) ≡ (is_some (held v s y) && not (s == x))
-  pub below : (t : ℕ) → has t (keys foot.below) ≡ (is_some (held v x t) && not (t == y))
+  pub left : (s : ℕ) → has s (keys foot.left) ≡ (is_some (block_at v s y) && not (s == x))
+  pub below : (t : ℕ) → has t (keys foot.below) ≡ (is_some (block_at v x t) && not (t == y))
   pub left_sized : AreSized v.live foot.left
   pub below_sized : AreSized v.live foot.below
   pub pivot : matrix_of foot.pivot ≡ matrix v x y

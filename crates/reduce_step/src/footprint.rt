@@ -1,9 +1,9 @@
 ghost use Rattle.std.specs.Prelude.{◌≡◌, ◌∷◌, [], true, is_some, IfOk};
 ghost use Rattle.rising_lists.specs.Rising.{IsRising, keys};
 ghost use Rattle.block_complexes.specs.BlockComplexes.{size_of};
-ghost use Rattle.block_sparse.specs.StoredBlocks.{StandsAt, held, complex_in};
+ghost use Rattle.block_sparse.specs.StoredBlocks.{StandsAt, block_at, complex_in};
 ghost use Rattle.block_sparse.specs.Grids.{AreSized, width};
-ghost use Rattle.reduce_step.specs.Parts.{AreParts, IsJoinedBlock, sized_others};
+ghost use Rattle.reduce_step.specs.Parts.{AreFootprintParts, IsJoinedBlock, sized_others};
 
 use block_grids::grid;
 use block_sparse::Blocks;
@@ -33,7 +33,7 @@ pub struct Footprint {
     pub column: Block,
     /// The joined matrix of the blocks from the cells on the left to those below, zeros where none stands.
     pub corners: Block,
-    pub ghost parts: { AreParts x y left below pivot row column },
+    pub ghost parts: { AreFootprintParts x y left below pivot row column },
     pub ghost corner_cols: { corners.cols ≡ width left },
     pub ghost corner_rows: { corners.rows ≡ width below },
 }
@@ -49,7 +49,7 @@ impl Footprint {
     /// Takes one search for each block of row `y` and of column `x`, then one step for each block in the rows of the cells below, for
     /// each pair of a cell on the left and a cell below, and for each entry copied. Fails only where memory does.
     pub fn copy(alloc: Global, b: &Blocks, x: u32, y: u32) -> Result<Footprint, NoMemory>
-        requires stands { is_some (held b.now x y) ≡ true }
+        requires stands { is_some (block_at b.now x y) ≡ true }
         requires square { size_of b.now.live y ≡ size_of b.now.live x }
         ensures copied { IfOk result (IsFootprint b.now x y) }
         ensures over { IfOk result (λ foot. (K : Ops) → IsBlockComplex K (complex_in b.now) → IsOverField K foot) }
@@ -115,7 +115,7 @@ fn one(alloc: Global, b: &Blocks, c: u32) -> Result<Listed<(u32, u8)>, NoMemory>
 
 /// A copy of the block that stands at a pair.
 fn pivot(alloc: Global, b: &Blocks, x: u32, y: u32) -> Result<Block, NoMemory>
-    requires { is_some (held b.now x y) ≡ true }
+    requires { is_some (block_at b.now x y) ≡ true }
     ensures { IfOk result (StandsAt b.now x y) }
 {
     let block = b.get(x, y).unwrap();

@@ -1,4 +1,4 @@
-ghost use Rattle.reduce_step.specs.Parts.{AreParts};
+ghost use Rattle.reduce_step.specs.Parts.{AreFootprintParts};
 
 use crate::footprint::Footprint;
 use dense_blocks::{Block, Listed, Scalars};
@@ -48,5 +48,5 @@ pub struct Step {
     pub row: Block,
     /// The joined matrix of the blocks from `x` to the cells below.
     pub column: Block,
-    pub ghost parts: { AreParts x y left below pivot row column },
+    pub ghost parts: { AreFootprintParts x y left below pivot row column },
 }

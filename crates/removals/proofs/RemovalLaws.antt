@@ -5,10 +5,10 @@ use Rattle.std.proofs.lemmas.Bool.{and_parts, eqb-true}
 use Rattle.std.proofs.lemmas.List.Elements.{All-filter}
 use Rattle.dense_blocks.specs.Field.{Ops, IsField}
 use Rattle.dense_blocks.specs.Vectors.{zeros, plus, negative}
-use Rattle.dense_blocks.specs.Matrices.{IsMatrix, applied, product, zero_matrix}
+use Rattle.dense_blocks.specs.Matrices.{IsMatrix, image_of, product, zero_matrix}
 use Rattle.dense_blocks.proofs.Shapes.{Vector, Matrix, from_matrix}
 use Rattle.dense_blocks.proofs.VectorLaws.{plus-vector, negative-vector, plus-negative, negative-plus, negative-negative, negative-zeros, negative-unique, zeros-plus-zeros}
-use Rattle.dense_blocks.proofs.MatrixLaws.{applied-vector, applied-plus, applied-negative, applied-zeros, applied-inverse, inverse-applied}
+use Rattle.dense_blocks.proofs.MatrixLaws.{image_of-vector, image_of-plus, image_of-negative, image_of-zeros, image_of-inverse, inverse-image_of}
 use Rattle.cochain_vec.proofs.PathLaws.{sum_over, sum_over-vector, sum_over-same, sum_over-plus}
 use Rattle.rising_lists.specs.Rising.{IsRising, has}
 use Rattle.block_complexes.specs.BlockComplexes.{BlockComplex, AreBothLive, IsBlockComplex, cells, degree_of, size_of}
@@ -20,8 +20,8 @@ use Rattle.block_complexes.proofs.ComplexLaws.{differential_is_cochain_complex}
 use Rattle.removals.specs.Removals.{IsRemoval, corner, is_corner}
 use Rattle.removals.specs.Laws.{RemovalKeepsBlockComplex, RemovalKeepsDifferential, RemovalKeepsCochainComplex}
 use Rattle.removals.proofs.SameRemovals.{removal-same-before}
-use Rattle.block_complexes.proofs.Sums.{is_other, sum_over-equal, sum_over-negative, applied-sum_over, sum_over-apart}
-use Rattle.removals.proofs.CornerLaws.{cells-without, has-without, of_cell-without, without-twice, inverse-shape, left-shape, left-applied}
+use Rattle.block_complexes.proofs.Sums.{is_other, sum_over-equal, sum_over-negative, image_of-sum_over, sum_over-apart}
+use Rattle.removals.proofs.CornerLaws.{cells-without, has-without, of_cell-without, without-twice, inverse-shape, left-shape, left-image_of}
 use Rattle.block_complexes.proofs.DifferentialLaws.{between-zero, zero-between}
 
 module _ (K : Ops) (F : IsField K) (v : BlockComplex) (full : IsFull K v)
@@ -53,50 +53,50 @@ module _ (K : Ops) (F : IsField K) (v : BlockComplex) (full : IsFull K v)
   a-shape : Matrix K (size x) (size y) a
   a-shape = inverse-shape K F v full x y a w removal
 
-  applied-shape : (s t : ℕ) (z : List ℕ) → Vector K (size t) (applied K (M s t) z)
-  applied-shape s t z = applied-vector K F (size t) (size s) (M s t) z (M-shape s t)
+  image_of-shape : (s t : ℕ) (z : List ℕ) → Vector K (size t) (image_of K (M s t) z)
+  image_of-shape s t z = image_of-vector K F (size t) (size s) (M s t) z (M-shape s t)
 
   module _ (closed : IsDifferential K v) (s : ℕ) (hs : IsLeft s) (z : List ℕ) where
     -- what z becomes at x, and then at each cell of what is left
     abbrev back : List ℕ
-    back = applied K a (applied K (M s y) z)
+    back = image_of K a (image_of K (M s y) z)
 
     abbrev away : ℕ → List ℕ
-    away t = applied K (M x t) back
+    away t = image_of K (M x t) back
 
     abbrev value : ℕ → List ℕ
-    value t = plus K (applied K (M s t) z) (negative K (away t))
+    value t = plus K (image_of K (M s t) z) (negative K (away t))
 
     value-vector : (t : ℕ) → Vector K (size t) (value t)
     value-vector t =
-        plus-vector K F (size t) (applied K (M s t) z) (negative K (away t)) (applied-shape s t z)
-        (negative-vector K F (size t) (away t) (applied-shape x t back))
+        plus-vector K F (size t) (image_of K (M s t) z) (negative K (away t)) (image_of-shape s t z)
+        (negative-vector K F (size t) (away t) (image_of-shape x t back))
 
     value-at_y : value y ≡ zeros (size y)
     value-at_y =
-        let here : List ℕ = applied K (M s y) z in
+        let here : List ℕ = image_of K (M s y) z in
         ap (λ u. plus K here (negative K u))
-        (applied-inverse K F (size x) (M x y) a here removal.inverse (subst (λ n. Vector K n here) removal.square (applied-shape s y z)))
-        ∙ plus-negative K F (size y) here (applied-shape s y z)
+        (image_of-inverse K F (size x) (M x y) a here removal.inverse (subst (λ n. Vector K n here) removal.square (image_of-shape s y z)))
+        ∙ plus-negative K F (size y) here (image_of-shape s y z)
 
     abbrev onward : ℕ → ℕ → List ℕ
-    onward q t = applied K (M t q) (value t)
+    onward q t = image_of K (M t q) (value t)
 
     -- the sum over all live cells is zero
     onward-zero : (q : ℕ) → IsLive q → sum_over K (size q) (onward q) (cells v.live) ≡ zeros (size q)
     onward-zero q hq =
         let n = size q in
-        let first : ℕ → List ℕ = λ t. applied K (M t q) (applied K (M s t) z) in
-        let second : ℕ → List ℕ = λ t. applied K (M t q) (applied K (M x t) back) in
+        let first : ℕ → List ℕ = λ t. image_of K (M t q) (image_of K (M s t) z) in
+        let second : ℕ → List ℕ = λ t. image_of K (M t q) (image_of K (M x t) back) in
         sum_over-same K F n (onward q) (λ t. plus K (first t) (negative K (second t))) (cells v.live)
-        (λ t. applied-plus K F (size t) (M t q) (applied K (M s t) z) (negative K (away t)) (applied-shape s t z) (negative-vector K F (size t) (away t) (applied-shape x t back))
-        ∙ ap (plus K (first t)) (applied-negative K F (M t q) (away t)))
+        (λ t. image_of-plus K F (size t) (M t q) (image_of K (M s t) z) (negative K (away t)) (image_of-shape s t z) (negative-vector K F (size t) (away t) (image_of-shape x t back))
+        ∙ ap (plus K (first t)) (image_of-negative K F (M t q) (away t)))
         ∙ sum_over-plus K F n first (λ t. negative K (second t)) (cells v.live)
         ∙ ap₂ (plus K) (through-zero s (left-live s hs).0 z)
         (sum_over-negative K F n second (cells v.live) ∙ ap (negative K) (through-zero x removal.pair.from back) ∙ negative-zeros K F n)
         ∙ zeros-plus-zeros K F n
       where
-        through-zero : (p : ℕ) → IsLive p → (r : List ℕ) → sum_over K (size q) (λ t. applied K (M t q) (applied K (M p t) r)) (cells v.live) ≡ zeros (size q)
+        through-zero : (p : ℕ) → IsLive p → (r : List ℕ) → sum_over K (size q) (λ t. image_of K (M t q) (image_of K (M p t) r)) (cells v.live) ≡ zeros (size q)
         through-zero p hp r =
             between-zero K F size M (cells v.live) (λ s t hs ht. M-shape s t) p q hp hq (closed p q (record { from = hp; to = hq })) r
 
@@ -104,40 +104,40 @@ module _ (K : Ops) (F : IsField K) (v : BlockComplex) (full : IsFull K v)
     onward-left : (q : ℕ) → IsLive q → sum_over K (size q) (onward q) (cells w.live) ≡ negative K (onward q x)
     onward-left q hq =
         let n = size q in
-        let term-vector : (t : ℕ) → Vector K n (onward q t) = λ t. applied-shape t q (value t) in
-        let none : onward q y ≡ zeros n = ap (applied K (M y q)) value-at_y ∙ applied-zeros K F (size y) n (size y) (M y q) (M-shape y q) in
+        let term-vector : (t : ℕ) → Vector K n (onward q t) = λ t. image_of-shape t q (value t) in
+        let none : onward q y ≡ zeros n = ap (image_of K (M y q)) value-at_y ∙ image_of-zeros K F (size y) n (size y) (M y q) (M-shape y q) in
         negative-unique K F n (onward q x) (sum_over K n (onward q) (cells w.live)) (term-vector x) (sum_over-vector K F n (onward q) (cells w.live) term-vector)
         (ap (λ ks. plus K (onward q x) (sum_over K n (onward q) ks)) cells-left
         ∙ sym (sum_over-apart K F n (onward q) term-vector x y none (cells v.live) full.rising removal.pair.from)
         ∙ onward-zero q hq)
 
     -- what the corners take away from the sum is just that
-    taken-left : (u : ℕ) → sum_over K (size u) (λ t. negative K (applied K (M x u) (applied K a (onward y t)))) (cells w.live) ≡ onward u x
+    taken-left : (u : ℕ) → sum_over K (size u) (λ t. negative K (image_of K (M x u) (image_of K a (onward y t)))) (cells w.live) ≡ onward u x
     taken-left u =
         let n = size u in
-        let term-vector : (t : ℕ) → Vector K (size y) (onward y t) = λ t. applied-shape t y (value t) in
+        let term-vector : (t : ℕ) → Vector K (size y) (onward y t) = λ t. image_of-shape t y (value t) in
         let xy : Matrix K (size x) (size x) (M x y) = subst (λ n. Matrix K n (size x) (M x y)) removal.square (M-shape x y) in
-        sum_over-negative K F n (λ t. applied K (M x u) (applied K a (onward y t))) (cells w.live)
+        sum_over-negative K F n (λ t. image_of K (M x u) (image_of K a (onward y t))) (cells w.live)
         ∙ ap (negative K)
-        (sym (applied-sum_over K F (size x) n (M x u) (λ t. applied K a (onward y t)) (cells w.live) (M-shape x u) (λ t. applied-vector K F (size x) (size y) a (onward y t) a-shape))
-        ∙ ap (applied K (M x u))
-        (sym (applied-sum_over K F (size y) (size x) a (onward y) (cells w.live) a-shape term-vector)
-        ∙ ap (applied K a) (onward-left y removal.pair.to)
-        ∙ applied-negative K F a (onward y x)
-        ∙ ap (negative K) (inverse-applied K F (size x) (M x y) a (value x) xy removal.inverse (value-vector x)))
-        ∙ applied-negative K F (M x u) (value x))
-        ∙ negative-negative K F n (onward u x) (applied-shape x u (value x))
+        (sym (image_of-sum_over K F (size x) n (M x u) (λ t. image_of K a (onward y t)) (cells w.live) (M-shape x u) (λ t. image_of-vector K F (size x) (size y) a (onward y t) a-shape))
+        ∙ ap (image_of K (M x u))
+        (sym (image_of-sum_over K F (size y) (size x) a (onward y) (cells w.live) a-shape term-vector)
+        ∙ ap (image_of K a) (onward-left y removal.pair.to)
+        ∙ image_of-negative K F a (onward y x)
+        ∙ ap (negative K) (inverse-image_of K F (size x) (M x y) a (value x) xy removal.inverse (value-vector x)))
+        ∙ image_of-negative K F (M x u) (value x))
+        ∙ negative-negative K F n (onward u x) (image_of-shape x u (value x))
 
-    left-zero : (u : ℕ) → IsLeft u → sum_over K (size u) (λ t. applied K (w.matrix t u) (applied K (w.matrix s t) z)) (cells w.live) ≡ zeros (size u)
+    left-zero : (u : ℕ) → IsLeft u → sum_over K (size u) (λ t. image_of K (w.matrix t u) (image_of K (w.matrix s t) z)) (cells w.live) ≡ zeros (size u)
     left-zero u hu =
         let n = size u in
-        let taken : ℕ → List ℕ = λ t. negative K (applied K (M x u) (applied K a (onward y t))) in
-        sum_over-equal K F n (λ t. applied K (w.matrix t u) (applied K (w.matrix s t) z)) (λ t. plus K (onward u t) (taken t)) (cells w.live)
-        (λ t ht. ap (applied K (w.matrix t u)) (left-applied K F v full x y a w removal s t z hs ht)
-        ∙ left-applied K F v full x y a w removal t u (value t) ht hu)
+        let taken : ℕ → List ℕ = λ t. negative K (image_of K (M x u) (image_of K a (onward y t))) in
+        sum_over-equal K F n (λ t. image_of K (w.matrix t u) (image_of K (w.matrix s t) z)) (λ t. plus K (onward u t) (taken t)) (cells w.live)
+        (λ t ht. ap (image_of K (w.matrix t u)) (left-image_of K F v full x y a w removal s t z hs ht)
+        ∙ left-image_of K F v full x y a w removal t u (value t) ht hu)
         ∙ sum_over-plus K F n (onward u) taken (cells w.live)
         ∙ ap₂ (plus K) (onward-left u (left-live u hu).0) (taken-left u)
-        ∙ negative-plus K F n (onward u x) (applied-shape x u (value x))
+        ∙ negative-plus K F n (onward u x) (image_of-shape x u (value x))
 
   keeps_differential : IsDifferential K v → IsDifferential K w
   keeps_differential closed s u l =

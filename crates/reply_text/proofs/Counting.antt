@@ -3,8 +3,8 @@ use Rattle.std.proofs.Common.{◌≡◌, ℕ, ◌+◌, ◌<◌, length, take, ge
 use Rattle.std.proofs.Math.Seq.{take-suc}
 use Rattle.sheaf_words.specs.declared.happening.Event.{Event}
 use Rattle.reply_text.specs.declared.counts.Counts.{Counts}
-use Rattle.reply_text.specs.Transcripts.{ends_for, asks_for, is_accepted, standing, asked, asked_from}
-use Rattle.reply_text.specs.Counts.{Counted}
+use Rattle.reply_text.specs.Transcripts.{ends_for, asks_for, is_accepted, current_version, asked_version, asked_from}
+use Rattle.reply_text.specs.Counts.{IsCountOf}
 
 -- one more, counted
 abbrev step : {X : Type 0} → (X → Bool) → ℕ → X → ℕ
@@ -32,7 +32,7 @@ asked_from-more c n v (x ∷ events) event =
     counted false = omega arith
 
 pub asked-more : (c : ℕ) (events : List Event) (event : Event)
-    → asked c (events ++ event ∷ []) ≡ (if asks_for c event then standing events else asked c events)
+    → asked_version c (events ++ event ∷ []) ≡ (if asks_for c event then current_version events else asked_version c events)
 asked-more c events event = asked_from-more c 0 0 events event
 
 -- the counts after one event more
@@ -40,11 +40,11 @@ pub counted-more : (c : ℕ) (event : Event) (counts after : Counts) (a b : ℕ)
     → a ≡ (if ends_for c event then 1 else 0) → b ≡ (if is_accepted event then 1 else 0)
     → after.ended ≡ counts.ended + a → after.standing ≡ counts.standing + b
     → after.asked ≡ (if asks_for c event then counts.standing else counts.asked)
-    → (events : List Event) → Counted c events counts → Counted c (events ++ event ∷ []) after
-counted-more c event counts after a b ea eb ended standing asked events h = record {
+    → (events : List Event) → IsCountOf c events counts → IsCountOf c (events ++ event ∷ []) after
+counted-more c event counts after a b ea eb ended current_version asked_version events h = record {
   ended_is = ended ∙ ap₂ (λ x y. x + y) h.ended_is ea ∙ sym (count-more (ends_for c) events event);
-  standing_is = standing ∙ ap₂ (λ x y. x + y) h.standing_is eb ∙ sym (count-more is_accepted events event);
-  asked_is = asked ∙ ap₂ (λ x y. if asks_for c event then x else y) h.standing_is h.asked_is ∙ sym (asked-more c events event);
+  standing_is = current_version ∙ ap₂ (λ x y. x + y) h.standing_is eb ∙ sym (count-more is_accepted events event);
+  asked_is = asked_version ∙ ap₂ (λ x y. if asks_for c event then x else y) h.standing_is h.asked_is ∙ sym (asked-more c events event);
 }
 
 -- one more member of a list

@@ -12,10 +12,10 @@ use Rattle.sheaf_words.specs.declared.asking.Command.{Command}
 use Rattle.sheaf_words.specs.declared.happening.Event.{Event}
 use Rattle.sheaf_words.specs.declared.happening.Event.TheVariants.{Edit, Ask, Pair, Reply}
 use Rattle.reply_text.specs.Lines.{line_text, lines_text}
-use Rattle.reply_text.specs.Transcripts.{ends_for, ended, standing, is_accepted, number_of, version_named, answer_lines, event_lines, client_lines, client_part, clients_lines, client_of, order_lines, IfPresent, IsAnswered, IsOf, AreOf, AreAnswered}
+use Rattle.reply_text.specs.Transcripts.{ends_for, ended_count, current_version, is_accepted, command_number, version_named, answer_lines, event_lines, client_lines, client_part, clients_lines, client_of, order_lines, IfPresent, IsAnswered, IsOf, AreOf, AreAnswered}
 use Rattle.reply_text.specs.Events.{event_words}
 use Rattle.reply_text.specs.Replies.{reply_lines, IsAnswerTo}
-use Rattle.reply_text.specs.Counts.{Counted, AreCounted}
+use Rattle.reply_text.specs.Counts.{IsCountOf, AreCounted}
 use Rattle.reply_text.specs.declared.counts.Counts.{Counts}
 
 -- the lines of the client after one event more
@@ -41,19 +41,19 @@ written-more c script events i event start old new h more next =
     ∙ ap (λ text. start ++ text) (sym (flat_map-append line_text first last) ∙ ap lines_text (sym (client_lines-more c script [] (take i events) event))
     ∙ ap (λ es. lines_text (client_lines c script [] es)) (sym next))
 
--- the event ends the command after those that have ended
-pub number_of-ends : (c : ℕ) (events : List Event) (event : Event) → ends_for c event ≡ true → number_of events event ≡ ended c events + 1
-number_of-ends c events (Edit d verdict) h = ap (λ k. ended k events + 1) (eqb-true d c h)
+-- the event ends the command after those that have ended_count
+pub number_of-ends : (c : ℕ) (events : List Event) (event : Event) → ends_for c event ≡ true → command_number events event ≡ ended_count c events + 1
+number_of-ends c events (Edit d verdict) h = ap (λ k. ended_count k events + 1) (eqb-true d c h)
 number_of-ends c events (Ask d) h = absurd (cc)
 number_of-ends c events (Pair v x y) h = absurd (cc)
-number_of-ends c events (Reply d r) h = ap (λ k. ended k events + 1) (eqb-true d c h)
+number_of-ends c events (Reply d r) h = ap (λ k. ended_count k events + 1) (eqb-true d c h)
 
 -- what is written of an event that ends a command
 pub answer-is : (c : ℕ) (script : List Command) (events : List Event) (event : Event) (command : Command) (counts : Counts) (v : ℕ)
-    → ends_for c event ≡ true → Counted c events counts → slice_get script counts.ended ≡ Some command → v ≡ version_named events event
+    → ends_for c event ≡ true → IsCountOf c events counts → slice_get script counts.ended ≡ Some command → v ≡ version_named events event
     → event_lines c script events event ≡ reply_lines (counts.ended + 1) v command event
 answer-is c script events event command counts v ends h there named =
-    ap (λ b. if b then answer_lines events event (slice_get script (ended c events)) else []) ends
+    ap (λ b. if b then answer_lines events event (slice_get script (ended_count c events)) else []) ends
     ∙ ap (λ k. answer_lines events event (slice_get script k)) (sym h.ended_is)
     ∙ ap (answer_lines events event) there
     ∙ ap₂ (λ number version. reply_lines number version command event)
@@ -61,41 +61,41 @@ answer-is c script events event command counts v ends h there named =
 
 -- and of one that ends none
 pub no-answer : (c : ℕ) (script : List Command) (events : List Event) (event : Event) → ends_for c event ≡ false → event_lines c script events event ≡ []
-no-answer c script events event h = ap (λ b. if b then answer_lines events event (slice_get script (ended c events)) else []) h
+no-answer c script events event h = ap (λ b. if b then answer_lines events event (slice_get script (ended_count c events)) else []) h
 
 length-take-short : {X : Type 0} (i : ℕ) (xs : List X) → length (take i xs) ≤ i
 length-take-short i xs = subst (λ n. n ≤ i) (sym (length-take i xs)) (min-le_left i (length xs))
 
 -- counts of some of the first events fit where all of them do
-pub ended-fits : (c i : ℕ) (events : List Event) (counts : Counts) → Counted c (take i events) counts → i < length events → length events + 1 < 2 ^ 32 → counts.ended + 1 < 2 ^ 32
+pub ended-fits : (c i : ℕ) (events : List Event) (counts : Counts) → IsCountOf c (take i events) counts → i < length events → length events + 1 < 2 ^ 32 → counts.ended + 1 < 2 ^ 32
 ended-fits c i events counts h inside few =
-    let low : ended c (take i events) ≤ length (take i events) = count_by-le-length (ends_for c) (take i events) in
+    let low : ended_count c (take i events) ≤ length (take i events) = count_by-le-length (ends_for c) (take i events) in
     let short : length (take i events) ≤ i = length-take-short i events in
     omega (arith, h.ended_is, low, short, inside, few)
 
-pub standing-fits : (c i : ℕ) (events : List Event) (counts : Counts) → Counted c (take i events) counts → i < length events → length events + 1 < 2 ^ 32 → counts.standing + 1 < 2 ^ 32
+pub standing-fits : (c i : ℕ) (events : List Event) (counts : Counts) → IsCountOf c (take i events) counts → i < length events → length events + 1 < 2 ^ 32 → counts.standing + 1 < 2 ^ 32
 standing-fits c i events counts h inside few =
-    let low : standing (take i events) ≤ length (take i events) = count_by-le-length is_accepted (take i events) in
+    let low : current_version (take i events) ≤ length (take i events) = count_by-le-length is_accepted (take i events) in
     let short : length (take i events) ≤ i = length-take-short i events in
     omega (arith, h.standing_is, low, short, inside, few)
 
 -- the line of one event more
 pub order_lines-more : (earlier events : List Event) (event : Event)
-    → order_lines earlier (events ++ event ∷ []) ≡ order_lines earlier events ++ event_words (number_of (earlier ++ events) event) event ∷ []
-order_lines-more earlier [] event = ap (λ es. event_words (number_of es event) event ∷ []) (sym (append-nil earlier))
+    → order_lines earlier (events ++ event ∷ []) ≡ order_lines earlier events ++ event_words (command_number (earlier ++ events) event) event ∷ []
+order_lines-more earlier [] event = ap (λ es. event_words (command_number es event) event ∷ []) (sym (append-nil earlier))
 order_lines-more earlier (x ∷ events) event =
-    ap (λ rest. event_words (number_of earlier x) x ∷ rest) (order_lines-more (earlier ++ x ∷ []) events event
-    ∙ ap (λ es. order_lines (earlier ++ x ∷ []) events ++ event_words (number_of es event) event ∷ []) (append_assoc earlier (x ∷ []) events))
+    ap (λ rest. event_words (command_number earlier x) x ∷ rest) (order_lines-more (earlier ++ x ∷ []) events event
+    ∙ ap (λ es. order_lines (earlier ++ x ∷ []) events ++ event_words (command_number es event) event ∷ []) (append_assoc earlier (x ∷ []) events))
 
 pub ordered-more : (events : List Event) (i : ℕ) (event : Event) (number : ℕ) (start old new : List ℕ)
     → old ≡ start ++ lines_text (order_lines [] (take i events))
     → new ≡ old ++ line_text (event_words number event)
-    → number ≡ number_of (take i events) event
+    → number ≡ command_number (take i events) event
     → take (i + 1) events ≡ take i events ++ event ∷ []
     → new ≡ start ++ lines_text (order_lines [] (take (i + 1) events))
 ordered-more events i event number start old new h more is next =
     let first = order_lines [] (take i events) in
-    let last = event_words (number_of (take i events) event) event in
+    let last = event_words (command_number (take i events) event) event in
     more ∙ ap₂ (λ text k. text ++ line_text (event_words k event)) h is ∙ append_assoc start (lines_text first) (line_text last)
     ∙ ap (λ text. start ++ (lines_text first ++ text)) (sym (append-nil (line_text last)))
     ∙ ap (λ text. start ++ text) (sym (flat_map-append line_text first (last ∷ [])) ∙ ap lines_text (sym (order_lines-more [] (take i events) event))
@@ -104,7 +104,7 @@ ordered-more events i event number start old new h more is next =
 -- the counts fit
 pub counts-fit : (i : ℕ) (events : List Event) (counts : List ℕ) → AreCounted (take i events) counts → i < length events → length events + 1 < 2 ^ 32 → All (λ n. n + 1 < 2 ^ 32) counts
 counts-fit i events counts h inside few = All-from_get_or (λ n. n + 1 < 2 ^ 32) counts 0 (λ c l.
-    let low : ended c (take i events) ≤ length (take i events) = count_by-le-length (ends_for c) (take i events) in
+    let low : ended_count c (take i events) ≤ length (take i events) = count_by-le-length (ends_for c) (take i events) in
     let short : length (take i events) ≤ i = length-take-short i events in
     omega (arith, h c l, low, short, inside, few))
 
@@ -137,12 +137,12 @@ pub answered-of : (scripts : List (List Command)) (events : List Event) (c : ℕ
 answered-of scripts events c script there h i event at ends = one event ends (h i event at)
   where
     found : (event : Event) (d : ℕ) → d ≡ c → IsAnswered scripts (take i events) d event
-        → IfPresent (slice_get script (ended c (take i events))) (λ command. IsAnswerTo command event)
-    found event d e is = subst (λ o. IfPresent (option_and_then (λ s. slice_get s (ended c (take i events))) o) (λ command. IsAnswerTo command event)) there
+        → IfPresent (slice_get script (ended_count c (take i events))) (λ command. IsAnswerTo command event)
+    found event d e is = subst (λ o. IfPresent (option_and_then (λ s. slice_get s (ended_count c (take i events))) o) (λ command. IsAnswerTo command event)) there
         (subst (λ k. IsAnswered scripts (take i events) k event) e is)
 
     one : (event : Event) → ends_for c event ≡ true → IsOf scripts (take i events) event
-        → IfPresent (slice_get script (ended c (take i events))) (λ command. IsAnswerTo command event)
+        → IfPresent (slice_get script (ended_count c (take i events))) (λ command. IsAnswerTo command event)
     one (Edit d verdict) ends is = found (Edit d verdict) d (eqb-true d c ends) is
     one (Ask d) ends is = absurd (cc)
     one (Pair v x y) ends is = absurd (cc)
@@ -158,7 +158,7 @@ clients-of scripts events h = All-from_get_or (λ event. IfSome (client_of event
     inside i c event is = slice_get_within-of (slice_get scripts c) refl is
       where
         slice_get_within-of : (o : Option (List Command)) → slice_get scripts c ≡ o
-            → IfPresent (option_and_then (λ script. slice_get script (ended c (take i events))) o) (λ command. IsAnswerTo command event) → c < length scripts
+            → IfPresent (option_and_then (λ script. slice_get script (ended_count c (take i events))) o) (λ command. IsAnswerTo command event) → c < length scripts
         slice_get_within-of None e is = absurd (is)
         slice_get_within-of (Some s) e is = slice_get_within scripts c s e
 

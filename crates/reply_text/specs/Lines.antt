@@ -10,5 +10,5 @@ abbrev pub lines_text : List (List (List ℕ)) → List ℕ
 lines_text lines = flat_map line_text lines
 
 -- a space before each word
-abbrev pub spaced : List (List ℕ) → List ℕ
-spaced words = flat_map (λ word. 32 ∷ word) words
+abbrev pub spaced_words : List (List ℕ) → List ℕ
+spaced_words words = flat_map (λ word. 32 ∷ word) words

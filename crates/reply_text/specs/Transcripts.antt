@@ -26,13 +26,13 @@ abbrev pub is_accepted : Event → Bool
 is_accepted (Edit c Accepted) = true
 is_accepted event = false
 
--- how many commands of client c have ended: the next one has this place in its script
-abbrev pub ended : ℕ → List Event → ℕ
-ended c events = count_by (ends_for c) events
+-- how many commands of client c have ended_count: the next one has this place in its script
+abbrev pub ended_count : ℕ → List Event → ℕ
+ended_count c events = count_by (ends_for c) events
 
 -- the version that stands after these events: the number of accepted edits
-abbrev pub standing : List Event → ℕ
-standing events = count_by is_accepted events
+abbrev pub current_version : List Event → ℕ
+current_version events = count_by is_accepted events
 
 -- the version of the last question of client c among events that begin when version n stands; v where there is none
 abbrev pub asked_from : ℕ → ℕ → ℕ → List Event → ℕ
@@ -40,33 +40,33 @@ asked_from c n v [] = v
 asked_from c n v (event ∷ events) = asked_from c (if is_accepted event then n + 1 else n) (if asks_for c event then n else v) events
 
 -- the version that stood at the last question of client c
-abbrev pub asked : ℕ → List Event → ℕ
-asked c events = asked_from c 0 0 events
+abbrev pub asked_version : ℕ → List Event → ℕ
+asked_version c events = asked_from c 0 0 events
 
 -- the version that the reply names which an event after the earlier ones gives: for an accepted edit the new one, for a
--- refused edit the one that stands, for a question the one that was asked
+-- refused edit the one that stands, for a question the one that was asked_version
 abbrev pub version_named : List Event → Event → ℕ
-version_named earlier (Edit c Accepted) = standing earlier + 1
-version_named earlier (Edit c (Refused cause)) = standing earlier
-version_named earlier (Ask c) = standing earlier
+version_named earlier (Edit c Accepted) = current_version earlier + 1
+version_named earlier (Edit c (Refused cause)) = current_version earlier
+version_named earlier (Ask c) = current_version earlier
 version_named earlier (Pair v x y) = v
-version_named earlier (Reply c r) = asked c earlier
+version_named earlier (Reply c r) = asked_version c earlier
 
 -- the number, from 1, of the command that an event after the earlier ones is about
-abbrev pub number_of : List Event → Event → ℕ
-number_of earlier (Edit c verdict) = ended c earlier + 1
-number_of earlier (Ask c) = ended c earlier + 1
-number_of earlier (Pair v x y) = 0
-number_of earlier (Reply c r) = ended c earlier + 1
+abbrev pub command_number : List Event → Event → ℕ
+command_number earlier (Edit c verdict) = ended_count c earlier + 1
+command_number earlier (Ask c) = ended_count c earlier + 1
+command_number earlier (Pair v x y) = 0
+command_number earlier (Reply c r) = ended_count c earlier + 1
 
 -- the lines of an event that ends the command
 abbrev pub answer_lines : List Event → Event → Option Command → List (List (List ℕ))
 answer_lines earlier event None = []
-answer_lines earlier event (Some command) = reply_lines (number_of earlier event) (version_named earlier event) command event
+answer_lines earlier event (Some command) = reply_lines (command_number earlier event) (version_named earlier event) command event
 
 -- the lines that an event after the earlier ones gives client c with this script
 abbrev pub event_lines : ℕ → List Command → List Event → Event → List (List (List ℕ))
-event_lines c script earlier event = if ends_for c event then answer_lines earlier event (slice_get script (ended c earlier)) else []
+event_lines c script earlier event = if ends_for c event then answer_lines earlier event (slice_get script (ended_count c earlier)) else []
 
 -- the replies to client c with this script, in order
 abbrev pub client_lines : ℕ → List Command → List Event → List Event → List (List (List ℕ))
@@ -99,7 +99,7 @@ ender_of (Reply c r) = Some c
 -- a line for each event
 abbrev pub order_lines : List Event → List Event → List (List (List ℕ))
 order_lines earlier [] = []
-order_lines earlier (event ∷ events) = event_words (number_of earlier event) event ∷ order_lines (earlier ++ event ∷ []) events
+order_lines earlier (event ∷ events) = event_words (command_number earlier event) event ∷ order_lines (earlier ++ event ∷ []) events
 
 -- the transcript of the events that clients with these scripts made: their replies, and then what happened in order
 abbrev pub transcript : List (List Command) → List Event → List ℕ
@@ -111,10 +111,10 @@ abbrev pub IfPresent : {X : Type 0} → Option X → (X → Type 0) → Type 0
 IfPresent None P = ⊥
 IfPresent (Some x) P = P x
 
--- client c has a command that no earlier event ended, and the event answers it
+-- client c has a command that no earlier event ended_count, and the event answers it
 abbrev pub IsAnswered : List (List Command) → List Event → ℕ → Event → Type 0
 IsAnswered scripts earlier c event =
-    IfPresent (option_and_then (λ script. slice_get script (ended c earlier)) (slice_get scripts c)) (λ command. IsAnswerTo command event)
+    IfPresent (option_and_then (λ script. slice_get script (ended_count c earlier)) (slice_get scripts c)) (λ command. IsAnswerTo command event)
 
 -- the event after the earlier ones is one of these clients, and what ends a command answers it
 abbrev pub IsOf : List (List Command) → List Event → Event → Type 0
@@ -130,4 +130,4 @@ AreOf scripts events = (i : ℕ) (event : Event) → slice_get events i ≡ Some
 -- each event that ends a command of the client ends one of its script, in order, and answers it
 abbrev pub AreAnswered : ℕ → List Command → List Event → Type 0
 AreAnswered c script events = (i : ℕ) (event : Event) → slice_get events i ≡ Some event → ends_for c event ≡ true
-    → IfPresent (slice_get script (ended c (take i events))) (λ command. IsAnswerTo command event)
+    → IfPresent (slice_get script (ended_count c (take i events))) (λ command. IsAnswerTo command event)

@@ -1,7 +1,7 @@
 ghost use Rattle.std.specs.Prelude.{◌≡◌, ℕ, ◌+◌, ◌<◌, ◌^◌, ◌∷◌, [], ◌++◌, List, length, All, IfSome, OnOk};
 ghost use Rattle.sheaf_words.specs.declared.happening.Event.{Event};
 ghost use Rattle.reply_text.specs.Lines.{lines_text};
-ghost use Rattle.reply_text.specs.Transcripts.{client_of, ender_of, number_of, order_lines};
+ghost use Rattle.reply_text.specs.Transcripts.{client_of, ender_of, command_number, order_lines};
 ghost use Rattle.reply_text.specs.Counts.{AreCounted};
 
 use crate::events::event_line;
@@ -32,7 +32,7 @@ fn ender_of(event: &Event) -> Option<u32>
 fn number_of(counts: &[u32], event: &Event) -> u32
     requires known { IfSome (client_of event.now) (λ c. c < length counts.now) }
     requires fits { All (λ n. n + 1 < 2 ^ 32) counts.now }
-    ensures { (events : List Event) → AreCounted events counts.now → result ≡ number_of events event.now }
+    ensures { (events : List Event) → AreCounted events counts.now → result ≡ command_number events event.now }
 {
     match client_of(event) {
         Some(c) => counts[c as usize] + 1,

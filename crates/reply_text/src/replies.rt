@@ -1,5 +1,5 @@
 ghost use Rattle.std.specs.Prelude.{◌≡◌, ◌∷◌, ◌++◌, IfOk, OnOk, OnErr};
-ghost use Rattle.reply_text.specs.Lines.{spaced, lines_text};
+ghost use Rattle.reply_text.specs.Lines.{spaced_words, lines_text};
 ghost use Rattle.reply_text.specs.Replies.{query_word, command_word, cause_words, verdict_words, IsAnswerTo, answer_words, reply_lines};
 
 use crate::words::{put_all, put_named, put_next, put_number};
@@ -32,7 +32,7 @@ fn command_word(command: &Command) -> &'static [u8]
 }
 
 fn put_cause(out: &mut Vec<u8>, cause: Cause) -> Result<(), NoMemory>
-    ensures { OnOk result (out.new.items ≡ out.old.items ++ spaced (cause_words cause)) }
+    ensures { OnOk result (out.new.items ≡ out.old.items ++ spaced_words (cause_words cause)) }
 {
     match cause {
         Cause::NoCell { i } => put_named(out, b" cell", i),
@@ -46,14 +46,14 @@ fn put_cause(out: &mut Vec<u8>, cause: Cause) -> Result<(), NoMemory>
 }
 
 fn put_square(out: &mut Vec<u8>, s: u32, u: u32) -> Result<(), NoMemory>
-    ensures { OnOk result (out.new.items ≡ out.old.items ++ spaced (cause_words (Cause.Square s u))) }
+    ensures { OnOk result (out.new.items ≡ out.old.items ++ spaced_words (cause_words (Cause.Square s u))) }
 {
     put_named(out, b" square", s)?;
     put_next(out, u)
 }
 
 fn put_verdict(out: &mut Vec<u8>, verdict: Verdict) -> Result<(), NoMemory>
-    ensures { OnOk result (out.new.items ≡ out.old.items ++ spaced (verdict_words verdict)) }
+    ensures { OnOk result (out.new.items ≡ out.old.items ++ spaced_words (verdict_words verdict)) }
 {
     match verdict {
         Verdict::Accepted => out.extend_from_slice(b" accepted"),
@@ -62,14 +62,14 @@ fn put_verdict(out: &mut Vec<u8>, verdict: Verdict) -> Result<(), NoMemory>
 }
 
 fn put_refusal(out: &mut Vec<u8>, cause: Cause) -> Result<(), NoMemory>
-    ensures { OnOk result (out.new.items ≡ out.old.items ++ spaced (verdict_words (Verdict.Refused cause))) }
+    ensures { OnOk result (out.new.items ≡ out.old.items ++ spaced_words (verdict_words (Verdict.Refused cause))) }
 {
     out.extend_from_slice(b" refused")?;
     put_cause(out, cause)
 }
 
 fn put_answer(out: &mut Vec<u8>, event: &Event) -> Result<(), NoMemory>
-    ensures { OnOk result (out.new.items ≡ out.old.items ++ spaced (answer_words event.now)) }
+    ensures { OnOk result (out.new.items ≡ out.old.items ++ spaced_words (answer_words event.now)) }
 {
     match event {
         Event::Edit { verdict, .. } => put_verdict(out, *verdict),

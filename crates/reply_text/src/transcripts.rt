@@ -2,8 +2,8 @@ ghost use Rattle.std.specs.Prelude.{◌≡◌, ℕ, ◌+◌, ◌<◌, ◌≤◌,
 ghost use Rattle.sheaf_words.specs.declared.happening.Event.{Event};
 ghost use Rattle.reply_text.specs.Lines.{lines_text};
 ghost use Rattle.reply_text.specs.Replies.{IsAnswerTo};
-ghost use Rattle.reply_text.specs.Transcripts.{AreOf, client_part, clients_lines, transcript, IfPresent, AreAnswered, ends_for, asks_for, is_accepted, ended, standing, version_named, event_lines, client_lines};
-ghost use Rattle.reply_text.specs.Counts.{Counted};
+ghost use Rattle.reply_text.specs.Transcripts.{AreOf, client_part, clients_lines, transcript, IfPresent, AreAnswered, ends_for, asks_for, is_accepted, ended_count, current_version, version_named, event_lines, client_lines};
+ghost use Rattle.reply_text.specs.Counts.{IsCountOf};
 
 use crate::counts::Counts;
 use crate::order::put_order;
@@ -49,7 +49,7 @@ fn is_accepted(event: &Event) -> bool
 impl Counts {
     /// The counts before any event.
     fn none() -> Counts
-        ensures { (c : ℕ) → Counted c [] result }
+        ensures { (c : ℕ) → IsCountOf c [] result }
     {
         Counts {
             ended: 0,
@@ -62,7 +62,7 @@ impl Counts {
     fn after(self, client: u32, event: &Event) -> Counts
         requires ended_fits { self.ended + 1 < 2 ^ 32 }
         requires standing_fits { self.standing + 1 < 2 ^ 32 }
-        ensures { (events : List Event) → Counted client events self → Counted client (events ++ event.now ∷ []) result }
+        ensures { (events : List Event) → IsCountOf client events self → IsCountOf client (events ++ event.now ∷ []) result }
     {
         let ended = self.ended + u32::from(ends_for(client, event));
         let standing = self.standing + u32::from(is_accepted(event));
@@ -81,7 +81,7 @@ impl Counts {
     /// The version that the reply names which the event gives.
     fn version_named(self, event: &Event) -> u32
         requires standing_fits { self.standing + 1 < 2 ^ 32 }
-        ensures { (events : List Event) (c : ℕ) → ends_for c event.now ≡ true → Counted c events self → result ≡ version_named events event.now }
+        ensures { (events : List Event) (c : ℕ) → ends_for c event.now ≡ true → IsCountOf c events self → result ≡ version_named events event.now }
     {
         match event {
             Event::Edit {
@@ -114,7 +114,7 @@ fn put_answer(
     requires ended_fits { counts.ended + 1 < 2 ^ 32 }
     requires standing_fits { counts.standing + 1 < 2 ^ 32 }
     requires answers { ends_for client event.now ≡ true → IfPresent (slice_get script.now counts.ended) (λ command. IsAnswerTo command event.now) }
-    ensures { (events : List Event) → Counted client events counts →
+    ensures { (events : List Event) → IsCountOf client events counts →
         OnOk result (out.new.items ≡ out.old.items ++ lines_text (event_lines client script.now events event.now)) }
 {
     if !ends_for(client, event) {

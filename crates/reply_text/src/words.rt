@@ -1,6 +1,6 @@
 ghost use Rattle.std.specs.Prelude.{◌≡◌, ◌∷◌, ◌++◌, map, OnOk};
 ghost use Rattle.std.specs.Fmt.{decimal};
-ghost use Rattle.reply_text.specs.Lines.{spaced};
+ghost use Rattle.reply_text.specs.Lines.{spaced_words};
 
 use itoa::Buffer;
 use std::alloc::AllocError as NoMemory;
@@ -23,7 +23,7 @@ pub fn put_next(out: &mut Vec<u8>, number: u32) -> Result<(), NoMemory>
 
 /// Appends a space before each number, and the number.
 pub fn put_all(out: &mut Vec<u8>, numbers: &[u32]) -> Result<(), NoMemory>
-    ensures { OnOk result (out.new.items ≡ out.old.items ++ spaced (map decimal numbers.now)) }
+    ensures { OnOk result (out.new.items ≡ out.old.items ++ spaced_words (map decimal numbers.now)) }
 {
     for number in numbers {
         put_next(out, *number)?;

@@ -3,7 +3,7 @@ use Rattle.std.proofs.Common.{◌≡◌, ◌≢◌, ℕ, zero, suc, ◌<◌, ◌
 use Rattle.std.specs.Option.{unwrap_or}
 use Rattle.std.proofs.lemmas.List.{get_or_push, get_or_append_left}
 use Rattle.std.proofs.lemmas.Bool.{eq-eqb, ne_eqb, cases_eq, cases_lt, lt-ltb, le-ltb}
-use Rattle.rising_lists.specs.Rising.{has, look, updated, IsRising, IsLine, stands, past, IsNext}
+use Rattle.rising_lists.specs.Rising.{has, look, entry_after, IsRising, IsLine, stands, past, IsNext}
 use Rattle.rising_lists.proofs.Keyed.{has-absent, look-absent, look-at, rising_le}
 
 -- the first i cells are below low, and the others are not
@@ -125,7 +125,7 @@ pub record Merged {A : Type 0} (old : List ℕ) (vs : List A) (listed : List ℕ
   pub listed_place : IsPlace listed low j
   pub left : rest ≡ drop j fresh
   pub line : IsLine {A = A} (record { cells = done; values = values })
-  pub before : (q : ℕ) → q < low → look q done values ≡ updated listed fresh (look q old vs) q
+  pub before : (q : ℕ) → q < low → look q done values ≡ entry_after listed fresh (look q old vs) q
   pub after : (q : ℕ) → low ≤ q → look q done values ≡ None
 
 pub merged-none : {A : Type 0} (old : List ℕ) (vs : List A) (listed : List ℕ) (fresh : List (Option A)) → Merged old vs listed fresh fresh 0 0 [] []
@@ -173,7 +173,7 @@ module _ {A : Type 0} (old : List ℕ) (vs : List A) (listed : List ℕ) (fresh 
 
   -- the value that is due at the next cell, and the fresh values left
   pub record Due (v : Option A) (others : List (Option A)) : Type 0 where
-    pub value : v ≡ updated listed fresh (look c old vs) c
+    pub value : v ≡ entry_after listed fresh (look c old vs) c
     pub left : others ≡ drop (past listed j c) fresh
 
   pub next-listed : (v : Option A) (others : List (Option A)) → stands listed j c ≡ true → rest ≡ v ∷ others → Due v others
@@ -235,18 +235,18 @@ module _ {A : Type 0} (old : List ℕ) (vs : List A) (listed : List ℕ) (fresh 
       other : (q : ℕ) → q ≢ c → look q done' values' ≡ look q done values
       other q n = entries q ∙ ap (λ b. cond b v (look q done values)) (ne_eqb q c n)
 
-      here : (q : ℕ) → c ≡ q → look q done' values' ≡ updated listed fresh (look q old vs) q
-      here q e = subst (λ x. look x done' values' ≡ updated listed fresh (look x old vs) x) e
+      here : (q : ℕ) → c ≡ q → look q done' values' ≡ entry_after listed fresh (look q old vs) q
+      here q e = subst (λ x. look x done' values' ≡ entry_after listed fresh (look x old vs) x) e
           (entries c ∙ ap (λ b. cond b v (look c done values)) (eq-eqb c c refl) ∙ due.value)
 
-      none : (q : ℕ) → m.low ≤ q → q < c → updated listed fresh (look q old vs) q ≡ None
+      none : (q : ℕ) → m.low ≤ q → q < c → entry_after listed fresh (look q old vs) q ≡ None
       none q l u =
           ap₂ (λ x y. unwrap_or x y) (look-absent q listed fresh (absent-between listed m.low j c q listed_rises m.listed_place next.in_second l u))
           (look-absent q old vs (absent-between old m.low i c q old_rises m.old_place next.in_first l u))
 
 -- all was merged
 pub merged-all : {A : Type 0} (old : List ℕ) (vs : List A) (listed : List ℕ) (fresh rest : List (Option A)) (i j : ℕ) (done : List ℕ) (values : List A)
-    → Merged old vs listed fresh rest i j done values → length old ≤ i → length listed ≤ j → (q : ℕ) → look q done values ≡ updated listed fresh (look q old vs) q
+    → Merged old vs listed fresh rest i j done values → length old ≤ i → length listed ≤ j → (q : ℕ) → look q done values ≡ entry_after listed fresh (look q old vs) q
 merged-all old vs listed fresh rest i j done values m l n q = elim (cases_lt q m.low) [
   | inl u ↦ m.before q u
   | inr u ↦

@@ -43,8 +43,8 @@ abbrev pub keys : List (ℕ × ℕ) → List ℕ
 keys sized = map (λ s. s.0) sized
 
 -- what stands at a cell once the listed cells have got fresh values, or none, and the others keep what they had
-abbrev pub updated : {A : Type 0} → List ℕ → List (Option A) → Option A → ℕ → Option A
-updated listed fresh had c = unwrap_or (look c listed fresh) had
+abbrev pub entry_after : {A : Type 0} → List ℕ → List (Option A) → Option A → ℕ → Option A
+entry_after listed fresh had c = unwrap_or (look c listed fresh) had
 
 -- whether the cell stands at the place
 abbrev pub stands : List ℕ → ℕ → ℕ → Bool

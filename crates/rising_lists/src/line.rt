@@ -1,5 +1,5 @@
 ghost use Rattle.std.specs.Prelude.{◌≡◌, ◌==◌, ◌<◌, ◌≤◌, ℕ, [], None, Some, if◌then◌else◌, length, replicate, slice_index, option_copied, option_map, OnOk, IfOk};
-ghost use Rattle.rising_lists.specs.Rising.{IsRising, IsLine, has, keys, look, entry, updated};
+ghost use Rattle.rising_lists.specs.Rising.{IsRising, IsLine, has, keys, look, entry, entry_after};
 
 use crate::duplicate::Duplicate;
 use crate::merging::{append, is_listed, next_cell, next_value, past, past_listed};
@@ -135,7 +135,7 @@ impl<T: Duplicate> Line<T> {
     ) -> Result<Line<T>, NoMemory>
         requires rising { IsRising (keys listed.now) }
         requires full { length fresh.items ≡ length listed.now }
-        ensures { IfOk result (λ l. (q : ℕ) → entry l q ≡ updated (keys listed.now) fresh.items (entry self.now q) q) }
+        ensures { IfOk result (λ l. (q : ℕ) → entry l q ≡ entry_after (keys listed.now) fresh.items (entry self.now q) q) }
     {
         let old = self.cells.as_slice();
         let room = old.len().saturating_add(listed.len());

@@ -7,7 +7,7 @@ use Rattle.dense_blocks.specs.Field.{Ops}
 use Rattle.dense_blocks.specs.Matrices.{zero_matrix}
 use Rattle.block_complexes.specs.BlockComplexes.{size_of, IsBlockComplex, HaveSameMatrices}
 use Rattle.block_complexes.proofs.SameLaws.{same-block_complex}
-use Rattle.block_sparse.specs.StoredBlocks.{StoredBlocks, Standing, held, matrix_or, with_flag, complex_in}
+use Rattle.block_sparse.specs.StoredBlocks.{StoredBlocks, StoredBlock, block_at, matrix_or, with_flag, complex_in}
 use Rattle.block_sparse.specs.Candidates.{is_candidate, is_unflagged}
 use Rattle.pair_find.specs.Pairs.{IsNextFrom}
 use Rattle.reduce_step.specs.declared.footprint.Footprint.{Footprint}
@@ -16,34 +16,34 @@ use Rattle.reduce_step.specs.declared.finish.Finish.TheVariants.{Made, Singular}
 use Rattle.reduce_step.specs.Finishes.{Finishes}
 use Rattle.sheaf_bench.specs.Reductions.{IsOfField}
 
-unflagged-some : (o : Option Standing) → is_unflagged o ≡ true → is_some o ≡ true
+unflagged-some : (o : Option StoredBlock) → is_unflagged o ≡ true → is_some o ≡ true
 unflagged-some None e = absurd (let f : false ≡ true = e in cc)
 unflagged-some (Some b) e = refl
 
 module _ (v : StoredBlocks) (s t : ℕ) (e : is_candidate v s t ≡ true) where
-  parts : (is_unflagged (held v s t) ≡ true) × ((size_of v.live s == size_of v.live t) ≡ true)
-  parts = and_parts (is_unflagged (held v s t)) (size_of v.live s == size_of v.live t) e
+  parts : (is_unflagged (block_at v s t) ≡ true) × ((size_of v.live s == size_of v.live t) ≡ true)
+  parts = and_parts (is_unflagged (block_at v s t)) (size_of v.live s == size_of v.live t) e
 
   -- at a candidate a block stands
-  pub candidate-stands : is_some (held v s t) ≡ true
-  candidate-stands = unflagged-some (held v s t) parts.0
+  pub candidate-stands : is_some (block_at v s t) ≡ true
+  candidate-stands = unflagged-some (block_at v s t) parts.0
 
   -- and it is square
   pub candidate-square : size_of v.live t ≡ size_of v.live s
   candidate-square = sym (eqb-true (size_of v.live s) (size_of v.live t) parts.1)
 
-flag-matrix : (o : Option Standing) (A : List (List ℕ)) → matrix_or (with_flag o) A ≡ matrix_or o A
+flag-matrix : (o : Option StoredBlock) (A : List (List ℕ)) → matrix_or (with_flag o) A ≡ matrix_or o A
 flag-matrix None A = refl
 flag-matrix (Some b) A = refl
 
 flagged-matrix : (v : StoredBlocks) (s t p q : ℕ) (b : Bool) (A : List (List ℕ)) → (b ≡ true → (p ≡ s) × (q ≡ t))
-    → matrix_or (if b then with_flag (held v s t) else held v p q) A ≡ matrix_or (held v p q) A
-flagged-matrix v s t p q true A e = flag-matrix (held v s t) A ∙ ap₂ (λ a b. matrix_or (held v a b) A) (sym (e refl).0) (sym (e refl).1)
+    → matrix_or (if b then with_flag (block_at v s t) else block_at v p q) A ≡ matrix_or (block_at v p q) A
+flagged-matrix v s t p q true A e = flag-matrix (block_at v s t) A ∙ ap₂ (λ a b. matrix_or (block_at v a b) A) (sym (e refl).0) (sym (e refl).1)
 flagged-matrix v s t p q false A e = refl
 
 -- a flag that is set leaves the block complex as it is
 pub flagged-same : (v w : StoredBlocks) (s t : ℕ) → w.live ≡ v.live
-    → ((p q : ℕ) → held w p q ≡ (if p == s && q == t then with_flag (held v s t) else held v p q)) → HaveSameMatrices (complex_in v) (complex_in w)
+    → ((p q : ℕ) → block_at w p q ≡ (if p == s && q == t then with_flag (block_at v s t) else block_at v p q)) → HaveSameMatrices (complex_in v) (complex_in w)
 flagged-same v w s t live flagged = record {
   live = live;
   matrices = λ p q l.
@@ -51,11 +51,11 @@ flagged-same v w s t live flagged = record {
       ap (λ o. matrix_or o zero) (flagged p q)
       ∙ flagged-matrix v s t p q (p == s && q == t) zero
       (λ e. let h = and_parts (p == s) (q == t) e in (eqb-true p s h.0, eqb-true q t h.1))
-      ∙ ap (λ l. matrix_or (held v p q) (zero_matrix (size_of l q) (size_of l p))) live;
+      ∙ ap (λ l. matrix_or (block_at v p q) (zero_matrix (size_of l q) (size_of l p))) live;
 }
 
 pub flagged-over : (K : Ops) (v w : StoredBlocks) (s t : ℕ) → IsBlockComplex K (complex_in v) → w.live ≡ v.live
-    → ((p q : ℕ) → held w p q ≡ (if p == s && q == t then with_flag (held v s t) else held v p q)) → IsBlockComplex K (complex_in w)
+    → ((p q : ℕ) → block_at w p q ≡ (if p == s && q == t then with_flag (block_at v s t) else block_at v p q)) → IsBlockComplex K (complex_in w)
 flagged-over K v w s t is live flagged = same-block_complex K (complex_in v) (complex_in w) (flagged-same v w s t live flagged) is
 
 -- the next candidate is one

@@ -1,6 +1,6 @@
 ghost use Rattle.std.specs.Prelude.{◌≡◌, ◌≤◌, true, is_some, IfOk, OnOk};
 ghost use Rattle.block_complexes.specs.BlockComplexes.{size_of};
-ghost use Rattle.block_sparse.specs.StoredBlocks.{held};
+ghost use Rattle.block_sparse.specs.StoredBlocks.{block_at};
 ghost use Rattle.sheaf_bench.specs.Merges.{MayJoin};
 
 use crate::checksums::blocks_checksum;
@@ -134,7 +134,7 @@ fn footprint(alloc: Global, blocks: &Blocks, y: u32) -> Result<Footprint, Failur
 
 /// That footprint, where a square block stands.
 fn copied(alloc: Global, blocks: &Blocks, y: u32) -> Result<Footprint, NoMemory>
-    requires stands { is_some (held blocks.now 0 y) ≡ true }
+    requires stands { is_some (block_at blocks.now 0 y) ≡ true }
     requires square { size_of blocks.now.live y ≡ size_of blocks.now.live 0 }
     ensures { IfOk result (λ foot. MayJoin blocks.now.live foot.left foot.below) }
 {

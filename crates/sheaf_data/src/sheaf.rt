@@ -1,5 +1,5 @@
 ghost use Rattle.std.specs.Prelude.{◌≡◌, ℕ, ◌<◌, ◌↔◌, All, IsOk, IfOk, IfErr, OnOk, OnErr, MatchOption, length};
-ghost use Rattle.square_check.specs.Answers.{IsFirst};
+ghost use Rattle.square_check.specs.Answers.{IsFirstFailure};
 ghost use Rattle.square_check.specs.Squares.{Commutes};
 ghost use Rattle.sheaf_data.specs.Sheaves.{IsDraft, IsSheaf};
 ghost use Rattle.sheaf_data.specs.Refusals.{IsFirstBad, IsFault, AreSameElsewhere};
@@ -117,7 +117,7 @@ impl<F: Scalars> Sheaf<F> {
         requires fits { IsDraft (F.ops self.now.field) self.now.complex stalks.now blocks.now }
         requires faces { All (λ p. p < length self.now.complex.faces) touched.now }
         requires others { AreSameElsewhere touched.now self.now.blocks blocks.now }
-        ensures { IsFirst (Commutes (F.ops self.now.field) self.now.complex blocks.now) (length self.now.complex.dims) result }
+        ensures { IsFirstFailure (Commutes (F.ops self.now.field) self.now.complex blocks.now) (length self.now.complex.dims) result }
     {
         let draft = &self.draft;
         let touched = Touched::Faces(touched);

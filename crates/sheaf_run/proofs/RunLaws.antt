@@ -2,7 +2,7 @@
 use Rattle.std.proofs.Common.{◌≡◌, ℕ, ◌<◌, List, length, Option, Some, None, inl, refl, sym, subst, ap₂, ◌∙◌}
 use Rattle.std.specs.Prelude.{◌≢◌, IfSome}
 use Rattle.std.specs.Io.KnownBytes.{IsAtEnd}
-use Rattle.io_edge.specs.Bytes.{Gave, TookFront}
+use Rattle.io_edge.specs.Bytes.{Gave, TookPrefix}
 use Rattle.io_edge.proofs.Known.{gave_whole}
 use Rattle.field_table.specs.declared.field.Field.{Field}
 use Rattle.field_table.specs.Table.{ops_of}
@@ -42,7 +42,7 @@ ran_from_replies IsRight bytes {left} {left_new} {old} {new} {flush} {read_befor
       read = λ e. absurd (replies.no_read e);
       unwritten = λ e. absurd (replies.no_read e);
       write = replies.rose;
-      front = λ e. told (λ b. (a : Outcome) × IsRight b a × TookFront old new a.text) left bytes same (replies.front e);
+      front = λ e. told (λ b. (a : Outcome) × IsRight b a × TookPrefix old new a.text) left bytes same (replies.front e);
       memory = replies.memory;
     }
 

@@ -23,7 +23,7 @@ use Rattle.sheaf_words.specs.declared.happening.Event.{Event}
 use Rattle.sheaf_words.specs.declared.happening.Event.TheVariants.{Edit, Ask, Reply}
 use Rattle.edit_versions.specs.Verdicts.{IsVerdict, IsEdited}
 use Rattle.core_machine.specs.Replies.{IsRightReply}
-use Rattle.core_machine.specs.Machine.{Lane, State, free, waiting, first_state, command_at, with_lane, IsCurrentSheaf, EditStep, AskStep, ReplyStep, IsLegalAndWhole}
+use Rattle.core_machine.specs.Machine.{Lane, State, free_lane, waiting_lane, first_state, command_at, with_lane, IsCurrentSheaf, EditStep, AskStep, ReplyStep, IsLegalAndWhole}
 use Rattle.core_machine.proofs.CountLaws.{leads-more}
 use Rattle.sheaf_run.specs.Serving.{Progress, IsSheafAfter, IsJudged, done, Stands}
 
@@ -43,14 +43,14 @@ done-here scripts c i =
     ∙ ap (λ b. if b then i else 0) (eq-eqb c c refl)
 
 -- client c has done one command more
-done-more : (scripts : List (List Command)) (lanes : ℕ → Lane) (c i n d : ℕ) → lanes d ≡ free (done scripts c i d)
-    → with_lane lanes c (free n) d ≡ free (done scripts c n d)
+done-more : (scripts : List (List Command)) (lanes : ℕ → Lane) (c i n d : ℕ) → lanes d ≡ free_lane (done scripts c i d)
+    → with_lane lanes c (free_lane n) d ≡ free_lane (done scripts c n d)
 done-more scripts lanes c i n d is = go (c == d) refl
   where
-    go : (b : Bool) → (c == d) ≡ b → (if b then free n else lanes d) ≡ free (done scripts c n d)
-    go true e = ap free (sym (subst (λ k. done scripts c n k ≡ n) (eqb-true c d e) (done-here scripts c n)))
-    go false e = is ∙ ap (λ b. free (if nat_lt d c then length (slice_index_or scripts d []) else if b then i else 0)) e
-        ∙ sym (ap (λ b. free (if nat_lt d c then length (slice_index_or scripts d []) else if b then n else 0)) e)
+    go : (b : Bool) → (c == d) ≡ b → (if b then free_lane n else lanes d) ≡ free_lane (done scripts c n d)
+    go true e = ap free_lane (sym (subst (λ k. done scripts c n k ≡ n) (eqb-true c d e) (done-here scripts c n)))
+    go false e = is ∙ ap (λ b. free_lane (if nat_lt d c then length (slice_index_or scripts d []) else if b then i else 0)) e
+        ∙ sym (ap (λ b. free_lane (if nat_lt d c then length (slice_index_or scripts d []) else if b then n else 0)) e)
 
 -- client c is done, and the next one has done nothing yet
 done-next : (scripts : List (List Command)) (c d : ℕ) (script : List Command) → slice_get scripts c ≡ Some script
@@ -83,7 +83,7 @@ pub judge-step : (scripts : List (List Command)) (start : SheafData Field) (c i 
 judge-step scripts start c i p e v new comes judged h = go v judged.after judged.judged
   where
     lanes : ℕ → Lane
-    lanes = with_lane h.state.lanes c (free (i + 1))
+    lanes = with_lane h.state.lanes c (free_lane (i + 1))
 
     go : (w : Verdict) → IsSheafAfter p.sheaf e.sets w new → IsVerdict (ops_of p.sheaf.field) p.sheaf e.sets w
         → Stands scripts start c (i + 1) (record { sheaf = new; events = p.events ++ Edit c w ∷ [] })
@@ -95,7 +95,7 @@ judge-step scripts start c i p e v new comes judged h = go v judged.after judged
           position = i;
           edit = e;
           sheaf = p.sheaf;
-          is_free = h.lanes c ∙ ap free (done-here scripts c i);
+          is_free = h.lanes c ∙ ap free_lane (done-here scripts c i);
           command = comes;
           current = h.current;
           judged = subst (λ f. IsVerdict (ops_of f) p.sheaf e.sets Accepted) h.field is;
@@ -115,7 +115,7 @@ judge-step scripts start c i p e v new comes judged h = go v judged.after judged
           position = i;
           edit = e;
           sheaf = p.sheaf;
-          is_free = h.lanes c ∙ ap free (done-here scripts c i);
+          is_free = h.lanes c ∙ ap free_lane (done-here scripts c i);
           command = comes;
           current = h.current;
           judged = subst (λ f. IsVerdict (ops_of f) p.sheaf e.sets (Refused cause)) h.field is;
@@ -136,13 +136,13 @@ pub answer-step : (scripts : List (List Command)) (start : SheafData Field) (c i
 answer-step scripts start c i p q r comes right h =
     let K : Ops = ops_of start.field in
     let v : ℕ = h.current.0 in
-    let asking : State Field = record { sheaves = h.state.sheaves; lanes = with_lane h.state.lanes c (waiting i v) } in
-    let after : State Field = record { sheaves = h.state.sheaves; lanes = with_lane asking.lanes c (free (i + 1)) } in
+    let asking : State Field = record { sheaves = h.state.sheaves; lanes = with_lane h.state.lanes c (waiting_lane i v) } in
+    let after : State Field = record { sheaves = h.state.sheaves; lanes = with_lane asking.lanes c (free_lane (i + 1)) } in
     let ask : AskStep scripts c h.state asking = record {
       position = i;
       query = q;
       version = v;
-      is_free = h.lanes c ∙ ap free (done-here scripts c i);
+      is_free = h.lanes c ∙ ap free_lane (done-here scripts c i);
       command = comes;
       current = h.current.1;
       versions = refl;
@@ -153,7 +153,7 @@ answer-step scripts start c i p q r comes right h =
       query = q;
       version = v;
       sheaf = p.sheaf;
-      is_waiting = ap (λ b. if b then waiting i v else h.state.lanes c) (eq-eqb c c refl);
+      is_waiting = ap (λ b. if b then waiting_lane i v else h.state.lanes c) (eq-eqb c c refl);
       command = comes;
       asked = h.current.2;
       right = subst (λ f. IsRightReply (ops_of f) p.sheaf q r) h.field right;
@@ -169,13 +169,13 @@ answer-step scripts start c i p q r comes right h =
     }
   where
     over : (d : ℕ) (b : Bool) → (c == d) ≡ b
-        → with_lane (with_lane h.state.lanes c (waiting i h.current.0)) c (free (i + 1)) d ≡ with_lane h.state.lanes c (free (i + 1)) d
+        → with_lane (with_lane h.state.lanes c (waiting_lane i h.current.0)) c (free_lane (i + 1)) d ≡ with_lane h.state.lanes c (free_lane (i + 1)) d
     over d true e =
-        ap (λ b. if b then free (i + 1) else with_lane h.state.lanes c (waiting i h.current.0) d) e
-        ∙ sym (ap (λ b. if b then free (i + 1) else h.state.lanes d) e)
+        ap (λ b. if b then free_lane (i + 1) else with_lane h.state.lanes c (waiting_lane i h.current.0) d) e
+        ∙ sym (ap (λ b. if b then free_lane (i + 1) else h.state.lanes d) e)
     over d false e =
-        ap (λ b. if b then free (i + 1) else if b then waiting i h.current.0 else h.state.lanes d) e
-        ∙ sym (ap (λ b. if b then free (i + 1) else h.state.lanes d) e)
+        ap (λ b. if b then free_lane (i + 1) else if b then waiting_lane i h.current.0 else h.state.lanes d) e
+        ∙ sym (ap (λ b. if b then free_lane (i + 1) else h.state.lanes d) e)
 
 -- ---- first, next and last
 
@@ -185,7 +185,7 @@ first-stands scripts start = record {
   legal = refl;
   current = (0, refl, refl);
   field = refl;
-  lanes = λ d. ap free (sym (ap (λ b. if b then length (slice_index_or scripts d []) else if 0 == d then 0 else 0) (le-ltb d 0 (omega arith)) ∙ if-same (0 == d) 0));
+  lanes = λ d. ap free_lane (sym (ap (λ b. if b then length (slice_index_or scripts d []) else if 0 == d then 0 else 0) (le-ltb d 0 (omega arith)) ∙ if-same (0 == d) 0));
 }
 
 pub next-stands : (scripts : List (List Command)) (start : SheafData Field) (c : ℕ) (script : List Command) (p : Progress)
@@ -195,7 +195,7 @@ next-stands scripts start c script p there h = record {
   legal = h.legal;
   current = h.current;
   field = h.field;
-  lanes = λ d. h.lanes d ∙ ap free (done-next scripts c d script there);
+  lanes = λ d. h.lanes d ∙ ap free_lane (done-next scripts c d script there);
 }
 
 pub last-stands : (scripts : List (List Command)) (start : SheafData Field) (p : Progress)
@@ -203,7 +203,7 @@ pub last-stands : (scripts : List (List Command)) (start : SheafData Field) (p :
 last-stands scripts start p h = record {
   last = h.state;
   legal = h.legal;
-  whole = λ c script there. h.lanes c ∙ ap free (
+  whole = λ c script there. h.lanes c ∙ ap free_lane (
       ap (λ b. if b then length (slice_index_or scripts c []) else if length scripts == c then 0 else 0) (lt-ltb c (length scripts) (slice_get_within scripts c script there))
       ∙ ap length (get_or_from_slice_get scripts c script [] there));
 }

@@ -58,16 +58,16 @@ abbrev pub bad_words : Outcome
 bad_words = record { status = BadWords; text = codes "bad words\n" }
 
 -- numbers, with a space before each
-abbrev pub spaced : List ℕ → List ℕ
-spaced numbers = flat_map (λ number. codes " " ++ decimal number) numbers
+abbrev pub spaced_numbers : List ℕ → List ℕ
+spaced_numbers numbers = flat_map (λ number. codes " " ++ decimal number) numbers
 
 -- words, then numbers, and then the rest
 abbrev pub text_of_parts : List ℕ → List ℕ → List ℕ → List ℕ
-text_of_parts words numbers rest = (words ++ spaced numbers) ++ rest
+text_of_parts words numbers rest = (words ++ spaced_numbers numbers) ++ rest
 
 -- a line of words and then numbers
-abbrev pub line_of : List ℕ → List ℕ → List ℕ
-line_of words numbers = text_of_parts words numbers (codes "\n")
+abbrev pub text_line : List ℕ → List ℕ → List ℕ
+text_line words numbers = text_of_parts words numbers (codes "\n")
 
 -- a line that is refused: its number, and the cause
 abbrev pub bad_line : ℕ → LineCause → Outcome
@@ -75,18 +75,18 @@ bad_line line cause = record { status = BadLine; text = text_of_parts (codes "ba
 
 -- a limit that is passed, and the number of the line
 abbrev pub over_limit : ℕ → Which → Outcome
-over_limit line which = record { status = Limit; text = line_of (codes "limit " ++ limit_word which) (line ∷ []) }
+over_limit line which = record { status = Limit; text = text_line (codes "limit " ++ limit_word which) (line ∷ []) }
 
 -- what is wrong with a draft that is no sheaf
 abbrev pub refusal : SealFault → Outcome
-refusal (Complex (EdgeEnds t)) = record { status = BadComplex; text = line_of (codes "bad complex edge") (t ∷ []) }
-refusal (Complex (Middles s u count)) = record { status = BadComplex; text = line_of (codes "bad complex middles") (s ∷ u ∷ count ∷ []) }
-refusal (Complex (Signs s u)) = record { status = BadComplex; text = line_of (codes "bad complex signs") (s ∷ u ∷ []) }
-refusal (Noncommuting s u) = record { status = BadSheaf; text = line_of (codes "bad sheaf square") (s ∷ u ∷ []) }
+refusal (Complex (EdgeEnds t)) = record { status = BadComplex; text = text_line (codes "bad complex edge") (t ∷ []) }
+refusal (Complex (Middles s u count)) = record { status = BadComplex; text = text_line (codes "bad complex middles") (s ∷ u ∷ count ∷ []) }
+refusal (Complex (Signs s u)) = record { status = BadComplex; text = text_line (codes "bad complex signs") (s ∷ u ∷ []) }
+refusal (Noncommuting s u) = record { status = BadSheaf; text = text_line (codes "bad sheaf square") (s ∷ u ∷ []) }
 
 -- how many cells and faces a sheaf has, how many clients ask, and how many commands these have
 abbrev pub good : SheafData Field → ℕ → ℕ → Outcome
-good d clients commands = record { status = Done; text = line_of (codes "good") (length d.complex.dims ∷ length d.complex.faces ∷ clients ∷ commands ∷ []) }
+good d clients commands = record { status = Done; text = text_line (codes "good") (length d.complex.dims ∷ length d.complex.faces ∷ clients ∷ commands ∷ []) }
 
 -- the transcript of one legal order of all commands of these scripts on the sheaf, whole
 pub record IsSolution (d : SheafData Field) (scripts : List (List Command)) (a : Outcome) : Type 0 where

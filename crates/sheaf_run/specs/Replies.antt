@@ -1,7 +1,7 @@
 -- What a call that answers did to its sink.
 use Rattle.std.specs.Prelude.{◌≡◌, ◌≢◌, ℕ, ◌≤◌, List, Option}
 use Rattle.io_edge.specs.Faults.{Rose}
-use Rattle.io_edge.specs.Bytes.{Took, TookFront, IsFlushed}
+use Rattle.io_edge.specs.Bytes.{Took, TookPrefix, IsFlushed}
 use Rattle.sheaf_run.specs.Answers.{Outcome, IsAnswer}
 use Rattle.sheaf_run.specs.declared.status.Status.{Status}
 use Rattle.sheaf_run.specs.declared.status.Status.TheVariants.{ReadFault, WriteFault, NoMemory}
@@ -16,7 +16,7 @@ pub record Sent (a : Outcome) (old new : Option (List ℕ)) (flush : ℕ) (resul
 pub record Replies (IsRight : Outcome → Type 0) (old new : Option (List ℕ)) (flush before now : ℕ) (result : Status) : Type 0 where
   pub sent : IsAnswer result → (a : Outcome) × IsRight a × Sent a old new flush result
   pub rose : result ≡ WriteFault → Rose before now
-  pub front : result ≡ WriteFault → (a : Outcome) × IsRight a × TookFront old new a.text
+  pub front : result ≡ WriteFault → (a : Outcome) × IsRight a × TookPrefix old new a.text
   pub memory : result ≡ NoMemory → new ≡ old
   pub no_read : result ≢ ReadFault
   pub later : before ≤ now

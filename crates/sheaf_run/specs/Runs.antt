@@ -2,7 +2,7 @@
 use Rattle.std.specs.Prelude.{◌≡◌, ◌⊎◌, ◌↔◌, ℕ, List, Option, None, Some, IfSome}
 use Rattle.std.specs.Io.KnownBytes.{IsAtEnd}
 use Rattle.io_edge.specs.Faults.{Rose}
-use Rattle.io_edge.specs.Bytes.{Took, TookFront, IsFlushed}
+use Rattle.io_edge.specs.Bytes.{Took, TookPrefix, IsFlushed}
 use Rattle.field_table.specs.Table.{ops_of}
 use Rattle.sheaf_data.specs.Sheaves.{IsSheaf}
 use Rattle.sheaf_words.specs.declared.happening.Event.{Event}
@@ -23,7 +23,7 @@ Answered IsRight left old new flush result = IfSome left (λ bytes. (a : Outcome
 
 -- where the source tells its bytes, the sink took a front of the text of an outcome that is right for them
 abbrev pub Broken : (List ℕ → Outcome → Type 0) → Option (List ℕ) → Option (List ℕ) → Option (List ℕ) → Type 0
-Broken IsRight left old new = IfSome left (λ bytes. (a : Outcome) × IsRight bytes a × TookFront old new a.text)
+Broken IsRight left old new = IfSome left (λ bytes. (a : Outcome) × IsRight bytes a × TookPrefix old new a.text)
 
 -- the source is read to its end or not at all, and what its bytes are answered is written
 pub record Ran (IsRight : List ℕ → Outcome → Type 0) (left left_new old new : Option (List ℕ))

@@ -10,7 +10,7 @@ use Rattle.sheaf_words.specs.declared.editing.Verdict.{Verdict}
 use Rattle.sheaf_words.specs.declared.editing.Verdict.TheVariants.{Accepted, Refused}
 use Rattle.sheaf_words.specs.declared.happening.Event.{Event}
 use Rattle.edit_versions.specs.Verdicts.{IsVerdict, IsEdited}
-use Rattle.core_machine.specs.Machine.{State, free, IsLegal, IsCurrentSheaf}
+use Rattle.core_machine.specs.Machine.{State, free_lane, IsLegal, IsCurrentSheaf}
 
 -- the current sheaf, and what has happened
 pub record Progress : Type 0 where
@@ -41,4 +41,4 @@ pub record Stands (scripts : List (List Command)) (start : SheafData Field) (c i
   pub legal : IsLegal (ops_of start.field) scripts start p.events state
   pub current : IsCurrentSheaf state p.sheaf
   pub field : p.sheaf.field ≡ start.field
-  pub lanes : (d : ℕ) → state.lanes d ≡ free (done scripts c i d)
+  pub lanes : (d : ℕ) → state.lanes d ≡ free_lane (done scripts c i d)

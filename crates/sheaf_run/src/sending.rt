@@ -1,7 +1,7 @@
 ghost use Rattle.std.specs.Prelude.{◌≡◌, ◌⊎◌, ◌++◌, ◌≤◌, codes, decimal, OnOk, OnErr};
 ghost use Rattle.io_edge.specs.Faults.{HasCause};
-ghost use Rattle.io_edge.specs.Bytes.{Took, TookFront, IsFlushed};
-ghost use Rattle.sheaf_run.specs.Answers.{IsAnswer, spaced, line_of, text_of_parts};
+ghost use Rattle.io_edge.specs.Bytes.{Took, TookPrefix, IsFlushed};
+ghost use Rattle.sheaf_run.specs.Answers.{IsAnswer, spaced_numbers, text_line, text_of_parts};
 ghost use Rattle.sheaf_run.specs.Replies.{Replies, Sent};
 
 use crate::status::Status;
@@ -28,7 +28,7 @@ pub fn send<K: Sink>(sink: &mut K, status: Status, text: &[u8]) -> Status
 #[tactic(auto, using(io_edge::proofs::Known::taken_pieces))]
 fn put_number<K: Sink>(sink: &mut K, number: usize) -> Result<(), WriteFault>
     ensures ok { OnOk result (Took (K.taken sink.old) (K.taken sink.new) (codes " " ++ decimal number)) }
-    ensures err { OnErr result (TookFront (K.taken sink.old) (K.taken sink.new) (codes " " ++ decimal number)) }
+    ensures err { OnErr result (TookPrefix (K.taken sink.old) (K.taken sink.new) (codes " " ++ decimal number)) }
     ensures cause { HasCause (K.fault_count sink.old) (K.fault_count sink.new) result }
 {
     let mut buffer = Buffer::new();
@@ -39,8 +39,8 @@ fn put_number<K: Sink>(sink: &mut K, number: usize) -> Result<(), WriteFault>
 
 /// Gives the sink the numbers, each after a space. Takes no memory.
 fn put_numbers<K: Sink>(sink: &mut K, numbers: &[usize]) -> Result<(), WriteFault>
-    ensures ok { OnOk result (Took (K.taken sink.old) (K.taken sink.new) (spaced numbers.now)) }
-    ensures err { OnErr result (TookFront (K.taken sink.old) (K.taken sink.new) (spaced numbers.now)) }
+    ensures ok { OnOk result (Took (K.taken sink.old) (K.taken sink.new) (spaced_numbers numbers.now)) }
+    ensures err { OnErr result (TookPrefix (K.taken sink.old) (K.taken sink.new) (spaced_numbers numbers.now)) }
     ensures cause { HasCause (K.fault_count sink.old) (K.fault_count sink.new) result }
 {
     for number in numbers {
@@ -61,7 +61,7 @@ fn put_text<K: Sink>(
     rest: &[u8],
 ) -> Result<(), WriteFault>
     ensures ok { OnOk result (Took (K.taken sink.old) (K.taken sink.new) (text_of_parts words.now numbers.now rest.now)) }
-    ensures err { OnErr result (TookFront (K.taken sink.old) (K.taken sink.new) (text_of_parts words.now numbers.now rest.now)) }
+    ensures err { OnErr result (TookPrefix (K.taken sink.old) (K.taken sink.new) (text_of_parts words.now numbers.now rest.now)) }
     ensures cause { HasCause (K.fault_count sink.old) (K.fault_count sink.new) result }
 {
     write_all(sink, words)?;
@@ -94,7 +94,7 @@ pub fn send_text<K: Sink>(
 /// The same for a line of words and then numbers.
 pub fn send_line<K: Sink>(sink: &mut K, status: Status, words: &[u8], numbers: &[usize]) -> Status
     requires { IsAnswer status }
-    ensures { Replies (λ a. a ≡ record { status = status; text = line_of words.now numbers.now })
+    ensures { Replies (λ a. a ≡ record { status = status; text = text_line words.now numbers.now })
         (K.taken sink.old) (K.taken sink.new) (K.flushed sink.new) (K.fault_count sink.old) (K.fault_count sink.new) result }
 {
     send_text(sink, status, words, numbers, b"\n")

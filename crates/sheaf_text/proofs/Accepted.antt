@@ -4,11 +4,11 @@ use Rattle.std.specs.List.{list_any}
 use Rattle.std.proofs.lemmas.Bool.{eqb-true}
 use Rattle.std.proofs.lemmas.Map.Views.{Contains-from_any}
 use Rattle.cell_complex.specs.declared.fault.FaceFault.{FaceFault}
-use Rattle.cell_complex.specs.Verdicts.{fault_of}
+use Rattle.cell_complex.specs.Verdicts.{face_fault}
 use Rattle.field_table.specs.Table.{orders}
 use Rattle.sheaf_text.specs.Cut.{are_below}
-use Rattle.sheaf_text.specs.Lines.{value, may_stand, count_fits, are_numerals, is_sign, word, face_of}
-use Rattle.sheaf_text.specs.Grammar.{Known, is_full, complex_of, field_refusal, face_refusal, entries_refusal, incidence_refusal, kind_refusal, placed_refusal}
+use Rattle.sheaf_text.specs.Lines.{value, may_stand, count_fits, are_numerals, is_sign, word, face_in}
+use Rattle.sheaf_text.specs.Grammar.{Known, is_full, known_complex, field_refusal, face_refusal, entries_refusal, incidence_refusal, kind_refusal, placed_refusal}
 use Rattle.sheaf_text.specs.Reading.{is_set_kind}
 use Rattle.sheaf_text.specs.Parts.{TakesFace}
 use Rattle.sheaf_text.specs.State.{known_by, IsAccepted}
@@ -56,8 +56,8 @@ right k kind ws e =
     record { stands = holds _ a.0; counted = holds _ b.0; numerals = holds _ c.0; fits = c.1 }
 
 record FaceFits (k : Known) (ws : List (List ℕ)) : Type 0 where
-  pub no_fault : fault_of (complex_of k) (face_of ws) ≡ None
-  pub full : is_full k.stalks (face_of ws) (length (drop 4 ws)) ≡ true
+  pub no_fault : face_fault (known_complex k) (face_in ws) ≡ None
+  pub full : is_full k.stalks (face_in ws) (length (drop 4 ws)) ≡ true
   pub below : are_below k.order (drop 4 ws) ≡ true
 
 no_fault : (k : Known) (ws : List (List ℕ)) (f : Option FaceFault) → incidence_refusal k ws f ≡ None → (f ≡ None) × (entries_refusal k ws ≡ None)
@@ -67,8 +67,8 @@ no_fault k ws None e = (refl, e)
 face_fits : (k : Known) (ws : List (List ℕ)) → face_refusal k ws ≡ None → FaceFits k ws
 face_fits k ws e =
     let a = passes (not (is_sign (word ws 3))) _ _ e in
-    let b = no_fault k ws (fault_of (complex_of k) (face_of ws)) a.1 in
-    let c = passes (not (is_full k.stalks (face_of ws) (length (drop 4 ws)))) _ _ b.1 in
+    let b = no_fault k ws (face_fault (known_complex k) (face_in ws)) a.1 in
+    let c = passes (not (is_full k.stalks (face_in ws) (length (drop 4 ws)))) _ _ b.1 in
     let d = passes (not (are_below k.order (drop 4 ws))) _ _ c.1 in
     record { no_fault = b.0; full = holds _ c.0; below = holds _ d.0 }
 
@@ -98,7 +98,7 @@ pub face_accepted : (s : State) (ws : List (List ℕ)) → IsAccepted s kinds.Fa
 face_accepted s ws a =
     let fits = face_fits (known_by s) ws (right (known_by s) kinds.Face ws a.accepted).fits in
     record {
-      no_fault = ap (λ (ds : List ℕ). fault_of (record { dims = ds; faces = s.parts.complex.faces }) (face_of ws)) a.ready ∙ fits.no_fault;
+      no_fault = ap (λ (ds : List ℕ). face_fault (record { dims = ds; faces = s.parts.complex.faces }) (face_in ws)) a.ready ∙ fits.no_fault;
       full = fits.full;
       below = fits.below;
     }

@@ -13,8 +13,8 @@ use Rattle.field_table.specs.Table.{order_of, ops_of}
 use Rattle.square_check.specs.Squares.{HaveShapes}
 use Rattle.sheaf_data.specs.Sheaves.{AreBlocks}
 use Rattle.sheaf_text.specs.Cut.{value_of, are_below}
-use Rattle.sheaf_text.specs.Lines.{face_of}
-use Rattle.sheaf_text.specs.Parts.{AreParts, IsClosed, TakesFace, AddsFace, entries_of}
+use Rattle.sheaf_text.specs.Lines.{face_in}
+use Rattle.sheaf_text.specs.Parts.{AreDraftParts, IsClosed, TakesFace, AddsFace, entries_of}
 use Rattle.sheaf_text.specs.declared.parts.Parts.{Parts}
 
 -- what stands at a place of a list with one more at its end
@@ -55,20 +55,20 @@ below_all order (w ∷ ws) e =
 
 -- the blocks of a block more
 pub record IsBlockOf (p : Parts) (ws : List (List ℕ)) (b : Block) : Type 0 where
-  pub rows_are : b.rows ≡ slice_index p.stalks.items (face_of ws).t
-  pub cols_are : b.cols ≡ slice_index p.stalks.items (face_of ws).s
+  pub rows_are : b.rows ≡ slice_index p.stalks.items (face_in ws).t
+  pub cols_are : b.cols ≡ slice_index p.stalks.items (face_in ws).s
   pub entries_are : b.entries ≡ map value_of (drop 4 ws)
 
-blocks_more : (p : Parts) (ws : List (List ℕ)) (b : Block) → AreParts p → TakesFace p ws → IsBlockOf p ws b → AreBlocks (ops_of p.field) (p.complex.faces ++ face_of ws ∷ []) p.stalks.items (p.blocks.items ++ b ∷ [])
+blocks_more : (p : Parts) (ws : List (List ℕ)) (b : Block) → AreDraftParts p → TakesFace p ws → IsBlockOf p ws b → AreBlocks (ops_of p.field) (p.complex.faces ++ face_in ws ∷ []) p.stalks.items (p.blocks.items ++ b ∷ [])
 blocks_more p ws b parts takes is = record {
-  shapes = shapes_more p.stalks.items p.complex.faces p.blocks.items (face_of ws) b parts.blocks.shapes is.cols_are is.rows_are;
+  shapes = shapes_more p.stalks.items p.complex.faces p.blocks.items (face_in ws) b parts.blocks.shapes is.cols_are is.rows_are;
   scalars = All-push (λ (c : Block). AllScalars (ops_of p.field) c.entries) p.blocks.items b parts.blocks.scalars
       (subst (λ (es : List ℕ). All (λ a. a < order_of p.field) es) (sym is.entries_are) (below_all (order_of p.field) (drop 4 ws) takes.below));
 }
 
 -- the parts with a face more, and its block
-pub adds_face : (old new : Parts) (ws : List (List ℕ)) (b : Block) → AreParts old → IsClosed old → TakesFace old ws → IsBlockOf old ws b
-    → new.complex ≡ with_face old.complex (face_of ws) → new.blocks.items ≡ old.blocks.items ++ b ∷ [] → new.field ≡ old.field → new.dims ≡ old.dims → new.stalks ≡ old.stalks → new.total ≡ old.total → AddsFace old new ws
+pub adds_face : (old new : Parts) (ws : List (List ℕ)) (b : Block) → AreDraftParts old → IsClosed old → TakesFace old ws → IsBlockOf old ws b
+    → new.complex ≡ with_face old.complex (face_in ws) → new.blocks.items ≡ old.blocks.items ++ b ∷ [] → new.field ≡ old.field → new.dims ≡ old.dims → new.stalks ≡ old.stalks → new.total ≡ old.total → AddsFace old new ws
 adds_face old new ws b parts closed takes is complex blocks field dims stalks total = record {
   parts = record {
     cells = rw dims parts.cells;

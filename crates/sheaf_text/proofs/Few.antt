@@ -15,7 +15,7 @@ use Rattle.sheaf_words.specs.declared.editing.Set.{Set}
 use Rattle.sheaf_text.specs.Cut.{words}
 use Rattle.sheaf_text.specs.Lines.{is_skipped, kind_of}
 use Rattle.sheaf_text.specs.Grammar.{Known, refusal, content_refusal, kind_refusal, is_ended}
-use Rattle.sheaf_text.specs.Reading.{InputValue, Reading, Good, BadLine, contents, item_of, item_of_kind, set_of, ending, go_on, onto_last, into_last, into_script, with_set, input_of}
+use Rattle.sheaf_text.specs.Reading.{InputValue, Reading, Good, BadLine, contents, item_of, item_of_kind, set_of, reading_at_end, go_on, onto_last, into_last, into_script, command_with_set, input_of}
 use Rattle.sheaf_text.specs.Keeping.{advance, nothing_known, run}
 use Rattle.sheaf_text.specs.Answers.{Gives, CanBeServed, AreServable, input_value}
 use Rattle.sheaf_text.specs.declared.fault.LineCause.TheVariants as causes
@@ -68,14 +68,14 @@ more_changes m n le (Ask q) h = h
 all_more_changes : (m n : ℕ) → m ≤ n → (script : List Command) → All (CanBeServed m) script → All (CanBeServed n) script
 all_more_changes m n le = All-weaker (CanBeServed m) (CanBeServed n) (more_changes m n le)
 
-with_set-changes : (n : ℕ) (c : Command) (change : Set) → CanBeServed n c → CanBeServed (n + 1) (with_set c change)
+with_set-changes : (n : ℕ) (c : Command) (change : Set) → CanBeServed n c → CanBeServed (n + 1) (command_with_set c change)
 with_set-changes n (Change e) change h = omega (arith, length-append e.sets (change ∷ []))
 with_set-changes n (Ask q) change h = h
 
 into_script-changes : (n : ℕ) (script : List Command) (change : Set) → All (CanBeServed n) script → All (CanBeServed (n + 1)) (into_script script change)
 into_script-changes n [] change h = All-nil (CanBeServed (n + 1))
 into_script-changes n (c ∷ []) change h =
-    All-cons (CanBeServed (n + 1)) (with_set c change) [] (with_set-changes n c change (All-head (CanBeServed n) c [] h)) (All-nil (CanBeServed (n + 1)))
+    All-cons (CanBeServed (n + 1)) (command_with_set c change) [] (with_set-changes n c change (All-head (CanBeServed n) c [] h)) (All-nil (CanBeServed (n + 1)))
 into_script-changes n (c ∷ d ∷ more) change h =
     All-cons (CanBeServed (n + 1)) c (into_script (d ∷ more) change) (more_changes n (n + 1) (omega arith) c (All-head (CanBeServed n) c (d ∷ more) h))
     (into_script-changes n (d ∷ more) change (All-tail (CanBeServed n) c (d ∷ more) h))
@@ -163,7 +163,7 @@ line_keeps k line ws false is e few = rw is (content_keeps k line (kind_of ws) w
 
 -- ---- all lines
 
-scripts-ending : (k : Known) (line : ℕ) (v : InputValue) (b : Bool) → is_ended k.stage ≡ b → ending k line ≡ Good v → v.scripts ≡ k.scripts
+scripts-ending : (k : Known) (line : ℕ) (v : InputValue) (b : Bool) → is_ended k.stage ≡ b → reading_at_end k line ≡ Good v → v.scripts ≡ k.scripts
 scripts-ending k line v true e is = let same : Good (input_of k) ≡ Good v = sym (rw e refl) ∙ is in let value : input_of k ≡ v = cc in sym (ap (λ (w : InputValue). w.scripts) value)
 scripts-ending k line v false e is = let same : BadLine (line + 1) causes.End ≡ Good v = sym (rw e refl) ∙ is in absurd cc
 

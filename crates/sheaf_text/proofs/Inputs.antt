@@ -4,15 +4,15 @@ use Rattle.dense_blocks.specs.declared.block.Block.{Block}
 use Rattle.dense_blocks.proofs.SameBlocks.{same_block}
 use Rattle.field_table.proofs.Known.{order_of-injective}
 use Rattle.sheaf_text.specs.Reading.{Matrix, InputValue}
-use Rattle.sheaf_text.specs.Answers.{matrix_of, input_value}
+use Rattle.sheaf_text.specs.Answers.{plain_matrix, input_value}
 use Rattle.sheaf_text.specs.declared.input.Input.{Input}
 
 -- ---- an input is known by its value
 
-matrix_of-injective : (a b : Block) → matrix_of a ≡ matrix_of b → a ≡ b
+matrix_of-injective : (a b : Block) → plain_matrix a ≡ plain_matrix b → a ≡ b
 matrix_of-injective a b e = same_block a b (ap (λ (m : Matrix). m.rows) e) (ap (λ (m : Matrix). m.cols) e) (ap (λ (m : Matrix). m.entries) e)
 
-matrices-injective : (xs ys : List Block) → map matrix_of xs ≡ map matrix_of ys → xs ≡ ys
+matrices-injective : (xs ys : List Block) → map plain_matrix xs ≡ map plain_matrix ys → xs ≡ ys
 matrices-injective [] [] e = refl
 matrices-injective [] (b ∷ ys) e = absurd cc
 matrices-injective (a ∷ xs) [] e = absurd cc

@@ -9,7 +9,7 @@ use Rattle.std.proofs.lemmas.List.Elements.{filter_map-append}
 use Rattle.sheaf_text.specs.Cut.{words}
 use Rattle.sheaf_text.specs.Grammar.{Known, refusal}
 use Rattle.sheaf_text.specs.declared.fault.Which.TheVariants as limits
-use Rattle.sheaf_text.specs.Reading.{Item, Skipped, IsField, IsCell, IsFace, IsClient, IsQuery, IsEdit, IsSet, IsCommit, IsDone, Limit, item_of, ending, go_on, known_of, reading_from, reading, contents, stage_after, order_after, dim_in, stalk_in, face_in, entries_in, scripts_after, is_command, is_heavy, size_in, set_size, up_to_most}
+use Rattle.sheaf_text.specs.Reading.{Item, Skipped, IsField, IsCell, IsFace, IsClient, IsQuery, IsEdit, IsSet, IsCommit, IsDone, Limit, item_of, reading_at_end, go_on, known_of, reading_from, reading, contents, stage_after, order_after, dim_in, stalk_in, face_in, entries_in, scripts_after, is_command, is_heavy, size_in, set_size, up_to_most}
 use Rattle.sheaf_text.specs.Keeping.{advance, nothing_known, run}
 
 -- ---- one item more
@@ -98,7 +98,7 @@ run-line k line rest text after e = ap (λ ls. run k line (map words ls)) e
 pub run-taken : (k : Known) (line : ℕ) (rest text after : List ℕ) → lines rest ≡ text ∷ lines after → refusal k (words text) ≡ None → run (advance k (item_of (words text))) (line + 1) (contents after) ≡ run k line (contents rest)
 run-taken k line rest text after e accepted = sym (run-line k line rest text after e ∙ ap (λ o. go_on o (line + 1) (run (advance k (item_of (words text))) (line + 1) (contents after))) accepted)
 
-pub run-ends : (k : Known) (line : ℕ) (rest : List ℕ) → length rest ≡ 0 → run k line (contents rest) ≡ ending k line
+pub run-ends : (k : Known) (line : ℕ) (rest : List ℕ) → length rest ≡ 0 → run k line (contents rest) ≡ reading_at_end k line
 unfolding run
 run-ends k line [] e = refl
 run-ends k line (b ∷ rest) e = absurd (omega arith)

@@ -11,7 +11,7 @@ use Rattle.std.proofs.lemmas.Int.Digits.{digits_value_more}
 use Rattle.std.proofs.lemmas.List.{length-take}
 use Rattle.std.proofs.lemmas.Str.{digit_value_digit}
 use Rattle.std.proofs.lemmas.Str.Parse.{IsNumeralModel, numerals_by_value, tells_all_ascii_digits, digits_value_short}
-use Rattle.sheaf_text.specs.Cut.{number_of, value_of, has_bytes}
+use Rattle.sheaf_text.specs.Cut.{word_number, value_of, has_bytes}
 
 decimal : IsNumeralModel (λ ds. all_ascii_digits ds ≡ true) (digits_value 10)
 decimal = numerals_by_value _ tells_all_ascii_digits
@@ -31,10 +31,10 @@ not_all [] i lt e = absurd (omega arith)
 not_all (c ∷ w) zero lt e = ap (λ b. b && all_ascii_digits w) e
 not_all (c ∷ w) (suc i) lt e = ap (λ b. is_ascii_digit c && b) (not_all w i (omega arith) e) ∙ and_no (is_ascii_digit c)
 
-pub no_number : (w : List ℕ) (i : ℕ) → i < length w → is_ascii_digit (get_or w i 0) ≡ false → number_of w ≡ None
+pub no_number : (w : List ℕ) (i : ℕ) → i < length w → is_ascii_digit (get_or w i 0) ≡ false → word_number w ≡ None
 no_number w i lt e = ap (λ b. cond ((has_bytes w && nat_le (length w) 9) && b) (Some (digits_value 10 w)) None) (not_all w i lt e) ∙ ap (λ b. cond b (Some (digits_value 10 w)) None) (and_no (has_bytes w && nat_le (length w) 9))
 
-pub a_number : (w : List ℕ) → 0 < length w → length w ≤ 9 → AllDigits 10 w → number_of w ≡ Some (digits_value 10 w)
+pub a_number : (w : List ℕ) → 0 < length w → length w ≤ 9 → AllDigits 10 w → word_number w ≡ Some (digits_value 10 w)
 a_number w some short digits =
     let some' : has_bytes w ≡ true = grind (arith, nat_tests) in
     let short' : nat_le (length w) 9 ≡ true = grind (arith, nat_tests) in

@@ -8,7 +8,7 @@ use Rattle.sheaf_text.specs.Lines.{word}
 use Rattle.sheaf_text.specs.Reading.{IsQuery, IsEdit, IsSet, item_of_kind, set_of, set_size, is_set_kind, onto_last, into_script, into_last}
 use Rattle.sheaf_text.specs.Parts.{IsClosed}
 use Rattle.sheaf_text.specs.Scripts.{AddsQuery, OpensEdit, AddsSet}
-use Rattle.sheaf_text.specs.State.{IsSound, Takes}
+use Rattle.sheaf_text.specs.State.{IsSoundState, TakesItem}
 use Rattle.sheaf_text.proofs.Numbers.{value_of-below}
 use Rattle.sheaf_text.specs.declared.line.Kind.{Kind}
 use Rattle.sheaf_text.specs.declared.line.Kind.TheVariants as kinds
@@ -31,19 +31,19 @@ into_last-append [] cs s = refl
 into_last-append (r ∷ []) cs s = refl
 into_last-append (r ∷ t ∷ ss) cs s = ap (λ rs. r ∷ rs) (into_last-append (t ∷ ss) cs s)
 
-pub takes_query : (old : State) (scripts : Scripts) (q : Query) → IsSound old → old.stage ≡ stages.InClient → AddsQuery old.scripts scripts q → Takes old (record { stage = old.stage; parts = old.parts; scripts = scripts }) (IsQuery q)
+pub takes_query : (old : State) (scripts : Scripts) (q : Query) → IsSoundState old → old.stage ≡ stages.InClient → AddsQuery old.scripts scripts q → TakesItem old (record { stage = old.stage; parts = old.parts; scripts = scripts }) (IsQuery q)
 takes_query old scripts q sound at a = record {
   sound = record { parts = sound.parts; stands = sound.stands };
   known = rw (at, a.ended_same, a.commands_more, a.count_more, a.heavy_more, a.growth_same, onto_last-append old.scripts.ended.items old.scripts.commands.items (Ask q)) refl;
 }
 
-pub takes_edit : (old : State) (scripts : Scripts) → IsSound old → IsClosed old.parts → old.stage ≡ stages.InClient → OpensEdit old.scripts scripts → Takes old (record { stage = stages.InEdit; parts = old.parts; scripts = scripts }) IsEdit
+pub takes_edit : (old : State) (scripts : Scripts) → IsSoundState old → IsClosed old.parts → old.stage ≡ stages.InClient → OpensEdit old.scripts scripts → TakesItem old (record { stage = stages.InEdit; parts = old.parts; scripts = scripts }) IsEdit
 takes_edit old scripts sound closed at a = record {
   sound = record { parts = sound.parts; stands = closed };
   known = rw (at, a.ended_same, a.commands_same, a.no_sets, a.count_more, a.heavy_same, a.growth_same, onto_last-append old.scripts.ended.items old.scripts.commands.items (Change (record { sets = [] }))) refl;
 }
 
-pub takes_set : (old : State) (scripts : Scripts) (s : Set) → IsSound old → old.stage ≡ stages.InEdit → AddsSet old.scripts scripts s → Takes old (record { stage = old.stage; parts = old.parts; scripts = scripts }) (IsSet s)
+pub takes_set : (old : State) (scripts : Scripts) (s : Set) → IsSoundState old → old.stage ≡ stages.InEdit → AddsSet old.scripts scripts s → TakesItem old (record { stage = old.stage; parts = old.parts; scripts = scripts }) (IsSet s)
 takes_set old scripts s sound at a = record {
   sound = record { parts = sound.parts; stands = sound.stands };
   known = rw (

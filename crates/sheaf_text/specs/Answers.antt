@@ -10,8 +10,8 @@ use Rattle.sheaf_text.specs.declared.input.Input.{Input}
 use Rattle.sheaf_text.specs.declared.fault.TextFault.{TextFault}
 use Rattle.sheaf_text.specs.declared.fault.TextFault.TheVariants as faults
 
-abbrev pub matrix_of : Block → Matrix
-matrix_of b = record { rows = b.rows; cols = b.cols; entries = b.entries }
+abbrev pub plain_matrix : Block → Matrix
+plain_matrix b = record { rows = b.rows; cols = b.cols; entries = b.entries }
 
 -- an input as a plain value
 abbrev pub input_value : Input → InputValue
@@ -20,7 +20,7 @@ input_value i = record {
   dims = i.draft.complex.dims;
   faces = i.draft.complex.faces;
   stalks = i.draft.stalks;
-  blocks = map matrix_of i.draft.blocks;
+  blocks = map plain_matrix i.draft.blocks;
   scripts = i.scripts;
 }
 

@@ -22,15 +22,15 @@ pub record IsFirstWord (text word rest : List ℕ) : Type 0 where
   pub shorter : length rest < length text
 
 -- the number that a word is
-abbrev pub number_of : List ℕ → Option ℕ
-number_of w = if has_bytes w && nat_le (length w) 9 && all_ascii_digits w then Some (digits_value 10 w) else None
+abbrev pub word_number : List ℕ → Option ℕ
+word_number w = if has_bytes w && nat_le (length w) 9 && all_ascii_digits w then Some (digits_value 10 w) else None
 
 abbrev pub is_number : List ℕ → Bool
-is_number w = is_some (number_of w)
+is_number w = is_some (word_number w)
 
 -- the number that a word is, and 0 where it is none
 abbrev pub value_of : List ℕ → ℕ
-value_of w = unwrap_or (number_of w) 0
+value_of w = unwrap_or (word_number w) 0
 
 -- whether the number that each word is is below the order
 abbrev pub are_below : ℕ → List (List ℕ) → Bool

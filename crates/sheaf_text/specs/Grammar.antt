@@ -5,11 +5,11 @@ use Rattle.cell_complex.specs.declared.face.Face.{Face}
 use Rattle.cell_complex.specs.declared.fault.FaceFault.{FaceFault}
 use Rattle.cell_complex.specs.declared.fault.FaceFault.TheVariants.{UnknownCell, WrongDims, TwiceFace}
 use Rattle.cell_complex.specs.Complexes.{CellComplex}
-use Rattle.cell_complex.specs.Verdicts.{fault_of}
+use Rattle.cell_complex.specs.Verdicts.{face_fault}
 use Rattle.field_table.specs.Table.{orders}
 use Rattle.sheaf_words.specs.declared.asking.Command.{Command}
 use Rattle.sheaf_text.specs.Cut.{are_below}
-use Rattle.sheaf_text.specs.Lines.{word, value, is_skipped, kind_of, may_stand, count_fits, are_numerals, is_sign, face_of}
+use Rattle.sheaf_text.specs.Lines.{word, value, is_skipped, kind_of, may_stand, count_fits, are_numerals, is_sign, face_in}
 use Rattle.sheaf_text.specs.declared.line.Kind.{Kind}
 use Rattle.sheaf_text.specs.declared.line.Kind.TheVariants as kinds
 use Rattle.sheaf_text.specs.declared.line.Stage.{Stage}
@@ -52,8 +52,8 @@ cause_of (WrongDims s t) = causes.Dims
 cause_of (TwiceFace s t) = causes.Twice
 
 -- the cells and the faces so far
-abbrev pub complex_of : Known → CellComplex
-complex_of k = record { dims = k.dims; faces = k.faces }
+abbrev pub known_complex : Known → CellComplex
+known_complex k = record { dims = k.dims; faces = k.faces }
 
 -- whether there are as many entries as the restriction from stalk to stalk has
 abbrev pub is_full : List ℕ → Face → ℕ → Bool
@@ -61,7 +61,7 @@ is_full stalks f n = n == slice_index stalks f.t * slice_index stalks f.s
 
 abbrev pub entries_refusal : Known → List (List ℕ) → Option Refusal
 entries_refusal k ws =
-    if not (is_full k.stalks (face_of ws) (length (drop 4 ws))) then Some (Bad causes.Shape)
+    if not (is_full k.stalks (face_in ws) (length (drop 4 ws))) then Some (Bad causes.Shape)
     else if not (are_below k.order (drop 4 ws)) then Some (Bad causes.Entry)
     else if nat_le 32768 (length k.faces) then Some (Over limits.Faces)
     else None
@@ -73,7 +73,7 @@ incidence_refusal k ws None = entries_refusal k ws
 abbrev pub face_refusal : Known → List (List ℕ) → Option Refusal
 face_refusal k ws =
     if not (is_sign (word ws 3)) then Some (Bad causes.Sign)
-    else incidence_refusal k ws (fault_of (complex_of k) (face_of ws))
+    else incidence_refusal k ws (face_fault (known_complex k) (face_in ws))
 
 abbrev pub client_refusal : Known → Option Refusal
 client_refusal k = if nat_le 8 (length k.scripts) then Some (Over limits.Clients) else None

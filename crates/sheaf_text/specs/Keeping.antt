@@ -3,7 +3,7 @@ use Rattle.std.specs.Prelude.{ℕ, ◌+◌, List, [], ◌∷◌, ◌++◌, if◌
 use Rattle.sheaf_words.specs.declared.asking.Command.TheVariants.{Change, Ask}
 use Rattle.sheaf_words.specs.declared.asking.Query.{Query}
 use Rattle.sheaf_text.specs.Grammar.{Known, refusal}
-use Rattle.sheaf_text.specs.Reading.{Item, Skipped, IsField, IsCell, IsFace, IsClient, IsQuery, IsEdit, IsSet, IsCommit, IsDone, Reading, item_of, ending, go_on, is_heavy_query, set_size, up_to_most, onto_last, into_last}
+use Rattle.sheaf_text.specs.Reading.{Item, Skipped, IsField, IsCell, IsFace, IsClient, IsQuery, IsEdit, IsSet, IsCommit, IsDone, Reading, item_of, reading_at_end, go_on, is_heavy_query, set_size, up_to_most, onto_last, into_last}
 use Rattle.sheaf_text.specs.declared.line.Stage.TheVariants as stages
 
 -- one more, if the question is heavy
@@ -27,5 +27,5 @@ abbrev pub nothing_known : Known
 nothing_known = record { stage = stages.Start; order = 2; dims = []; stalks = []; faces = []; entries = []; scripts = []; commands = 0; heavy = 0; growth = 0 }
 
 unfoldable pub run : Known → ℕ → List (List (List ℕ)) → Reading
-run k line [] = ending k line
+run k line [] = reading_at_end k line
 run k line (ws ∷ more) = go_on (refusal k ws) (line + 1) (run (advance k (item_of ws)) (line + 1) more)

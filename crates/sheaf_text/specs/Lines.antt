@@ -80,5 +80,5 @@ abbrev pub sign_of : List ℕ → Sign
 sign_of w = if bytes_eq w (codes "+") then Plus else Minus
 
 -- the face of a line, and its entries
-abbrev pub face_of : List (List ℕ) → Face
-face_of ws = record { s = value ws 1; t = value ws 2; sign = sign_of (word ws 3) }
+abbrev pub face_in : List (List ℕ) → Face
+face_in ws = record { s = value ws 1; t = value ws 2; sign = sign_of (word ws 3) }

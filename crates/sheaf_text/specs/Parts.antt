@@ -1,18 +1,18 @@
 -- What the lines so far say of a sheaf, as the reader keeps it.
 use Rattle.std.specs.Prelude.{◌≡◌, ℕ, List, [], ◌∷◌, ◌++◌, true, None, map, drop, length, sum}
 use Rattle.cell_complex.specs.Complexes.{AreCells}
-use Rattle.cell_complex.specs.Verdicts.{fault_of}
+use Rattle.cell_complex.specs.Verdicts.{face_fault}
 use Rattle.dense_blocks.specs.declared.block.Block.{Block}
 use Rattle.field_table.specs.Table.{order_of, ops_of}
 use Rattle.field_table.specs.declared.field.Field.{Field}
 use Rattle.sheaf_data.specs.Sheaves.{SheafData, AreStalks, AreBlocks}
 use Rattle.sheaf_text.specs.Cut.{value_of, are_below}
-use Rattle.sheaf_text.specs.Lines.{face_of}
+use Rattle.sheaf_text.specs.Lines.{face_in}
 use Rattle.sheaf_text.specs.Grammar.{is_full}
 use Rattle.sheaf_text.specs.declared.parts.Parts.{Parts}
 
 -- cells with stalks, and a block of scalars for each face of the complex, from stalk to stalk
-pub record AreParts (p : Parts) : Type 0 where
+pub record AreDraftParts (p : Parts) : Type 0 where
   pub cells : AreCells p.dims.items
   pub stalks : AreStalks p.dims.items p.stalks.items
   pub total : p.total ≡ sum p.stalks.items
@@ -40,7 +40,7 @@ pub record SameFaces (old new : Parts) : Type 0 where
   pub blocks_same : new.blocks.items ≡ old.blocks.items
 
 pub record AreNew (p : Parts) : Type 0 where
-  pub parts : AreParts p
+  pub parts : AreDraftParts p
   pub open_ : IsOpen p
   pub closed : IsClosed p
   pub order : order_of p.field ≡ 2
@@ -49,20 +49,20 @@ pub record AreNew (p : Parts) : Type 0 where
   pub no_blocks : p.blocks.items ≡ []
 
 pub record IsOrdered (old new : Parts) (order : ℕ) : Type 0 where
-  pub parts : AreParts new
+  pub parts : AreDraftParts new
   pub order_is : order_of new.field ≡ order
   pub cells : SameCells old new
   pub faces : SameFaces old new
 
 pub record AddsCell (old new : Parts) (dim stalk : ℕ) : Type 0 where
-  pub parts : AreParts new
+  pub parts : AreDraftParts new
   pub dims_more : new.dims.items ≡ old.dims.items ++ dim ∷ []
   pub stalks_more : new.stalks.items ≡ old.stalks.items ++ stalk ∷ []
   pub field_same : new.field ≡ old.field
   pub faces : SameFaces old new
 
 pub record IsShut (old new : Parts) : Type 0 where
-  pub parts : AreParts new
+  pub parts : AreDraftParts new
   pub closed : IsClosed new
   pub field_same : new.field ≡ old.field
   pub cells : SameCells old new
@@ -70,14 +70,14 @@ pub record IsShut (old new : Parts) : Type 0 where
 
 -- the face of a line of these words fits, and so do its entries
 pub record TakesFace (p : Parts) (ws : List (List ℕ)) : Type 0 where
-  pub no_fault : fault_of p.complex (face_of ws) ≡ None
-  pub full : is_full p.stalks.items (face_of ws) (length (drop 4 ws)) ≡ true
+  pub no_fault : face_fault p.complex (face_in ws) ≡ None
+  pub full : is_full p.stalks.items (face_in ws) (length (drop 4 ws)) ≡ true
   pub below : are_below (order_of p.field) (drop 4 ws) ≡ true
 
 pub record AddsFace (old new : Parts) (ws : List (List ℕ)) : Type 0 where
-  pub parts : AreParts new
+  pub parts : AreDraftParts new
   pub closed : IsClosed new
-  pub faces_more : new.complex.faces ≡ old.complex.faces ++ face_of ws ∷ []
+  pub faces_more : new.complex.faces ≡ old.complex.faces ++ face_in ws ∷ []
   pub entries_more : entries_of new ≡ entries_of old ++ map value_of (drop 4 ws) ∷ []
   pub field_same : new.field ≡ old.field
   pub cells : SameCells old new

@@ -1,4 +1,4 @@
--- The reading of bytes: each line is judged from the lines before it, and the first that is refused decides.
+-- The reading of bytes: each line is judged from the lines before it, and the first that is refused_reading decides.
 use Rattle.std.specs.Prelude.{ℕ, ◌+◌, Bool, true, false, List, [], ◌∷◌, ◌++◌, drop, length, map, min, count_by, sum_by, Option, Some, None, nat_lt, slice_index, if◌then◌else◌}
 use Rattle.std.specs.List.{fold, filter_map}
 use Rattle.std.specs.Str.Lines.{lines}
@@ -10,7 +10,7 @@ use Rattle.sheaf_words.specs.declared.asking.Query.TheVariants.{Betti}
 use Rattle.sheaf_words.specs.declared.editing.Set.{Set}
 use Rattle.sheaf_words.specs.declared.editing.Set.TheVariants as sets
 use Rattle.sheaf_text.specs.Cut.{words, value_of}
-use Rattle.sheaf_text.specs.Lines.{value, is_skipped, kind_of, face_of}
+use Rattle.sheaf_text.specs.Lines.{value, is_skipped, kind_of, face_in}
 use Rattle.sheaf_text.specs.Grammar.{Known, refusal, is_ended}
 use Rattle.sheaf_text.specs.declared.line.Kind.{Kind}
 use Rattle.sheaf_text.specs.declared.line.Kind.TheVariants as kinds
@@ -23,7 +23,7 @@ use Rattle.sheaf_text.specs.declared.fault.Which.TheVariants as limits
 use Rattle.sheaf_text.specs.declared.fault.Refusal.{Refusal}
 use Rattle.sheaf_text.specs.declared.fault.Refusal.TheVariants.{Bad, Over}
 
--- ---- what a line says that is not refused
+-- ---- what a line says that is not refused_reading
 
 pub data Item : Type 0 where
   Skipped : Item
@@ -50,7 +50,7 @@ set_of kind ws = sets.Stalk (value ws 1) (value ws 2)
 abbrev pub item_of_kind : Option Kind → List (List ℕ) → Item
 item_of_kind (Some kinds.Field) ws = IsField (value ws 1)
 item_of_kind (Some kinds.Cell) ws = IsCell (value ws 1) (value ws 2)
-item_of_kind (Some kinds.Face) ws = IsFace (face_of ws) (map value_of (drop 4 ws))
+item_of_kind (Some kinds.Face) ws = IsFace (face_in ws) (map value_of (drop 4 ws))
 item_of_kind (Some kinds.Client) ws = IsClient
 item_of_kind (Some kinds.Betti) ws = IsQuery Betti
 item_of_kind (Some kinds.Edit) ws = IsEdit
@@ -105,14 +105,14 @@ onto_last (s ∷ []) c = (s ++ c ∷ []) ∷ []
 onto_last (s ∷ t ∷ more) c = s ∷ onto_last (t ∷ more) c
 
 -- a change more in the command, if it is an edit
-abbrev pub with_set : Command → Set → Command
-with_set (Change e) s = Change (record { sets = e.sets ++ s ∷ [] })
-with_set (Ask q) s = Ask q
+abbrev pub command_with_set : Command → Set → Command
+command_with_set (Change e) s = Change (record { sets = e.sets ++ s ∷ [] })
+command_with_set (Ask q) s = Ask q
 
 -- a change more in the last command of a script, and of the last script
 abbrev pub into_script : List Command → Set → List Command
 into_script [] s = []
-into_script (c ∷ []) s = with_set c s ∷ []
+into_script (c ∷ []) s = command_with_set c s ∷ []
 into_script (c ∷ d ∷ more) s = c ∷ into_script (d ∷ more) s
 
 abbrev pub into_last : List (List Command) → Set → List (List Command)
@@ -201,21 +201,21 @@ abbrev pub input_of : Known → InputValue
 input_of k = record { order = k.order; dims = k.dims; faces = k.faces; stalks = k.stalks; blocks = blocks_of k.stalks k.faces k.entries; scripts = k.scripts }
 
 -- at the end of the lines
-abbrev pub ending : Known → ℕ → Reading
-ending k line = if is_ended k.stage then Good (input_of k) else BadLine (line + 1) causes.End
+abbrev pub reading_at_end : Known → ℕ → Reading
+reading_at_end k line = if is_ended k.stage then Good (input_of k) else BadLine (line + 1) causes.End
 
-abbrev pub refused : ℕ → Refusal → Reading
-refused line (Bad cause) = BadLine line cause
-refused line (Over which) = Limit line which
+abbrev pub refused_reading : ℕ → Refusal → Reading
+refused_reading line (Bad cause) = BadLine line cause
+refused_reading line (Over which) = Limit line which
 
--- a refused line decides; else the lines after it do
+-- a refused_reading line decides; else the lines after it do
 abbrev pub go_on : Option Refusal → ℕ → Reading → Reading
-go_on (Some r) line later = refused line r
+go_on (Some r) line later = refused_reading line r
 go_on None line later = later
 
 -- the reading of lines after earlier ones
 abbrev pub reading_from : List Item → List (List (List ℕ)) → Reading
-reading_from earlier [] = ending (known_of earlier) (length earlier)
+reading_from earlier [] = reading_at_end (known_of earlier) (length earlier)
 reading_from earlier (ws ∷ more) = go_on (refusal (known_of earlier) ws) (length earlier + 1) (reading_from (earlier ++ item_of ws ∷ []) more)
 
 -- the words of each line

@@ -7,7 +7,7 @@ use Rattle.sheaf_text.specs.Grammar.{Known, refusal, placed_refusal, content_ref
 use Rattle.sheaf_text.specs.Reading.{Item, Reading, item_of, go_on}
 use Rattle.sheaf_text.specs.Keeping.{advance, nothing_known}
 use Rattle.sheaf_text.specs.Answers.{GivesFault}
-use Rattle.sheaf_text.specs.Parts.{AreParts, IsOpen, IsClosed, entries_of}
+use Rattle.sheaf_text.specs.Parts.{AreDraftParts, IsOpen, IsClosed, entries_of}
 use Rattle.sheaf_text.specs.declared.fault.TextFault.{TextFault}
 use Rattle.sheaf_text.specs.declared.line.Kind.{Kind}
 use Rattle.sheaf_text.specs.declared.line.Kind.TheVariants as kinds
@@ -39,14 +39,14 @@ known_by s = record {
 }
 
 -- before the first face there are no faces, and after the last cell the complex has all cells
-abbrev pub StandsAt : Stage → Parts → Type 0
-StandsAt stages.Start p = IsOpen p × IsClosed p
-StandsAt stages.Cells p = IsOpen p
-StandsAt stage p = IsClosed p
+abbrev pub AreAtStage : Stage → Parts → Type 0
+AreAtStage stages.Start p = IsOpen p × IsClosed p
+AreAtStage stages.Cells p = IsOpen p
+AreAtStage stage p = IsClosed p
 
-pub record IsSound (s : State) : Type 0 where
-  pub parts : AreParts s.parts
-  pub stands : StandsAt s.stage s.parts
+pub record IsSoundState (s : State) : Type 0 where
+  pub parts : AreDraftParts s.parts
+  pub stands : AreAtStage s.stage s.parts
 
 -- where a line of this kind is judged, the complex has all cells, unless it is one of a cell
 abbrev pub IsReadyFor : Option Kind → Parts → Type 0
@@ -55,18 +55,18 @@ IsReadyFor kind p = IsClosed p
 
 -- nothing is known yet
 pub record IsUntouched (s : State) : Type 0 where
-  pub sound : IsSound s
+  pub sound : IsSoundState s
   pub known : known_by s ≡ nothing_known
 
 -- the same is known, and a line of this kind can be judged
 pub record IsReady (old new : State) (kind : Option Kind) : Type 0 where
-  pub sound : IsSound new
+  pub sound : IsSoundState new
   pub ready : IsReadyFor kind new.parts
   pub known : known_by new ≡ known_by old
 
 -- a line of this kind, with these words, is not refused
 pub record IsAccepted (s : State) (kind : Kind) (ws : List (List ℕ)) : Type 0 where
-  pub sound : IsSound s
+  pub sound : IsSoundState s
   pub ready : IsReadyFor (Some kind) s.parts
   pub accepted : placed_refusal (known_by s) kind ws ≡ None
 
@@ -77,14 +77,14 @@ pub record IsFound (k : Known) (kind : Option Kind) (ws : List (List ℕ)) (foun
   pub not_refused : content_refusal k kind ws ≡ None
 
 -- the item is taken
-pub record Takes (old new : State) (i : Item) : Type 0 where
-  pub sound : IsSound new
+pub record TakesItem (old new : State) (i : Item) : Type 0 where
+  pub sound : IsSoundState new
   pub known : known_by new ≡ advance (known_by old) i
 
 -- a line that is not refused is taken; else, whatever comes later, this is the answer
 pub record TakesLine (old new : State) (ws : List (List ℕ)) : Type 0 where
   pub accepted : refusal (known_by old) ws ≡ None
-  pub sound : IsSound new
+  pub sound : IsSoundState new
   pub known : known_by new ≡ advance (known_by old) (item_of ws)
 
 abbrev pub RefusesLine : State → ℕ → List (List ℕ) → TextFault → Type 0

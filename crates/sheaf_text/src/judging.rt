@@ -1,8 +1,8 @@
 ghost use Rattle.std.specs.Prelude.{◌≡◌, length, IfOk, IfErr};
 ghost use Rattle.sheaf_text.specs.Cut.{words};
-ghost use Rattle.sheaf_text.specs.Parts.{AreParts, IsClosed};
+ghost use Rattle.sheaf_text.specs.Parts.{AreDraftParts, IsClosed};
 ghost use Rattle.sheaf_text.specs.Grammar.{is_ended, is_full, cause_of, field_refusal, cell_refusal, entries_refusal, face_refusal, client_refusal, command_refusal, done_refusal, reach, kind_refusal, placed_refusal, content_refusal};
-ghost use Rattle.sheaf_text.specs.State.{known_by, scripts_at, IsSound, IsReadyFor, IsFound};
+ghost use Rattle.sheaf_text.specs.State.{known_by, scripts_at, IsSoundState, IsReadyFor, IsFound};
 
 use crate::fault::{LineCause, Refusal, Which};
 use crate::line::{Kind, Stage, are_numerals, count_fits, face_of, is_sign, may_stand};
@@ -39,7 +39,7 @@ fn field_refusal(text: &[u8]) -> Option<Refusal>
 }
 
 fn cell_refusal(state: &State, text: &[u8]) -> Option<Refusal>
-    requires { AreParts state.now.parts }
+    requires { AreDraftParts state.now.parts }
     ensures { result ≡ cell_refusal (known_by state.now) (words text.now) }
 {
     let stalk = value_at(text, 2);
@@ -132,14 +132,14 @@ fn command_refusal(state: &State) -> Option<Refusal>
 
 /// The most coordinates that the sheaf may come to have.
 fn reach(state: &State) -> u32
-    requires { AreParts state.now.parts }
+    requires { AreDraftParts state.now.parts }
     ensures { result ≡ reach (known_by state.now) }
 {
     MOST_OF_ALL.min(state.parts.total + state.scripts.growth)
 }
 
 fn done_refusal(state: &State) -> Option<Refusal>
-    requires { AreParts state.now.parts }
+    requires { AreDraftParts state.now.parts }
     ensures { result ≡ done_refusal (known_by state.now) }
 {
     let reach = u64::from(reach(state));
@@ -151,7 +151,7 @@ fn done_refusal(state: &State) -> Option<Refusal>
 }
 
 fn kind_refusal(state: &State, kind: Kind, text: &[u8]) -> Option<Refusal>
-    requires sound { IsSound state.now }
+    requires sound { IsSoundState state.now }
     requires ready { IsReadyFor (Some kind) state.now.parts }
     ensures { result ≡ kind_refusal (known_by state.now) kind (words text.now) }
 {
@@ -167,7 +167,7 @@ fn kind_refusal(state: &State, kind: Kind, text: &[u8]) -> Option<Refusal>
 }
 
 fn placed_refusal(state: &State, kind: Kind, text: &[u8]) -> Option<Refusal>
-    requires sound { IsSound state.now }
+    requires sound { IsSoundState state.now }
     requires ready { IsReadyFor (Some kind) state.now.parts }
     ensures { result ≡ placed_refusal (known_by state.now) kind (words text.now) }
 {
@@ -191,7 +191,7 @@ pub(crate) fn is_ended(stage: Stage) -> bool
 
 /// The kind of a line that is not skipped, or why it is refused.
 pub(crate) fn judged(state: &State, kind: Option<Kind>, text: &[u8]) -> Result<Kind, Refusal>
-    requires sound { IsSound state.now }
+    requires sound { IsSoundState state.now }
     requires ready { IsReadyFor kind state.now.parts }
     ensures ok { IfOk result (λ found. IsFound (known_by state.now) kind (words text.now) found) }
     ensures err { IfErr result (λ refusal. content_refusal (known_by state.now) kind (words text.now) ≡ Some refusal) }

@@ -1,6 +1,6 @@
 ghost use Rattle.std.specs.Prelude.{◌≡◌, [], slice_get};
 ghost use Rattle.sheaf_text.specs.Cut.{words};
-ghost use Rattle.sheaf_text.specs.Lines.{is_skipped, kind_of_word, kind_of, may_stand, count_fits, are_numerals, is_sign, sign_of, face_of};
+ghost use Rattle.sheaf_text.specs.Lines.{is_skipped, kind_of_word, kind_of, may_stand, count_fits, are_numerals, is_sign, sign_of, face_in};
 
 use crate::words::{after_words, are_numbers, number, value_at, word_at};
 use cell_complex::{Face, Sign};
@@ -133,7 +133,7 @@ fn sign_of(word: &[u8]) -> Sign
 
 /// The face of a line, without its entries.
 pub(crate) fn face_of(text: &[u8]) -> Face
-    ensures { result ≡ face_of (words text.now) }
+    ensures { result ≡ face_in (words text.now) }
 {
     Face {
         s: value_at(text, 1),

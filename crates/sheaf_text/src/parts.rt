@@ -1,10 +1,10 @@
 ghost use Rattle.std.specs.Prelude.{◌≡◌, ◌+◌, ◌<◌, ◌≤◌, None, [], length, sum, slice_index, Contains, IfOk, OnOk};
 ghost use Rattle.cell_complex.specs.Complexes.{with_face};
-ghost use Rattle.cell_complex.specs.Verdicts.{fault_of};
+ghost use Rattle.cell_complex.specs.Verdicts.{face_fault};
 ghost use Rattle.field_table.specs.Table.{orders};
 ghost use Rattle.sheaf_text.specs.Cut.{words};
-ghost use Rattle.sheaf_text.specs.Lines.{face_of};
-ghost use Rattle.sheaf_text.specs.Parts.{AreParts, IsOpen, IsClosed, AreNew, IsOrdered, AddsCell, IsShut, TakesFace, AddsFace, IsDraftOf};
+ghost use Rattle.sheaf_text.specs.Lines.{face_in};
+ghost use Rattle.sheaf_text.specs.Parts.{AreDraftParts, IsOpen, IsClosed, AreNew, IsOrdered, AddsCell, IsShut, TakesFace, AddsFace, IsDraftOf};
 
 use crate::line::face_of;
 use crate::words::{after_words, scalars};
@@ -40,7 +40,7 @@ pub(crate) fn stalk_of(stalks: &[u8], cell: u32) -> u32
 
 /// Adds a face that has no fault.
 fn add_face(complex: &mut Complex, face: Face) -> Result<(), NoMemory>
-    requires { fault_of complex.old face ≡ None }
+    requires { face_fault complex.old face ≡ None }
     ensures { OnOk result (complex.new ≡ with_face complex.old face) }
 {
     match complex.add_face(face) {
@@ -67,7 +67,7 @@ impl Parts {
 
     /// Takes the order of the field.
     pub fn set_field(&mut self, order: u32)
-        requires parts { AreParts self.old }
+        requires parts { AreDraftParts self.old }
         requires open { IsOpen self.old }
         requires known { Contains orders order }
         ensures { IsOrdered self.old self.new order }
@@ -79,7 +79,7 @@ impl Parts {
 
     /// Adds a cell, as the last.
     pub fn add_cell(&mut self, dim: u32, stalk: u32) -> Result<(), NoMemory>
-        requires parts { AreParts self.old }
+        requires parts { AreDraftParts self.old }
         requires open { IsOpen self.old }
         requires dim { dim ≤ 15 }
         requires stalk { stalk ≤ 16 }
@@ -95,7 +95,7 @@ impl Parts {
 
     /// Gives the complex its cells.
     pub fn close(&mut self, alloc: Global) -> Result<(), NoMemory>
-        requires parts { AreParts self.old }
+        requires parts { AreDraftParts self.old }
         requires open { IsOpen self.old }
         ensures { OnOk result (IsShut self.old self.new) }
     {
@@ -105,7 +105,7 @@ impl Parts {
 
     /// Adds the face of a line, as the last.
     pub fn add_face(&mut self, alloc: Global, text: &[u8]) -> Result<(), NoMemory>
-        requires parts { AreParts self.old }
+        requires parts { AreDraftParts self.old }
         requires closed { IsClosed self.old }
         requires fits { TakesFace self.old (words text.now) }
         ensures { OnOk result (AddsFace self.old self.new (words text.now)) }
@@ -122,7 +122,7 @@ impl Parts {
 
     /// What the lines said.
     pub fn into_draft(self) -> Draft<Field>
-        requires parts { AreParts self }
+        requires parts { AreDraftParts self }
         requires closed { IsClosed self }
         ensures { IsDraftOf self result }
     {

@@ -1,8 +1,8 @@
 ghost use Rattle.std.specs.Prelude.{◌≡◌, ◌-◌, ◌^◌, ◌<◌, true, IfOk, IfErr, OnOk};
 ghost use Rattle.sheaf_text.specs.Cut.{words};
 ghost use Rattle.sheaf_text.specs.Answers.{Gives, GivesFault};
-ghost use Rattle.sheaf_text.specs.Reading.{item_of_kind, set_of, is_set_kind, ending, refused};
-ghost use Rattle.sheaf_text.specs.State.{known_by, IsSound, IsReady, IsAccepted, IsUntouched, Takes, TakesLine, RefusesLine};
+ghost use Rattle.sheaf_text.specs.Reading.{item_of_kind, set_of, is_set_kind, reading_at_end, refused_reading};
+ghost use Rattle.sheaf_text.specs.State.{known_by, IsSoundState, IsReady, IsAccepted, IsUntouched, TakesItem, TakesLine, RefusesLine};
 
 use crate::fault::{LineCause, Refusal, TextFault};
 use crate::input::Input;
@@ -58,7 +58,7 @@ impl State {
 
     /// Gives the complex its cells before the first line that is none of a cell.
     fn ready(&mut self, alloc: Global, kind: Option<Kind>) -> Result<(), NoMemory>
-        requires { IsSound self.old }
+        requires { IsSoundState self.old }
         ensures { OnOk result (IsReady self.old self.new kind) }
     {
         match (self.stage, kind) {
@@ -70,7 +70,7 @@ impl State {
 
     fn take_field(&mut self, text: &[u8])
         requires { IsAccepted self.old Kind.Field (words text.now) }
-        ensures { Takes self.old self.new (item_of_kind (Some Kind.Field) (words text.now)) }
+        ensures { TakesItem self.old self.new (item_of_kind (Some Kind.Field) (words text.now)) }
     {
         self.parts.set_field(value_at(text, 1));
         self.stage = Stage::Cells;
@@ -78,7 +78,7 @@ impl State {
 
     fn take_cell(&mut self, text: &[u8]) -> Result<(), NoMemory>
         requires { IsAccepted self.old Kind.Cell (words text.now) }
-        ensures { OnOk result (Takes self.old self.new (item_of_kind (Some Kind.Cell) (words text.now))) }
+        ensures { OnOk result (TakesItem self.old self.new (item_of_kind (Some Kind.Cell) (words text.now))) }
     {
         self.parts.add_cell(value_at(text, 1), value_at(text, 2))?;
         self.stage = Stage::Cells;
@@ -87,7 +87,7 @@ impl State {
 
     fn take_face(&mut self, alloc: Global, text: &[u8]) -> Result<(), NoMemory>
         requires { IsAccepted self.old Kind.Face (words text.now) }
-        ensures { OnOk result (Takes self.old self.new (item_of_kind (Some Kind.Face) (words text.now))) }
+        ensures { OnOk result (TakesItem self.old self.new (item_of_kind (Some Kind.Face) (words text.now))) }
     {
         self.parts.add_face(alloc, text)?;
         self.stage = Stage::Faces;
@@ -96,7 +96,7 @@ impl State {
 
     fn take_client(&mut self, alloc: Global, text: &[u8]) -> Result<(), NoMemory>
         requires { IsAccepted self.old Kind.Client (words text.now) }
-        ensures { OnOk result (Takes self.old self.new (item_of_kind (Some Kind.Client) (words text.now))) }
+        ensures { OnOk result (TakesItem self.old self.new (item_of_kind (Some Kind.Client) (words text.now))) }
     {
         let is_open = self.stage == Stage::InClient;
         self.scripts.end_script(alloc, is_open)?;
@@ -106,7 +106,7 @@ impl State {
 
     fn take_betti(&mut self, text: &[u8]) -> Result<(), NoMemory>
         requires { IsAccepted self.old Kind.Betti (words text.now) }
-        ensures { OnOk result (Takes self.old self.new (item_of_kind (Some Kind.Betti) (words text.now))) }
+        ensures { OnOk result (TakesItem self.old self.new (item_of_kind (Some Kind.Betti) (words text.now))) }
     {
         self.scripts.add_query(Query::Betti)?;
         Ok(())
@@ -114,7 +114,7 @@ impl State {
 
     fn take_edit(&mut self, alloc: Global, text: &[u8])
         requires { IsAccepted self.old Kind.Edit (words text.now) }
-        ensures { Takes self.old self.new (item_of_kind (Some Kind.Edit) (words text.now)) }
+        ensures { TakesItem self.old self.new (item_of_kind (Some Kind.Edit) (words text.now)) }
     {
         self.scripts.open_edit(alloc);
         self.stage = Stage::InEdit;
@@ -123,7 +123,7 @@ impl State {
     fn take_set(&mut self, alloc: Global, kind: Kind, text: &[u8]) -> Result<(), NoMemory>
         requires accepted { IsAccepted self.old kind (words text.now) }
         requires set { is_set_kind kind ≡ true }
-        ensures { OnOk result (Takes self.old self.new (item_of_kind (Some kind) (words text.now))) }
+        ensures { OnOk result (TakesItem self.old self.new (item_of_kind (Some kind) (words text.now))) }
     {
         let set = set_of(alloc, kind, text)?;
         self.scripts.add_set(set)?;
@@ -132,7 +132,7 @@ impl State {
 
     fn take_commit(&mut self, alloc: Global, text: &[u8]) -> Result<(), NoMemory>
         requires { IsAccepted self.old Kind.Commit (words text.now) }
-        ensures { OnOk result (Takes self.old self.new (item_of_kind (Some Kind.Commit) (words text.now))) }
+        ensures { OnOk result (TakesItem self.old self.new (item_of_kind (Some Kind.Commit) (words text.now))) }
     {
         self.scripts.close_edit(alloc)?;
         self.stage = Stage::InClient;
@@ -141,7 +141,7 @@ impl State {
 
     fn take_done(&mut self, alloc: Global, text: &[u8]) -> Result<(), NoMemory>
         requires { IsAccepted self.old Kind.Done (words text.now) }
-        ensures { OnOk result (Takes self.old self.new (item_of_kind (Some Kind.Done) (words text.now))) }
+        ensures { OnOk result (TakesItem self.old self.new (item_of_kind (Some Kind.Done) (words text.now))) }
     {
         let is_open = self.stage == Stage::InClient;
         self.scripts.end_script(alloc, is_open)?;
@@ -152,7 +152,7 @@ impl State {
     /// Takes a line that is not refused.
     fn take_kind(&mut self, alloc: Global, kind: Kind, text: &[u8]) -> Result<(), NoMemory>
         requires { IsAccepted self.old kind (words text.now) }
-        ensures { OnOk result (Takes self.old self.new (item_of_kind (Some kind) (words text.now))) }
+        ensures { OnOk result (TakesItem self.old self.new (item_of_kind (Some kind) (words text.now))) }
     {
         match kind {
             Kind::Field => {
@@ -176,7 +176,7 @@ impl State {
 
     /// Takes a line.
     pub fn take(&mut self, alloc: Global, line: u32, text: &[u8]) -> Result<(), TextFault>
-        requires { IsSound self.old }
+        requires { IsSoundState self.old }
         ensures ok { OnOk result (TakesLine self.old self.new (words text.now)) }
         ensures err { IfErr result (RefusesLine self.old line (words text.now)) }
     {
@@ -196,9 +196,9 @@ impl State {
 
     /// The input, at the end of its lines.
     pub fn finish(self, line: u32) -> Result<Input, TextFault>
-        requires sound { IsSound self }
+        requires sound { IsSoundState self }
         requires line { line < 2 ^ 32 - 1 }
-        ensures { Gives result (ending (known_by self) line) }
+        ensures { Gives result (reading_at_end (known_by self) line) }
     {
         if !is_ended(self.stage) {
             return Err(TextFault::BadLine {
@@ -215,7 +215,7 @@ impl State {
 
 /// The fault of a refused line.
 fn fault_at(refusal: Refusal, line: u32) -> TextFault
-    ensures { GivesFault result (refused line refusal) }
+    ensures { GivesFault result (refused_reading line refusal) }
 {
     match refusal {
         Refusal::Bad(cause) => TextFault::BadLine { line, cause },

@@ -1,6 +1,6 @@
 ghost use Rattle.std.specs.Prelude.{◌≡◌, ◌≤◌, true, [], length, drop, map, slice_index_or, IfOk};
 ghost use Rattle.std.specs.List.{list_all};
-ghost use Rattle.sheaf_text.specs.Cut.{words, number_of, is_number, value_of, are_below};
+ghost use Rattle.sheaf_text.specs.Cut.{words, word_number, is_number, value_of, are_below};
 
 use crate::cut::next_word;
 use std::alloc::{AllocError as NoMemory, Global};
@@ -44,7 +44,7 @@ pub(crate) fn word_at(text: &[u8], place: usize) -> &[u8]
 
 /// The number that a word of at most nine digits is.
 pub(crate) fn number(word: &[u8]) -> Option<u32>
-    ensures { result ≡ number_of word.now }
+    ensures { result ≡ word_number word.now }
 {
     if word.is_empty() || word.len() > 9 {
         return None;

@@ -1,7 +1,7 @@
 -- Answers that clear pairs.
 use Rattle.std.proofs.Common.{◌≡◌, ◌≢◌, ℕ, ◌<◌, ◌≤◌, Bool, true, false, cond, ◌&&◌, ◌⊎◌, ⊎_elim, inl, inr, nat_eq, nat_lt, Option, None, Some, is_none, refl, sym, ◌∙◌, arith}
 use Rattle.std.proofs.lemmas.Bool.{true≢false, and_parts, or_cases, or_left, or_right, and_from, eq-eqb, eqb-true, lt-ltb, ltb-true, cases_lt, cases_eq}
-use Rattle.square_check.specs.Answers.{is_before, earlier, Fails, Clears, IsFirst}
+use Rattle.square_check.specs.Answers.{is_before, earlier_pair, Fails, PassesBefore, IsFirstFailure}
 
 abbrev Before : ℕ × ℕ → ℕ × ℕ → Type 0
 Before p q = (p.0 < q.0) ⊎ ((p.0 ≡ q.0) × (p.1 < q.1))
@@ -45,11 +45,11 @@ before-others p q r h k =
     (before_from r p h))
 
 module _ (P : ℕ → ℕ → Type 0) where
-  pub clears-passing : (r : Option (ℕ × ℕ)) (s u : ℕ) → P s u → Clears P r s u
+  pub clears-passing : (r : Option (ℕ × ℕ)) (s u : ℕ) → P s u → PassesBefore P r s u
   clears-passing None s u h = h
   clears-passing (Some p) s u h = λ _. h
 
-  pub earlier-fails : (a b : Option (ℕ × ℕ)) → Fails P a → Fails P b → Fails P (earlier a b)
+  pub earlier-fails : (a b : Option (ℕ × ℕ)) → Fails P a → Fails P b → Fails P (earlier_pair a b)
   earlier-fails None b h k = k
   earlier-fails (Some p) None h k = h
   earlier-fails (Some p) (Some q) h k = by (is_before q p)
@@ -58,26 +58,26 @@ module _ (P : ℕ → ℕ → Type 0) where
       by true = k
       by false = h
 
-  pub earlier-clears_first : (a b : Option (ℕ × ℕ)) (s u : ℕ) → Clears P a s u → Clears P (earlier a b) s u
+  pub earlier-clears_first : (a b : Option (ℕ × ℕ)) (s u : ℕ) → PassesBefore P a s u → PassesBefore P (earlier_pair a b) s u
   earlier-clears_first None b s u h = clears-passing b s u h
   earlier-clears_first (Some p) None s u h = h
   earlier-clears_first (Some p) (Some q) s u h = by (is_before q p) refl
     where
-      by : (b : Bool) → is_before q p ≡ b → Clears P (cond b (Some q) (Some p)) s u
+      by : (b : Bool) → is_before q p ≡ b → PassesBefore P (cond b (Some q) (Some p)) s u
       by true e = λ l. h (before-trans (s, u) q p l e)
       by false e = h
 
-  pub earlier-clears_second : (a b : Option (ℕ × ℕ)) (s u : ℕ) → Clears P b s u → Clears P (earlier a b) s u
+  pub earlier-clears_second : (a b : Option (ℕ × ℕ)) (s u : ℕ) → PassesBefore P b s u → PassesBefore P (earlier_pair a b) s u
   earlier-clears_second None b s u h = h
   earlier-clears_second (Some p) None s u h = λ _. h
   earlier-clears_second (Some p) (Some q) s u h = by (is_before q p) refl
     where
-      by : (b : Bool) → is_before q p ≡ b → Clears P (cond b (Some q) (Some p)) s u
+      by : (b : Bool) → is_before q p ≡ b → PassesBefore P (cond b (Some q) (Some p)) s u
       by true e = h
       by false e = λ l. h (before-others p q (s, u) l e)
 
   -- what fails and clears all pairs is the first, where only cells fail
-  pub first-from : (count : ℕ) (r : Option (ℕ × ℕ)) → ((s u : ℕ) → (count ≤ s) ⊎ (count ≤ u) → P s u) → Fails P r → ((s u : ℕ) → Clears P r s u) → IsFirst P count r
+  pub first-from : (count : ℕ) (r : Option (ℕ × ℕ)) → ((s u : ℕ) → (count ≤ s) ⊎ (count ≤ u) → P s u) → Fails P r → ((s u : ℕ) → PassesBefore P r s u) → IsFirstFailure P count r
   first-from count None outside h k = k
   first-from count (Some p) outside h k = record {
     s_is_cell = ⊎_elim (λ (l : p.0 < count). l) (λ (l : count ≤ p.0). absurd (h (outside p.0 p.1 (inl l)))) (cases_lt p.0 count);
@@ -87,6 +87,6 @@ module _ (P : ℕ → ℕ → Type 0) where
   }
 
 -- where there is no first pair that fails, all pairs pass
-pub passing-none : (P : ℕ → ℕ → Type 0) (count : ℕ) (r : Option (ℕ × ℕ)) → is_none r ≡ true → IsFirst P count r → (s u : ℕ) → P s u
+pub passing-none : (P : ℕ → ℕ → Type 0) (count : ℕ) (r : Option (ℕ × ℕ)) → is_none r ≡ true → IsFirstFailure P count r → (s u : ℕ) → P s u
 passing-none P count None e h = h
 passing-none P count (Some p) e h = absurd (true≢false (sym e))

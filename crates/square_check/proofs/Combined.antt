@@ -2,12 +2,12 @@
 use Rattle.std.proofs.Common.{◌≡◌, ℕ, zero, suc, ◌+◌, ◌<◌, List, [], ◌∷◌, length, drop, get_or, refl, sym, ap, ◌∙◌, arith, add-one}
 use Rattle.std.proofs.lemmas.List.{ext_get_or, get_or-map, length-map}
 use Rattle.dense_blocks.specs.Field.{Ops, IsField}
-use Rattle.dense_blocks.specs.Vectors.{zeros, plus, scaled, combination}
+use Rattle.dense_blocks.specs.Vectors.{zeros, plus, multiple, combination}
 use Rattle.dense_blocks.specs.Matrices.{product}
 use Rattle.dense_blocks.proofs.ScalarLaws.{zero_add}
 use Rattle.dense_blocks.proofs.Shapes.{Vector, Matrix, vector-size, vector-scalars}
-use Rattle.dense_blocks.proofs.VectorLaws.{scaled-vector, combination-vector}
-use Rattle.dense_blocks.proofs.RowSteps.{scaled-at}
+use Rattle.dense_blocks.proofs.VectorLaws.{multiple-vector, combination-vector}
+use Rattle.dense_blocks.proofs.RowSteps.{multiple-at}
 
 -- the entry at j of what the coefficients from k on combine
 unfoldable pub entry_from : Ops → ℕ → ℕ → List ℕ → List (List ℕ) → ℕ → ℕ
@@ -40,8 +40,8 @@ module _ (K : Ops) (F : IsField K) where
   entry_from-suc (suc m) n k j [] A h e l w = absurd (omega arith)
   entry_from-suc (suc m) n k j (c ∷ cs) [] h e l w = absurd h
   entry_from-suc (suc m) n zero j (c ∷ cs) (v ∷ A) h e l w =
-      plus-at K n j (scaled K c v) (combination K n cs A) (scaled-vector K F n c v h.0) (combination-vector K F m n cs A h.1) w
-      ∙ ap (λ x. K.add x (get_or (combination K n cs A) j 0)) (sym (scaled-at K c j v (omega (arith, vector-size K n v h.0))))
+      plus-at K n j (multiple K c v) (combination K n cs A) (multiple-vector K F n c v h.0) (combination-vector K F m n cs A h.1) w
+      ∙ ap (λ x. K.add x (get_or (combination K n cs A) j 0)) (sym (multiple-at K c j v (omega (arith, vector-size K n v h.0))))
   entry_from-suc (suc m) n (suc k) j (c ∷ cs) (v ∷ A) h e l w = entry_from-suc m n k j cs A h.1 (omega arith) (omega arith) w
 
   pub entry_from-start : (m n j : ℕ) (cs : List ℕ) (A : List (List ℕ)) → Matrix K m n A → j < n

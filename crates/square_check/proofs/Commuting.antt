@@ -1,4 +1,4 @@
--- Squares through the cells between two cells.
+-- Squares through the all_cells between two all_cells.
 use Rattle.std.proofs.Common.{◌≡◌, ℕ, ◌+◌, ◌<◌, Bool, true, false, ◌&&◌, ◌↔◌, IsTrue, ⊎_elim, List, [], ◌∷◌, length, get_or, nat_eq, Option, Some, All, refl, sym, ap, ap₂, ◌∙◌, subst, arith}
 use Rattle.std.specs.Option.{option_map, option_and_then}
 use Rattle.std.specs.List.{list_any}
@@ -7,7 +7,7 @@ use Rattle.std.proofs.lemmas.List.Folds.{list_any_at}
 use Rattle.std.proofs.lemmas.List.FromFn.{length-range_with_len, get_or-range_with_len}
 use Rattle.std.proofs.lemmas.Map.Views.{any-filter_same}
 use Rattle.std.proofs.lemmas.List.Elements.{All-head, All-cons, All-filter, filter_passes}
-use Rattle.cell_complex.specs.Complexes.{CellComplex, IsComplex, cells, is_face, faces_of, middles}
+use Rattle.cell_complex.specs.Complexes.{CellComplex, IsComplex, all_cells, is_face, faces_of, middles}
 use Rattle.cell_complex.proofs.Numbers.{range-below}
 use Rattle.cell_complex.proofs.Callers.{AreIncident, incident_from_face}
 use Rattle.incidence_check.specs.Incidences.{HasOppositeMiddles, HasRegularIncidences}
@@ -24,7 +24,7 @@ pub record IsBetween (c : CellComplex) (s u t : ℕ) : Type 0 where
 
 pub all-between : (c : CellComplex) (s u : ℕ) → All (IsBetween c s u) (middles c s u)
 all-between c s u k d l =
-    let p = and_parts (is_face c s _) (is_face c _ u) (filter_passes (λ t. is_face c s t && is_face c t u) (cells c) k d l) in
+    let p = and_parts (is_face c s _) (is_face c _ u) (filter_passes (λ t. is_face c s t && is_face c t u) (all_cells c) k d l) in
     record { lower = p.0; upper = p.1 }
 
 pub between-head : (c : CellComplex) (s u t : ℕ) (ts : List ℕ) → middles c s u ≡ t ∷ ts → IsBetween c s u t
@@ -33,7 +33,7 @@ between-head c s u t ts is = All-head (IsBetween c s u) t ts (subst (All (IsBetw
 pub between-second : (c : CellComplex) (s u t v : ℕ) (ts : List ℕ) → middles c s u ≡ t ∷ v ∷ ts → IsBetween c s u v
 between-second c s u t v ts is = subst (All (IsBetween c s u)) is (all-between c s u) 1 0 (omega arith)
 
--- between cells of regular incidences are no more than two cells
+-- between all_cells of regular incidences are no more than two all_cells
 pub middles-two : (c : CellComplex) → IsComplex c → HasRegularIncidences c → (s u a b : ℕ) (ts : List ℕ) → middles c s u ≡ a ∷ b ∷ ts
     → middles c s u ≡ a ∷ b ∷ []
 middles-two c h r s u a b ts is =
@@ -51,21 +51,21 @@ middles-two c h r s u a b ts is =
 
 pub faces_of-below : (c : CellComplex) (t : ℕ) → All (λ s. s < length c.dims) (faces_of c t)
 faces_of-below c t k d l =
-    let h = All-filter (λ s. is_face c s t) (λ s. s < 0 + length c.dims) (cells c) (range-below 0 (length c.dims)) k d l in
+    let h = All-filter (λ s. is_face c s t) (λ s. s < 0 + length c.dims) (all_cells c) (range-below 0 (length c.dims)) k d l in
     omega (arith, h)
 
 -- s is in the list below t just where it is a face of t
 pub list_any-faces_of : (c : CellComplex) → IsComplex c → (s t : ℕ) → list_any (nat_eq s) (faces_of c t) ≡ is_face c s t
 list_any-faces_of c h s t =
-    any-filter_same (nat_eq s) (λ v. is_face c v t) (is_face c s t) (λ k e. ap (λ v. is_face c v t) (sym (eqb-true s k e))) (cells c)
+    any-filter_same (nat_eq s) (λ v. is_face c v t) (is_face c s t) (λ k e. ap (λ v. is_face c v t) (sym (eqb-true s k e))) (all_cells c)
     ∙ by (is_face c s t) (λ e. there (incident_from_face c h s t e))
   where
-    there : AreIncident c.dims s t → list_any (nat_eq s) (cells c) ≡ true
+    there : AreIncident c.dims s t → list_any (nat_eq s) (all_cells c) ≡ true
     there i =
-        list_any_at (nat_eq s) (cells c) s 0 (omega (arith, i.s_is_cell, length-range_with_len 0 (length c.dims)))
-        (eq-eqb s (get_or (cells c) s 0) (omega (arith, get_or-range_with_len 0 (length c.dims) s 0 i.s_is_cell)))
+        list_any_at (nat_eq s) (all_cells c) s 0 (omega (arith, i.s_is_cell, length-range_with_len 0 (length c.dims)))
+        (eq-eqb s (get_or (all_cells c) s 0) (omega (arith, get_or-range_with_len 0 (length c.dims) s 0 i.s_is_cell)))
 
-    by : (b : Bool) → (b ≡ true → list_any (nat_eq s) (cells c) ≡ true) → (b && list_any (nat_eq s) (cells c)) ≡ b
+    by : (b : Bool) → (b ≡ true → list_any (nat_eq s) (all_cells c) ≡ true) → (b && list_any (nat_eq s) (all_cells c)) ≡ b
     by true h = h refl
     by false h = refl
 
@@ -74,7 +74,7 @@ pub through-is : (K : Ops) (c : CellComplex) (blocks : List Block) (s t u : ℕ)
 through-is K c blocks s t u low up is_low is_up =
     ap₂ (λ l r. option_and_then (λ low. option_map (λ up. product K low.cols (matrix_of up) (matrix_of low)) r) l) is_low is_up
 
--- no cells between, or one
+-- no all_cells between, or one
 pub commutes-none : (K : Ops) (c : CellComplex) (blocks : List Block) (s u : ℕ) → middles c s u ≡ [] → Commutes K c blocks s u
 commutes-none K c blocks s u is =
     subst (λ ts. All (λ t. All (λ v. through K c blocks s t u ≡ through K c blocks s v u) ts) ts) (sym is) (λ k d l. absurd (omega arith))
@@ -85,7 +85,7 @@ commutes-one K c blocks s u t is =
     (All-cons (λ w. All (λ v. through K c blocks s w u ≡ through K c blocks s v u) (t ∷ [])) t []
     (All-cons (λ v. through K c blocks s t u ≡ through K c blocks s v u) t [] refl (λ k d l. absurd (omega arith))) (λ k d l. absurd (omega arith)))
 
--- two cells between
+-- two all_cells between
 module _ (K : Ops) (c : CellComplex) (blocks : List Block) (s u a b : ℕ) (is : middles c s u ≡ a ∷ b ∷ []) where
   abbrev at : ℕ → Option (List (List ℕ))
   at t = through K c blocks s t u

@@ -6,7 +6,7 @@ use Rattle.std.proofs.lemmas.Bool.{true≢false, cond-true, lt-ltb, and_parts, e
 use Rattle.std.proofs.lemmas.Option.{get_or_from_slice_get, slice_get_within}
 use Rattle.std.proofs.lemmas.List.Elements.{All-cons}
 use Rattle.cell_complex.specs.declared.face.Face.{Face}
-use Rattle.cell_complex.specs.Complexes.{CellComplex, IsComplex, Fits, joins, is_face, place}
+use Rattle.cell_complex.specs.Complexes.{CellComplex, IsComplex, JoinsCells, joins, is_face, place}
 use Rattle.dense_blocks.specs.Field.{Ops}
 use Rattle.dense_blocks.specs.Vectors.{AllScalars}
 use Rattle.dense_blocks.specs.declared.block.Block.{Block}
@@ -104,5 +104,5 @@ restriction-fits K c blocks r s t b h e =
       scalars = all-at (λ b. AllScalars K b.entries) blocks p.at b r.scalars here;
     }
 
-pub face-fits : (c : CellComplex) → IsComplex c → (p : ℕ) (f : Face) → slice_get c.faces p ≡ Some f → Fits c.dims f
-face-fits c h p f e = all-at (Fits c.dims) c.faces p f h.fit e
+pub face-fits : (c : CellComplex) → IsComplex c → (p : ℕ) (f : Face) → slice_get c.faces p ≡ Some f → JoinsCells c.dims f
+face-fits c h p f e = all-at (JoinsCells c.dims) c.faces p f h.fit e

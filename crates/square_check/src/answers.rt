@@ -1,5 +1,5 @@
 ghost use Rattle.std.specs.Prelude.{◌≡◌};
-ghost use Rattle.square_check.specs.Answers.{earlier, is_before};
+ghost use Rattle.square_check.specs.Answers.{earlier_pair, is_before};
 
 /// Whether `first` comes before `second`, in order of their first numbers and then of the second ones.
 fn is_before(first: (u32, u32), second: (u32, u32)) -> bool
@@ -10,7 +10,7 @@ fn is_before(first: (u32, u32), second: (u32, u32)) -> bool
 
 /// The earlier of the two pairs, as far as there are any.
 pub(crate) fn earlier(first: Option<(u32, u32)>, second: Option<(u32, u32)>) -> Option<(u32, u32)>
-    ensures { result ≡ earlier first second }
+    ensures { result ≡ earlier_pair first second }
 {
     match (first, second) {
         (Some(a), Some(b)) => Some(if is_before(b, a) { b } else { a }),

@@ -1,7 +1,7 @@
 ghost use Rattle.std.specs.Prelude.{◌≡◌, ℕ, ◌<◌, ◌↔◌, true, Some, IsTrue, MatchOption, length};
 ghost use Rattle.cell_complex.specs.Complexes.{IsComplex, is_face};
 ghost use Rattle.incidence_check.specs.Incidences.{HasRegularIncidences};
-ghost use Rattle.square_check.specs.Answers.{Fails, Clears};
+ghost use Rattle.square_check.specs.Answers.{Fails, PassesBefore};
 ghost use Rattle.square_check.specs.Squares.{AreRestrictions, Commutes, restriction};
 
 use crate::answers::earlier;
@@ -51,7 +51,7 @@ fn bad_pair<F: Scalars>(f: &F, c: &Complex, blocks: &[Block], s: u32, u: u32) ->
     requires s_is_cell { s < length c.now.dims }
     requires u_is_cell { u < length c.now.dims }
     ensures fails { Fails (Commutes (F.ops f.now) c.now blocks.now) result }
-    ensures clears { Clears (Commutes (F.ops f.now) c.now blocks.now) result s u }
+    ensures clears { PassesBefore (Commutes (F.ops f.now) c.now blocks.now) result s u }
 {
     if commutes(f, c, blocks, s, u) {
         None
@@ -74,7 +74,7 @@ pub(crate) fn bad_above<F: Scalars>(
     requires s_is_cell { s < length c.now.dims }
     requires t_is_cell { t < length c.now.dims }
     ensures fails { Fails (Commutes (F.ops f.now) c.now blocks.now) result }
-    ensures clears { (u : ℕ) → is_face c.now t u ≡ true → Clears (Commutes (F.ops f.now) c.now blocks.now) result s u }
+    ensures clears { (u : ℕ) → is_face c.now t u ≡ true → PassesBefore (Commutes (F.ops f.now) c.now blocks.now) result s u }
 {
     let mut least = None;
     for &u in c.cofaces_of(t) {
@@ -97,7 +97,7 @@ pub(crate) fn bad_below<F: Scalars>(
     requires t_is_cell { t < length c.now.dims }
     requires u_is_cell { u < length c.now.dims }
     ensures fails { Fails (Commutes (F.ops f.now) c.now blocks.now) result }
-    ensures clears { (s : ℕ) → is_face c.now s t ≡ true → Clears (Commutes (F.ops f.now) c.now blocks.now) result s u }
+    ensures clears { (s : ℕ) → is_face c.now s t ≡ true → PassesBefore (Commutes (F.ops f.now) c.now blocks.now) result s u }
 {
     let mut least = None;
     for &s in c.faces_of(t) {

@@ -1,7 +1,7 @@
 ghost use Rattle.std.specs.Prelude.{◌≡◌, ◌<◌, length, All};
 ghost use Rattle.cell_complex.specs.Complexes.{IsComplex};
 ghost use Rattle.incidence_check.specs.Incidences.{HasRegularIncidences};
-ghost use Rattle.square_check.specs.Answers.{IsFirst};
+ghost use Rattle.square_check.specs.Answers.{IsFirstFailure};
 ghost use Rattle.square_check.specs.Squares.{AreRestrictions, Commutes, OthersCommute};
 ghost use Rattle.square_check.specs.Touches.{AreTouched};
 
@@ -33,7 +33,7 @@ pub fn first_bad<F: Scalars>(
     requires regular { HasRegularIncidences c.now }
     requires restrictions { AreRestrictions (F.ops f.now) c.now blocks.now }
     requires touched { AreTouched (F.ops f.now) c.now blocks.now touched }
-    ensures { IsFirst (Commutes (F.ops f.now) c.now blocks.now) (length c.now.dims) result }
+    ensures { IsFirstFailure (Commutes (F.ops f.now) c.now blocks.now) (length c.now.dims) result }
 {
     let count = c.face_count();
     match touched {
@@ -48,7 +48,7 @@ fn first_of_all<F: Scalars>(f: &F, c: &Complex, blocks: &[Block], count: u32) ->
     requires count { count ≡ length c.now.faces }
     requires regular { HasRegularIncidences c.now }
     requires restrictions { AreRestrictions (F.ops f.now) c.now blocks.now }
-    ensures { IsFirst (Commutes (F.ops f.now) c.now blocks.now) (length c.now.dims) result }
+    ensures { IsFirstFailure (Commutes (F.ops f.now) c.now blocks.now) (length c.now.dims) result }
 {
     let mut least = None;
     for place in 0..count {
@@ -70,7 +70,7 @@ fn first_touched<F: Scalars>(
     requires restrictions { AreRestrictions (F.ops f.now) c.now blocks.now }
     requires faces { All (λ p. p < length c.now.faces) places.now }
     requires others { OthersCommute (F.ops f.now) c.now blocks.now places.now }
-    ensures { IsFirst (Commutes (F.ops f.now) c.now blocks.now) (length c.now.dims) result }
+    ensures { IsFirstFailure (Commutes (F.ops f.now) c.now blocks.now) (length c.now.dims) result }
 {
     let mut least = None;
     for &place in places {

@@ -2,7 +2,7 @@ use Rattle.std.proofs.Common.{◌≡◌, ◌<◌, ◌≤◌, ℕ, true, ap, ◌�
 use Rattle.std.proofs.lemmas.Bool.{cases_lt}
 use Rattle.dense_blocks.specs.Blocks.{matrix_of}
 use Rattle.block_sparse.specs.Grids.{window}
-use Rattle.block_grids.specs.Joined.{corner, IsSamePart}
+use Rattle.block_grids.specs.Joined.{grid_block, IsSamePart}
 use Rattle.block_sparse.proofs.Windows.{width-next, width-within}
 use Rattle.block_grids.proofs.WalkLaws.{all-passed, next-passed}
 use Rattle.block_grids.proofs.grids.count_same.Goals as goal
@@ -39,6 +39,6 @@ loop-i-preserved c =
             subst (IsSamePart line left A c.args.row c.args.height) e
             (ap (λ n. window c.args.row c.args.height n x.1 A) (sym c.loop-i.invariant.col)
             ∙ c.is_corner.ensures.0 passed
-            ∙ ap (λ o. corner o c.args.height x.1) c.value_at.ensures)
+            ∙ ap (λ o. grid_block o c.args.height x.1) c.value_at.ensures)
       ];
     }

@@ -2,7 +2,7 @@
 use Rattle.std.proofs.Common.{◌≡◌, length, sym, ap, ◌∙◌, subst, arith}
 use Rattle.cell_complex.specs.Complexes.{AreCells, IsComplex}
 use Rattle.sheaf_data.specs.Sheaves.{SheafData, AreStalks, IsSheaf}
-use Rattle.block_sparse.specs.StoredBlocks.{held, AreLive}
+use Rattle.block_sparse.specs.StoredBlocks.{block_at, AreLive}
 use Rattle.coboundary.specs.Put.{AreFirstPut, IsStart}
 use Rattle.coboundary.proofs.LiveLaws.{live_cells-live}
 use Rattle.coboundary.proofs.StartLaws.{first-put-all}
@@ -32,4 +32,4 @@ returns g c =
     subst (λ (x : SheafData g.row.F.Denot). IsSheaf (g.F.Scalars.ops x.field) x.complex x.stalks x.blocks) (sym c.draft-draft.ensures.draft) c.draft-draft.ensures.sheaf in
     subst (λ (x : SheafData g.row.F.Denot). IsStart (g.F.Scalars.ops x.field) x.complex x.stalks x.blocks v) c.draft-draft.ensures.draft
     (stored-start K (g.met.F.Scalars.is_field d.field) d.complex d.stalks d.blocks v complex sheaf c.loop-place.invariant.live
-    (first-put-all K d.complex d.blocks (held v) same (subst (λ n. AreFirstPut K d.complex d.blocks n (held v)) all c.loop-place.invariant.first)))
+    (first-put-all K d.complex d.blocks (block_at v) same (subst (λ n. AreFirstPut K d.complex d.blocks n (block_at v)) all c.loop-place.invariant.first)))

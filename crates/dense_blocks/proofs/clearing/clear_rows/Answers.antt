@@ -1,8 +1,8 @@
 use Rattle.std.proofs.Common.{◌≡◌, ℕ, ◌+◌, ◌-◌, ◌*◌, ◌<◌, List, ◌++◌, length, take, drop, ap, ap₂, ◌∙◌, arith}
 use Rattle.std.proofs.lemmas.List.Elements.{All-get_or, All-take, All-drop}
 use Rattle.dense_blocks.specs.Field.{Ops, IsField}
-use Rattle.dense_blocks.specs.Vectors.{plus, scaled}
-use Rattle.dense_blocks.specs.Clearing.{without}
+use Rattle.dense_blocks.specs.Vectors.{plus, multiple}
+use Rattle.dense_blocks.specs.Clearing.{row_remainder}
 use Rattle.dense_blocks.proofs.ClearingRows.{clears_rows-start, clears_rows-next, clears_rows-end, next_row-size}
 use Rattle.dense_blocks.proofs.clearing.clear_rows.Goals as goal
 
@@ -37,8 +37,8 @@ loop-i-preserved g c =
     let part : ℕ = (start + n) - start in
     let row : List ℕ = take part (drop start now) in
     let width : part ≡ n = omega arith in
-    let cleared : c.add_scaled.new.target ≡ without K c.args.column pivot row =
-    c.add_scaled.ensures.sum ∙ ap (λ k. plus K row (scaled K k pivot)) c.neg-less.ensures in
+    let cleared : c.add_scaled.new.target ≡ row_remainder K c.args.column pivot row =
+    c.add_scaled.ensures.sum ∙ ap (λ k. plus K row (multiple K k pivot)) c.neg-less.ensures in
     clears_rows-next K h c.args.column pivot c.args.count c.args.rows.now c.requires.full c.requires.pivot_scalars c.requires.row_scalars
     c.loop-i.i now row (take start now ++ (c.add_scaled.new.target ++ drop part (drop start now))) c.loop-i-test.true c.loop-i.invariant
     (ap (λ k. take k (drop start now)) width)

@@ -1,6 +1,6 @@
 use Rattle.std.proofs.Common.{◌≡◌, ℕ, ◌+◌, ◌-◌, ◌*◌, List, [], length, take, drop, get_or, refl, sym, ap, ◌∙◌, subst, arith}
 use Rattle.dense_blocks.specs.Field.{Ops, IsField}
-use Rattle.dense_blocks.specs.Vectors.{plus, scaled}
+use Rattle.dense_blocks.specs.Vectors.{plus, multiple}
 use Rattle.dense_blocks.specs.Matrices.{cut}
 use Rattle.dense_blocks.specs.Clearing.{IsRaised}
 use Rattle.dense_blocks.proofs.Shapes.{vector_of}
@@ -25,7 +25,7 @@ returns-in-Some g c =
     let width : (i * n + n) - i * n ≡ n = omega arith in
     let row : take ((i * n + n) - i * n) (drop (i * n) c.args.below.now) ≡ get_or below i [] =
     ap (λ k. take k (drop (i * n) c.args.below.now)) width ∙ sym (cut-row c.args.count n c.args.below.now i c.in-Some.ensures.inside) in
-    subst (IsRaised K c.args.column n below pivot) (sym (c.add_scaled.ensures.sum ∙ ap (λ r. plus K pivot (scaled K 1 r)) row))
+    subst (IsRaised K c.args.column n below pivot) (sym (c.add_scaled.ensures.sum ∙ ap (λ r. plus K pivot (multiple K 1 r)) row))
     (raised-added K h c.args.count n c.args.column i below pivot (vector_of K n pivot refl c.requires.pivot_scalars)
     (cut-matrix K c.args.count n c.args.below.now c.requires.full c.requires.below_scalars)
     c.in-Some.ensures.inside c.requires.column c.if-pivot-column-ne0.false c.in-Some.ensures.not_zero)

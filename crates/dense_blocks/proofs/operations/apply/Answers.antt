@@ -1,6 +1,6 @@
 use Rattle.std.proofs.Common.{◌≡◌, subst, sym, arith}
 use Rattle.dense_blocks.specs.Vectors.{AllScalars}
-use Rattle.dense_blocks.specs.Matrices.{applied}
+use Rattle.dense_blocks.specs.Matrices.{image_of}
 use Rattle.dense_blocks.specs.Blocks.{matrix_of}
 use Rattle.dense_blocks.proofs.Shapes.{vector-scalars}
 use Rattle.dense_blocks.proofs.BlockLaws.{block-row, block_image-next, block_image-all, block_image-vector}
@@ -20,7 +20,7 @@ pub returns : goal.returns
 returns g c =
     let K : _ = g.F.Scalars.ops c.args.f.now in
     let F : _ = g.met.F.Scalars.is_field c.args.f.now in
-    let image : c.loop-i.image.items ≡ applied K (matrix_of c.args.a.now) c.args.v.now =
+    let image : c.loop-i.image.items ≡ image_of K (matrix_of c.args.a.now) c.args.v.now =
     block_image-all K F c.args.a.now c.args.v.now c.loop-i.i c.loop-i.image.items (omega arith) c.loop-i.invariant in
     record {
       image = image;

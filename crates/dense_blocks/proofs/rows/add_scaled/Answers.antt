@@ -1,16 +1,16 @@
 use Rattle.std.proofs.Common.{◌≡◌, ℕ, ◌<◌, List, length, get_or, set, refl, sym, ap, ◌∙◌, arith}
 use Rattle.std.proofs.lemmas.List.Elements.{All-set}
 use Rattle.dense_blocks.specs.Field.{Ops, IsField}
-use Rattle.dense_blocks.specs.Vectors.{plus, scaled}
+use Rattle.dense_blocks.specs.Vectors.{plus, multiple}
 use Rattle.dense_blocks.proofs.Shapes.{vector_of}
-use Rattle.dense_blocks.proofs.RowSteps.{changed-none, plus-scaled-zero, add_scaled-next, add_scaled-all}
+use Rattle.dense_blocks.proofs.RowSteps.{changed-none, plus-multiple-zero, add_scaled-next, add_scaled-all}
 use Rattle.dense_blocks.proofs.rows.add_scaled.Goals as goal
 
 pub loop-i-init : goal.loop-i-init
 loop-i-init g c =
     let K : Ops = g.F.Scalars.ops c.args.f.now in
     record {
-      now = sym (changed-none (plus K c.args.target.now (scaled K c.args.k c.args.row.now)) c.args.target.now);
+      now = sym (changed-none (plus K c.args.target.now (multiple K c.args.k c.args.row.now)) c.args.target.now);
       scalars = c.requires.target_scalars;
     }
 
@@ -39,5 +39,5 @@ returns-then-k-eq0-clause-sum g c =
     let h : IsField K = g.met.F.Scalars.is_field c.args.f.now in
     let u : List ℕ = c.args.target.now in
     let row : List ℕ = c.args.row.now in
-    sym (plus-scaled-zero K h (length u) u row (vector_of K (length u) u refl c.requires.target_scalars) (vector_of K (length u) row c.requires.sizes c.requires.row_scalars))
-    ∙ ap (λ t. plus K u (scaled K t row)) (sym c.if-k-eq0.true)
+    sym (plus-multiple-zero K h (length u) u row (vector_of K (length u) u refl c.requires.target_scalars) (vector_of K (length u) row c.requires.sizes c.requires.row_scalars))
+    ∙ ap (λ t. plus K u (multiple K t row)) (sym c.if-k-eq0.true)

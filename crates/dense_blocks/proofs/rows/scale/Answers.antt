@@ -1,7 +1,7 @@
 use Rattle.std.proofs.Common.{ℕ, ◌<◌, List, get_or, set, refl, sym, ap, ◌∙◌, arith}
 use Rattle.std.proofs.lemmas.List.Elements.{All-set}
 use Rattle.dense_blocks.specs.Field.{Ops, IsField}
-use Rattle.dense_blocks.specs.Vectors.{scaled}
+use Rattle.dense_blocks.specs.Vectors.{multiple}
 use Rattle.dense_blocks.proofs.RowSteps.{changed-none, scale-next, scale-all}
 use Rattle.dense_blocks.proofs.rows.scale.Goals as goal
 
@@ -9,7 +9,7 @@ pub loop-entry-init : goal.loop-entry-init
 loop-entry-init g c =
     let K : Ops = g.F.Scalars.ops c.args.f.now in
     record {
-      now = sym (changed-none (scaled K c.args.k c.args.target.now) c.args.target.now);
+      now = sym (changed-none (multiple K c.args.k c.args.target.now) c.args.target.now);
       scalars = c.requires.target_scalars;
     }
 

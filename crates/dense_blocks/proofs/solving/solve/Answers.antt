@@ -4,7 +4,7 @@ use Rattle.dense_blocks.specs.Field.{Ops, IsField}
 use Rattle.dense_blocks.specs.Vectors.{IsVector, combination, zeros}
 use Rattle.dense_blocks.specs.Matrices.{IsMatrix}
 use Rattle.dense_blocks.specs.Elimination.{Eliminates, PullsBack, parts, reduced, rows}
-use Rattle.dense_blocks.specs.Solving.{lists, Leads, Separates}
+use Rattle.dense_blocks.specs.Solving.{lists, IsLeading, Separates}
 use Rattle.dense_blocks.specs.declared.solving.Pivot.{Pivot}
 use Rattle.dense_blocks.proofs.Shapes.{to_matrix, from_vector}
 use Rattle.dense_blocks.proofs.Reductions.{parts-vector}
@@ -50,7 +50,7 @@ returns-in-None g c =
           ∙ ap (λ m. combination K m c.in_ok-row.field-0.parts.items (rows ps)) size
           ∙ ap (λ t. combination K n t (rows ps)) c.in_ok-row.ensures.parts
           ∙ reduced-none K h n ps v c.in_ok-elimination.ensures.eliminates.fit (record { size = refl; scalars = c.requires.v_scalars }) nothing_left;
-      leading = subst (λ m. Leads K m vectors coefficients) size c.in_ok-combination-in-None.ensures.leading;
+      leading = subst (λ m. IsLeading K m vectors coefficients) size c.in_ok-combination-in-None.ensures.leading;
     }
 
 pub returns : goal.returns

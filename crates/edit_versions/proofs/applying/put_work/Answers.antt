@@ -1,9 +1,9 @@
 use Rattle.std.proofs.Common.{◌≡◌, None, Some, length, map, refl, subst}
-use Rattle.square_check.specs.Answers.{IsFirst}
+use Rattle.square_check.specs.Answers.{IsFirstFailure}
 use Rattle.square_check.specs.Squares.{Commutes}
 use Rattle.sheaf_words.specs.declared.editing.Cause.TheVariants.{Square}
 use Rattle.sheaf_words.specs.declared.editing.Verdict.TheVariants.{Refused}
-use Rattle.edit_versions.specs.Edits.{written}
+use Rattle.edit_versions.specs.Edits.{written_matrix}
 use Rattle.edit_versions.specs.Verdicts.{IsSquareVerdict}
 use Rattle.edit_versions.proofs.applying.put_work.Goals as goal
 
@@ -15,7 +15,7 @@ returns-in-Ok-clause-accepted g c =
       blocks = c.args.work.blocks.items;
       same = refl;
       bad = None;
-      first = subst (λ bs. IsFirst (Commutes K complex bs) (length complex.dims) None) c.of-2.ensures (c.in-Ok.ensures.commute.0 refl);
+      first = subst (λ bs. IsFirstFailure (Commutes K complex bs) (length complex.dims) None) c.of-2.ensures (c.in-Ok.ensures.commute.0 refl);
       verdict = refl;
     }
 
@@ -24,11 +24,11 @@ returns-clause-refused g c = λ cause e.
     let K = g.F.Scalars.ops c.args.sheaf.now.field in
     let complex = c.args.sheaf.now.complex in
     let same : Square c.in-Err.s c.in-Err.u ≡ cause = cc in
-    subst (λ x. IsSquareVerdict K complex (map written c.args.work.blocks.items) (Refused x)) same
+    subst (λ x. IsSquareVerdict K complex (map written_matrix c.args.work.blocks.items) (Refused x)) same
     (record {
       blocks = c.args.work.blocks.items;
       same = refl;
       bad = Some (c.in-Err.s, c.in-Err.u);
-      first = subst (λ bs. IsFirst (Commutes K complex bs) (length complex.dims) (Some (c.in-Err.s, c.in-Err.u))) c.of-2.ensures c.in-Err.ensures.refused;
+      first = subst (λ bs. IsFirstFailure (Commutes K complex bs) (length complex.dims) (Some (c.in-Err.s, c.in-Err.u))) c.of-2.ensures c.in-Err.ensures.refused;
       verdict = refl;
     })

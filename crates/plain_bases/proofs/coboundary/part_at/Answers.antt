@@ -1,6 +1,6 @@
 use Rattle.std.proofs.Common.{◌∙◌, sym, subst, ap, cond, eqb, take, List, ℕ, rules}
 use Rattle.dense_blocks.specs.Vectors.{IsVector, plus}
-use Rattle.dense_blocks.specs.Matrices.{applied}
+use Rattle.dense_blocks.specs.Matrices.{image_of}
 use Rattle.dense_blocks.specs.Blocks.{matrix_of}
 use Rattle.dense_blocks.proofs.Shapes.{from_vector}
 use Rattle.dense_blocks.proofs.VectorLaws.{zeros-vector}
@@ -34,7 +34,7 @@ loop-arrow-preserved g c =
     let new = c.add_arrow.new.sum in
     let back = put_back new c.loop-arrow.sum.items c.loop-arrow.sum.len (search rules) (c.in_ok-add_arrow.ensures.vector.size ∙ sym kept.vector.size) in
     let with_arrow : List ℕ → Arrow → List ℕ =
-    λ before a. cond (eqb a.to c.args.t.cell) (plus K before (applied K (matrix_of a.block) (value_at c.args.source.now c.args.z.now a.from))) before in
+    λ before a. cond (eqb a.to c.args.t.cell) (plus K before (image_of K (matrix_of a.block) (value_at c.args.source.now c.args.z.now a.from))) before in
     record {
       part =
           back ∙ c.in_ok-add_arrow.ensures.sum ∙ ap (λ before. with_arrow before item) (c.deref_mut.ensures.value ∙ kept.part)

@@ -2,7 +2,7 @@ use Rattle.std.proofs.Common.{◌≡◌, ◌≤◌, ◌∙◌, suc, ℕ, List, l
 use Rattle.std.specs.Prelude.{◌==◌}
 use Rattle.dense_blocks.specs.Solving.{lists}
 use Rattle.cochain_vec.specs.Complexes.{coordinates}
-use Rattle.plain_bases.specs.View.{complex_of}
+use Rattle.plain_bases.specs.View.{plain_complex_of}
 use Rattle.plain_bases.specs.Columns.{columns_from, columns_into}
 use Rattle.plain_bases.specs.Relations.{SpansRelations}
 use Rattle.plain_bases.specs.Complements.{Completes}
@@ -16,7 +16,7 @@ complement-requires-clause-sizes g c =
     let K = g.F.Scalars.ops c.args.f.now in
     let F = g.met.F.Scalars.is_field c.args.f.now in
     let complex = c.args.complex.now in
-    c.in_ok-incoming.ensures.size ∙ sym (columns-size K F (complex_of complex) (rows_fit K F complex c.requires.complex) c.args.degree)
+    c.in_ok-incoming.ensures.size ∙ sym (columns-size K F (plain_complex_of complex) (rows_fit K F complex c.requires.complex) c.args.degree)
     ∙ sym (ap length c.in_ok-outgoing.ensures.columns) ∙ lists-size c.in_ok-outgoing.outgoing.all.items ∙ sym c.in_ok-cocycles.ensures.size
 
 pub returns-clause-basis : goal.returns-clause-basis
@@ -24,7 +24,7 @@ returns-clause-basis g c =
     let K = g.F.Scalars.ops c.args.f.now in
     let F = g.met.F.Scalars.is_field c.args.f.now in
     let complex = c.args.complex.now in
-    let C = complex_of complex in
+    let C = plain_complex_of complex in
     let k = c.args.degree in
     let outgoing = c.in_ok-outgoing.outgoing in
     let incoming = c.in_ok-incoming.incoming in
@@ -44,8 +44,8 @@ returns-clause-few g c =
     let K = g.F.Scalars.ops c.args.f.now in
     let F = g.met.F.Scalars.is_field c.args.f.now in
     let complex = c.args.complex.now in
-    let size : length c.in_ok-outgoing.outgoing.all.items ≡ coordinates (complex_of complex) c.args.degree =
+    let size : length c.in_ok-outgoing.outgoing.all.items ≡ coordinates (plain_complex_of complex) c.args.degree =
     sym (lists-size c.in_ok-outgoing.outgoing.all.items) ∙ ap length c.in_ok-outgoing.ensures.columns
-    ∙ columns-size K F (complex_of complex) (rows_fit K F complex c.requires.complex) c.args.degree in
-    let few : coordinates (complex_of complex) c.args.degree ≤ 4096 = few_of K F complex c.requires.complex (λ x. x.degree == c.args.degree) in
+    ∙ columns-size K F (plain_complex_of complex) (rows_fit K F complex c.requires.complex) c.args.degree in
+    let few : coordinates (plain_complex_of complex) c.args.degree ≤ 4096 = few_of K F complex c.requires.complex (λ x. x.degree == c.args.degree) in
     omega (arith, size, few, c.in_ok-basis.ensures.few, c.in_ok-cocycles.ensures.few)

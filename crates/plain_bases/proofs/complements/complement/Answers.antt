@@ -4,7 +4,7 @@ use Rattle.dense_blocks.specs.Vectors.{IsVector}
 use Rattle.dense_blocks.specs.Matrices.{IsMatrix}
 use Rattle.dense_blocks.specs.Solving.{lists}
 use Rattle.dense_blocks.proofs.EliminationSteps.{list_at}
-use Rattle.plain_bases.specs.Complements.{Completes, Considered}
+use Rattle.plain_bases.specs.Complements.{Completes, IsConsidered}
 use Rattle.plain_bases.proofs.VecLaws.{lists-size, vector_at}
 use Rattle.plain_bases.proofs.MemoryLaws.{taken_is_matrix, considered-size, next_candidate}
 use Rattle.plain_bases.proofs.complements.complement.Goals as goal
@@ -50,8 +50,8 @@ loop-candidate-preserved g c =
     let inside : i < length candidates.all.items = subst (λ (vs : List (Vec ℕ Global)). i < length vs) c.deref-candidate-items.ensures.value c.loop-candidate-test.true in
     let is = c.deref.ensures.value
     ∙ list_at candidates.all.items i item inside (c.candidate-item.is ∙ ap (λ (vs : List (Vec ℕ Global)). get_or vs i item) c.deref-candidate-items.ensures.value) in
-    let considered = subst (λ n. Considered K n (lists taken.all.items) (get_or (lists candidates.all.items) i []) (lists c.consider.new.taken.all.items)) kept.size
-    (subst (λ (v : List ℕ). Considered K taken.size (lists taken.all.items) v (lists c.consider.new.taken.all.items)) is c.in_ok-consider.ensures.considered) in
+    let considered = subst (λ n. IsConsidered K n (lists taken.all.items) (get_or (lists candidates.all.items) i []) (lists c.consider.new.taken.all.items)) kept.size
+    (subst (λ (v : List ℕ). IsConsidered K taken.size (lists taken.all.items) v (lists c.consider.new.taken.all.items)) is c.in_ok-consider.ensures.considered) in
     let one_more : length c.consider.new.taken.all.items ≤ length taken.all.items + 1 =
     considered-size K others.size taken.all.items (get_or (lists candidates.all.items) i []) c.consider.new.taken.all.items considered in
     let step = next_candidate K (g.met.F.Scalars.is_field c.args.f.now) others.size (lists others.all.items) (lists candidates.all.items) ho hc i

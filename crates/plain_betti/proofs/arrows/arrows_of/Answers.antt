@@ -4,7 +4,7 @@ use Rattle.std.proofs.lemmas.List.Elements.{All-push}
 use Rattle.cochain_vec.specs.Complexes as complexes
 use Rattle.plain_bases.specs.declared.complex.Arrow.{Arrow}
 use Rattle.plain_bases.specs.View.{arrow_of, FitsCells}
-use Rattle.sheaf_data.specs.Betti.{arrows_of, numbered}
+use Rattle.sheaf_data.specs.Betti.{arrows_of, numbered_cells}
 use Rattle.plain_betti.proofs.ArrowLaws.{length-arrows, take_next_known}
 use Rattle.plain_betti.proofs.arrows.arrows_of.Goals as goal
 
@@ -20,8 +20,8 @@ loop-place-preserved g c =
       arrows =
           ap (map arrow_of) grown ∙ map-append arrow_of before (new ∷ []) ∙ ap (λ (front : List complexes.Arrow). front ++ arrow_of new ∷ []) c.loop-place.invariant.arrows
           ∙ sym (take_next_known all c.loop-place.place (arrow_of new) c.in_ok-arrow.ensures.arrow);
-      fits = subst (λ (arrows : List Arrow). All (FitsCells K (numbered 0 d.complex.dims d.stalks)) arrows) (sym grown)
-          (All-push (FitsCells K (numbered 0 d.complex.dims d.stalks)) before new c.loop-place.invariant.fits c.in_ok-arrow.ensures.fits);
+      fits = subst (λ (arrows : List Arrow). All (FitsCells K (numbered_cells 0 d.complex.dims d.stalks)) arrows) (sym grown)
+          (All-push (FitsCells K (numbered_cells 0 d.complex.dims d.stalks)) before new c.loop-place.invariant.fits c.in_ok-arrow.ensures.fits);
     }
 
 pub returns-clause-arrows : goal.returns-clause-arrows

@@ -5,7 +5,7 @@ use Rattle.dense_blocks.specs.Solving.{lists}
 use Rattle.cochain_vec.specs.Complexes.{CellularComplex}
 use Rattle.cochain_vec.specs.Cohomology.{HasDimension, IsBasis}
 use Rattle.dense_blocks.specs.Field.{Ops}
-use Rattle.plain_bases.specs.View.{complex_of}
+use Rattle.plain_bases.specs.View.{plain_complex_of}
 use Rattle.sheaf_data.specs.Sheaves.{SheafData}
 use Rattle.sheaf_data.specs.Betti.{cochain_complex_of}
 use Rattle.plain_betti.proofs.CellLaws.{each_next}
@@ -22,7 +22,7 @@ loop-degree-preserved g c =
     let field : g.F.Scalars.ops c.draft.inside.field ≡ K = ap (λ (x : SheafData _). g.F.Scalars.ops x.field) c.draft.view_is in
     let is_basis : IsBasis K C k (lists basis) =
     subst (λ (D : CellularComplex). IsBasis K D k (lists basis)) c.in_ok-complex.ensures.complex
-    (subst (λ (L : Ops). IsBasis L (complex_of c.in_ok-complex.complex) k (lists basis)) field c.in_ok-basis.ensures.basis) in
+    (subst (λ (L : Ops). IsBasis L (plain_complex_of c.in_ok-complex.complex) k (lists basis)) field c.in_ok-basis.ensures.basis) in
     let size : length (lists basis) ≡ c.len.result = length-map basis (λ v. v.items) ∙ search rules in
     let last : HasDimension K C (length before) c.len.result =
     subst (λ (j : ℕ). HasDimension K C j c.len.result) (sym c.loop-degree.invariant.one_each) (lists basis, size, is_basis) in

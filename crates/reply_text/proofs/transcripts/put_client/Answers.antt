@@ -2,7 +2,7 @@ use Rattle.std.proofs.Common.{◌≡◌, ◌+◌, ◌∷◌, ◌++◌, [], lengt
 use Rattle.std.proofs.lemmas.Option.{slice_get_read}
 use Rattle.reply_text.specs.Replies.{IsAnswerTo}
 use Rattle.reply_text.specs.Transcripts.{IfPresent}
-use Rattle.reply_text.specs.Counts.{Counted}
+use Rattle.reply_text.specs.Counts.{IsCountOf}
 use Rattle.reply_text.proofs.Counting.{take_next}
 use Rattle.reply_text.proofs.Naming.{written-more}
 use Rattle.reply_text.proofs.transcripts.put_client.Goals as goal
@@ -26,5 +26,5 @@ loop-event-preserved c =
     let next : take (i + 1) events ≡ take i events ++ item ∷ [] = take_next events i item c.loop-event-test.true c.event-item.is in (
       written-more c.args.client c.args.script.now events i item c.args.out.now.items c.loop-event.out.items c.put_answer.new.out.items
           c.loop-event.invariant.0 (c.in_ok-put_answer.ensures (take i events) c.loop-event.invariant.1) next,
-      subst (λ es. Counted c.args.client es c.after-counts.result) (sym next) (c.after-counts.ensures (take i events) c.loop-event.invariant.1),
+      subst (λ es. IsCountOf c.args.client es c.after-counts.result) (sym next) (c.after-counts.ensures (take i events) c.loop-event.invariant.1),
     )

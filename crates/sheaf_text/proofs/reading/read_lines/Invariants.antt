@@ -1,12 +1,12 @@
 use Rattle.std.proofs.Common.{◌≡◌, ◌≤◌, ◌+◌, length}
 use Rattle.sheaf_text.specs.Reading.{contents}
 use Rattle.sheaf_text.specs.Keeping.{nothing_known, run}
-use Rattle.sheaf_text.specs.State.{known_by, IsSound}
+use Rattle.sheaf_text.specs.State.{known_by, IsSoundState}
 use Rattle.sheaf_text.proofs.reading.read_lines.Given as goal
 
 abbrev pub invariant-loop-rest : goal.invariant-loop-rest
 invariant-loop-rest l = record {
-  sound : IsSound l.state;
+  sound : IsSoundState l.state;
   same : run (known_by l.state) l.line (contents l.rest) ≡ run nothing_known 0 (contents l.bytes);
   within : l.line + length l.rest ≤ length l.bytes;
 }

@@ -1,10 +1,10 @@
 use Rattle.std.proofs.Common.{ℕ, ◌<◌, get_or}
-use Rattle.square_check.specs.Answers.{Fails, Clears}
+use Rattle.square_check.specs.Answers.{Fails, PassesBefore}
 use Rattle.square_check.specs.Squares.{Commutes}
 use Rattle.square_check.proofs.pairs.bad_above.Given as goal
 
 abbrev pub invariant-loop-u : goal.invariant-loop-u
 invariant-loop-u g l = record {
   fails : Fails (Commutes (g.F.Scalars.ops l.f) l.c l.blocks) l.least;
-  clears : (k : ℕ) → k < l.u-index → Clears (Commutes (g.F.Scalars.ops l.f) l.c l.blocks) l.least l.s (get_or l.u-items k 0);
+  clears : (k : ℕ) → k < l.u-index → PassesBefore (Commutes (g.F.Scalars.ops l.f) l.c l.blocks) l.least l.s (get_or l.u-items k 0);
 }

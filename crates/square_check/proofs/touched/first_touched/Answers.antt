@@ -4,7 +4,7 @@ use Rattle.cell_complex.specs.declared.face.Face.{Face}
 use Rattle.cell_complex.specs.Complexes.{CellComplex}
 use Rattle.dense_blocks.specs.Field.{Ops}
 use Rattle.dense_blocks.specs.declared.block.Block.{Block}
-use Rattle.square_check.specs.Answers.{earlier, Fails}
+use Rattle.square_check.specs.Answers.{earlier_pair, Fails}
 use Rattle.square_check.specs.Squares.{Commutes}
 use Rattle.square_check.proofs.Clearing.{earlier-fails}
 use Rattle.square_check.proofs.Placed.{some-same}
@@ -22,23 +22,23 @@ loop-place-preserved g c =
     let below : Option (ℕ × ℕ) = c.bad_below.result in
     let index : ℕ = c.loop-place.place-index in
     let face : Face = c.face_at-face.result in
-    let now = c.earlier-least-in-loop-place.ensures ∙ ap (λ r. earlier r below) c.earlier-least.ensures in
+    let now = c.earlier-least-in-loop-place.ensures ∙ ap (λ r. earlier_pair r below) c.earlier-least.ensures in
     record {
       fails = subst (Fails (Commutes K all blocks)) (sym now)
-          (earlier-fails (Commutes K all blocks) (earlier old above) below
+          (earlier-fails (Commutes K all blocks) (earlier_pair old above) below
           (earlier-fails (Commutes K all blocks) old above c.loop-place.invariant.fails c.bad_above.ensures.fails) c.bad_below.ensures.fails);
       clears = λ k f l e. subst (λ r. ClearsAbove K all blocks r f × ClearsBelow K all blocks r f) (sym now)
           (⊎_elim
           (λ (before : k < index).
           let kept = c.loop-place.invariant.clears k f before e in (
-            above-first K all blocks (earlier old above) below f (above-first K all blocks old above f kept.0),
-            below-first K all blocks (earlier old above) below f (below-first K all blocks old above f kept.1),
+            above-first K all blocks (earlier_pair old above) below f (above-first K all blocks old above f kept.0),
+            below-first K all blocks (earlier_pair old above) below f (below-first K all blocks old above f kept.1),
           ))
           (λ (after : index ≤ k).
           let here : index ≡ k = omega arith in
           let same : face ≡ f = some-same face f (sym c.face_at-face.ensures ∙ ap (λ i. slice_get all.faces (get_or places i 0)) here ∙ e) in (
-            above-first K all blocks (earlier old above) below f (above-second K all blocks old above f (subst (ClearsAbove K all blocks above) same c.bad_above.ensures.clears)),
-            below-second K all blocks (earlier old above) below f (subst (ClearsBelow K all blocks below) same c.bad_below.ensures.clears),
+            above-first K all blocks (earlier_pair old above) below f (above-second K all blocks old above f (subst (ClearsAbove K all blocks above) same c.bad_above.ensures.clears)),
+            below-second K all blocks (earlier_pair old above) below f (subst (ClearsBelow K all blocks below) same c.bad_below.ensures.clears),
           ))
           (cases_lt k index));
     }

@@ -1,14 +1,14 @@
 -- One block more, and its image written into the sum.
 use Rattle.std.proofs.Common.{◌≡◌, ◌∙◌, ap, ap₂, sym, subst, length, rules}
 use Rattle.std.proofs.lemmas.List.{take_at, length-map}
-use Rattle.dense_blocks.specs.Vectors.{AllScalars, plus, scaled}
-use Rattle.dense_blocks.specs.Matrices.{applied}
+use Rattle.dense_blocks.specs.Vectors.{AllScalars, plus, multiple}
+use Rattle.dense_blocks.specs.Matrices.{image_of}
 use Rattle.dense_blocks.specs.Blocks.{matrix_of}
 use Rattle.dense_blocks.proofs.Shapes.{to_vector, vector-size}
-use Rattle.dense_blocks.proofs.VectorLaws.{plus-vector, plus-zeros, scaled-one}
-use Rattle.dense_blocks.proofs.MatrixLaws.{zero_matrix-applied}
+use Rattle.dense_blocks.proofs.VectorLaws.{plus-vector, plus-zeros, multiple-one}
+use Rattle.dense_blocks.proofs.MatrixLaws.{zero_matrix-image_of}
 use Rattle.cochain_vec.specs.Complexes.{value_at}
-use Rattle.cochain_vec.proofs.CoboundaryLaws.{applied-rows}
+use Rattle.cochain_vec.proofs.CoboundaryLaws.{image_of-rows}
 use Rattle.block_complexes.specs.BlockComplexes.{size_of}
 use Rattle.block_sparse.specs.StoredBlocks.{matrix}
 use Rattle.block_complexes.specs.Cochains.{of_degree}
@@ -46,13 +46,13 @@ returns-in_ok-image-clause-sum g c =
     let old = c.args.sum.now.items in
     let new = c.add_scaled.new.target in
     let rows : length A ≡ n = ap length (sym c.in-Some.ensures.is_matrix) ∙ block-rows K v c.args.s c.args.t c.in-Some.block.now c.in-Some.ensures in
-    let shape = applied-rows K F n A x rows in
-    let image : c.deref.result.now ≡ applied K A x =
+    let shape = image_of-rows K F n A x rows in
+    let image : c.deref.result.now ≡ image_of K A x =
     c.deref.ensures.value ∙ c.in_ok-image.ensures.image
-    ∙ ap₂ (applied K) c.in-Some.ensures.is_matrix (c.value_of.ensures.value ∙ ap (λ live. value_at (of_degree k live) c.args.z.now c.args.s) c.live.ensures.live) in
-    let is : new ≡ plus K old (applied K A x) =
-    c.add_scaled.ensures.sum ∙ ap₂ (plus K) c.deref_mut.ensures.value (ap (scaled K 1) image ∙ scaled-one K F n (applied K A x) shape) in
-    let size : length new ≡ n = ap length is ∙ vector-size K n (plus K old (applied K A x)) (plus-vector K F n old (applied K A x) (to_vector K n old c.requires.sum) shape) in
+    ∙ ap₂ (image_of K) c.in-Some.ensures.is_matrix (c.value_of.ensures.value ∙ ap (λ live. value_at (of_degree k live) c.args.z.now c.args.s) c.live.ensures.live) in
+    let is : new ≡ plus K old (image_of K A x) =
+    c.add_scaled.ensures.sum ∙ ap₂ (plus K) c.deref_mut.ensures.value (ap (multiple K 1) image ∙ multiple-one K F n (image_of K A x) shape) in
+    let size : length new ≡ n = ap length is ∙ vector-size K n (plus K old (image_of K A x)) (plus-vector K F n old (image_of K A x) (to_vector K n old c.requires.sum) shape) in
     let len : c.args.sum.now.len ≡ length old = search rules in
     take_at new _ c.args.sum.now.len (size ∙ sym c.requires.sum.size ∙ sym len) ∙ is
 
@@ -64,6 +64,6 @@ returns-in_default-clause-sum g c =
     let n = size_of v.live c.args.t in
     let x = value_at (of_degree c.args.starts.now.degree v.live) c.args.z.now c.args.s in
     let old = c.args.sum.now.items in
-    sym (ap (λ A. plus K old (applied K A x)) (matrix-none K v c.args.s c.args.t c.in_default.ensures)
-    ∙ ap (plus K old) (zero_matrix-applied K F n (size_of v.live c.args.s) x)
+    sym (ap (λ A. plus K old (image_of K A x)) (matrix-none K v c.args.s c.args.t c.in_default.ensures)
+    ∙ ap (plus K old) (zero_matrix-image_of K F n (size_of v.live c.args.s) x)
     ∙ plus-zeros K F n old (to_vector K n old c.requires.sum))

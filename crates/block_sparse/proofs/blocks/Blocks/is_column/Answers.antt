@@ -2,7 +2,7 @@ use Rattle.std.proofs.Common.{◌≡◌, ◌≢◌, ◌<◌, ℕ, ap, ap₂, ◌
 use Rattle.std.proofs.lemmas.Bool.{cases_lt}
 use Rattle.dense_blocks.specs.Blocks.{matrix_of}
 use Rattle.block_complexes.specs.BlockComplexes.{size_of}
-use Rattle.block_sparse.specs.StoredBlocks.{held}
+use Rattle.block_sparse.specs.StoredBlocks.{block_at}
 use Rattle.block_sparse.specs.Grids.{width, window, block_matrix, nonzero}
 use Rattle.block_sparse.proofs.Windows.{width-next, width-within}
 use Rattle.block_sparse.proofs.blocks.Blocks.is_column.Goals as goal
@@ -42,7 +42,7 @@ loop-j-preserved c =
         | inl u ↦ c.loop-j.invariant.same k u ne
         | inr u ↦
             let e : j ≡ k = omega arith in
-            subst (λ n. (get_or below n (0, 0)).0 ≢ c.args.y → block_matrix (held c.args.self.now c.args.x (get_or below n (0, 0)).0)
+            subst (λ n. (get_or below n (0, 0)).0 ≢ c.args.y → block_matrix (block_at c.args.self.now c.args.x (get_or below n (0, 0)).0)
             ≡ nonzero (window (width (take n below)) (get_or below n (0, 0)).1 0 c.args.joined.now.cols A)) e
             (λ d. c.is_column_part.ensures.0 passed d ∙ ap₂ (λ m n. nonzero (window n (get_or below j (0, 0)).1 0 m A)) w c.loop-j.invariant.row) ne
       ];

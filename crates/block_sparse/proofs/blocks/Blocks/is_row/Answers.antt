@@ -2,7 +2,7 @@ use Rattle.std.proofs.Common.{◌≡◌, ◌≢◌, ◌<◌, ℕ, ap, ap₂, ◌
 use Rattle.std.proofs.lemmas.Bool.{cases_lt}
 use Rattle.dense_blocks.specs.Blocks.{matrix_of}
 use Rattle.block_complexes.specs.BlockComplexes.{size_of}
-use Rattle.block_sparse.specs.StoredBlocks.{held}
+use Rattle.block_sparse.specs.StoredBlocks.{block_at}
 use Rattle.block_sparse.specs.Grids.{width, window, block_matrix, nonzero}
 use Rattle.block_sparse.proofs.Windows.{width-next, width-within}
 use Rattle.block_sparse.proofs.blocks.Blocks.is_row.Goals as goal
@@ -42,7 +42,7 @@ loop-i-preserved c =
         | inl u ↦ c.loop-i.invariant.same k u ne
         | inr u ↦
             let e : i ≡ k = omega arith in
-            subst (λ n. (get_or left n (0, 0)).0 ≢ c.args.x → block_matrix (held c.args.self.now (get_or left n (0, 0)).0 c.args.y)
+            subst (λ n. (get_or left n (0, 0)).0 ≢ c.args.x → block_matrix (block_at c.args.self.now (get_or left n (0, 0)).0 c.args.y)
             ≡ nonzero (window 0 c.args.joined.now.rows (width (take n left)) (get_or left n (0, 0)).1 A)) e
             (λ d. c.is_row_part.ensures.0 passed d ∙ ap₂ (λ m n. nonzero (window 0 m n (get_or left i (0, 0)).1 A)) h c.loop-i.invariant.col) ne
       ];

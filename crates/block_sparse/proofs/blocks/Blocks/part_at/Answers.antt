@@ -2,7 +2,7 @@
 use Rattle.std.proofs.Common.{◌≡◌, ◌∙◌, ◌≤◌, ◌<◌, ℕ, List, ap, sym, subst, length, get_or, arith}
 use Rattle.std.proofs.lemmas.List.{take_all}
 use Rattle.dense_blocks.specs.Vectors.{IsVector, plus, zeros}
-use Rattle.dense_blocks.specs.Matrices.{applied}
+use Rattle.dense_blocks.specs.Matrices.{image_of}
 use Rattle.dense_blocks.proofs.Shapes.{from_vector}
 use Rattle.dense_blocks.proofs.VectorLaws.{zeros-vector}
 use Rattle.cochain_vec.specs.Complexes.{value_at}
@@ -31,7 +31,7 @@ loop-s-preserved g c =
     let row = c.row-s-items.result.now in
     let i : ℕ = c.loop-s.s-index in
     let inside : i < length row = omega arith in
-    let image : ℕ → List ℕ = λ s. applied K (matrix v s t) (value_at (of_degree c.args.starts.now.degree v.live) c.args.z.now s) in
+    let image : ℕ → List ℕ = λ s. image_of K (matrix v s t) (value_at (of_degree c.args.starts.now.degree v.live) c.args.z.now s) in
     record {
       sum = c.in_ok-add_image.ensures.sum ∙ ap (λ u. plus K u (image (get_or row i 0))) c.loop-s.invariant.sum
           ∙ sym (sum_over-next K (g.met.F.Scalars.is_field c.args.f.now) n image row i 0 inside);
@@ -48,5 +48,5 @@ returns g c =
     let value : ℕ → List ℕ = value_at (of_degree c.args.starts.now.degree v.live) c.args.z.now in
     let sound : IsSound v.live v.rows v.columns = subst (λ (v : StoredBlocks). IsSound v.live v.rows v.columns) c.self.view_is c.self.invariant in
     c.loop-s.invariant.sum
-    ∙ ap (sum_over K (size_of v.live t) (λ s. applied K (matrix v s t) (value s))) (take_all c.loop-s.s-index row end)
+    ∙ ap (sum_over K (size_of v.live t) (λ s. image_of K (matrix v s t) (value s))) (take_all c.loop-s.s-index row end)
     ∙ sym (sum_into-row K (g.met.F.Scalars.is_field c.args.f.now) v sound value t row c.requires.live c.row-s-items.ensures.rising c.row-s-items.ensures.cells)

@@ -2,8 +2,8 @@ use Rattle.std.proofs.Common.{◌≡◌, ℕ, ap, ◌∙◌, sym, subst, List, �
 use Rattle.dense_blocks.specs.Blocks.{matrix_of}
 use Rattle.dense_blocks.proofs.Cutting.{Sized}
 use Rattle.block_complexes.specs.BlockComplexes.{size_of}
-use Rattle.block_sparse.specs.StoredBlocks.{held}
-use Rattle.block_sparse.specs.Grids.{part, placed}
+use Rattle.block_sparse.specs.StoredBlocks.{block_at}
+use Rattle.block_sparse.specs.Grids.{part, as_block}
 use Rattle.block_sparse.proofs.GridLaws.{at_pair, part-whole}
 use Rattle.block_sparse.proofs.Windows.{sized-cut}
 use Rattle.block_sparse.proofs.blocks.Blocks.place.Goals as goal
@@ -23,5 +23,5 @@ returns-clause-held c = λ p q.
     let whole : Sized b.rows b.cols A = sized-cut b.rows b.cols b.entries (omega (arith, b.full)) in
     let sized : Sized n m A = subst (λ k. Sized n k A) cols (subst (λ k. Sized k b.cols A) rows whole) in
     c.in_ok-set_grid.ensures.held p q
-    ∙ at_pair s t p q (placed (part left below A p q)) (placed A) (held c.args.self.now p q)
-    (λ e f. ap (λ x. placed (part left below A x q)) e ∙ ap (λ y. placed (part left below A s y)) f ∙ ap placed (part-whole s t m n A sized))
+    ∙ at_pair s t p q (as_block (part left below A p q)) (as_block A) (block_at c.args.self.now p q)
+    (λ e f. ap (λ x. as_block (part left below A x q)) e ∙ ap (λ y. as_block (part left below A s y)) f ∙ ap as_block (part-whole s t m n A sized))

@@ -1,8 +1,8 @@
 use Rattle.std.proofs.Common.{ap, ◌∙◌, sym, cond, None, ◌||◌, eqb, subst}
 use Rattle.rising_lists.specs.Rising.{entry_of}
-use Rattle.block_sparse.specs.StoredBlocks.{held}
+use Rattle.block_sparse.specs.StoredBlocks.{block_at}
 use Rattle.block_sparse.specs.Invariants.{IsSound}
-use Rattle.block_sparse.proofs.RemovalLaws.{sound-without, held-without, some-mark}
+use Rattle.block_sparse.proofs.RemovalLaws.{sound-without, block_at-without, some-mark}
 use Rattle.block_sparse.proofs.blocks.Blocks.remove_cell.Goals as goal
 
 pub clear-requires : goal.clear-requires
@@ -16,6 +16,6 @@ invariant_of-self c =
 
 pub returns-clause-held : goal.returns-clause-held
 returns-clause-held c = λ s t.
-    held-without (eqb s c.args.c || eqb t c.args.c) (entry_of c.self.inside.rows t s) (entry_of c.clear.new.rows t s) (entry_of c.self.inside.columns s t) (entry_of c.clear.new.columns s t)
+    block_at-without (eqb s c.args.c || eqb t c.args.c) (entry_of c.self.inside.rows t s) (entry_of c.clear.new.rows t s) (entry_of c.self.inside.columns s t) (entry_of c.clear.new.columns s t)
     (c.clear.ensures.rows s t) (c.clear.ensures.columns s t)
-    ∙ ap (λ v. cond (eqb s c.args.c || eqb t c.args.c) None (held v s t)) c.self.view_is
+    ∙ ap (λ v. cond (eqb s c.args.c || eqb t c.args.c) None (block_at v s t)) c.self.view_is

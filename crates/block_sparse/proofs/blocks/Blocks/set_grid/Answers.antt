@@ -2,9 +2,9 @@ use Rattle.std.proofs.Common.{◌≡◌, ◌+◌, subst, ap, ◌∙◌, sym, con
 use Rattle.dense_blocks.specs.Blocks.{matrix_of}
 use Rattle.rising_lists.specs.Rising.{has, keys}
 use Rattle.block_complexes.specs.BlockComplexes.{cells, degree_of}
-use Rattle.block_sparse.specs.StoredBlocks.{held}
-use Rattle.block_sparse.specs.Grids.{part, placed, AreSized}
-use Rattle.block_sparse.proofs.GridLaws.{is_done, held-done, sound-done, sized-live}
+use Rattle.block_sparse.specs.StoredBlocks.{block_at}
+use Rattle.block_sparse.specs.Grids.{part, as_block, AreSized}
+use Rattle.block_sparse.proofs.GridLaws.{is_done, block_at-done, sound-done, sized-live}
 use Rattle.block_sparse.proofs.blocks.Blocks.set_grid.Goals as goal
 
 pub fresh_rows-requires-clause-within : goal.fresh_rows-requires-clause-within
@@ -47,7 +47,7 @@ returns-clause-held c = λ s t.
     let below = c.args.below.now in
     let rows = c.self.inside.rows in
     let columns = c.self.inside.columns in
-    held-done A left below c.self.inside.live.items rows c.install.new.self columns c.install-2.new.self
+    block_at-done A left below c.self.inside.live.items rows c.install.new.self columns c.install-2.new.self
     (is_done A left below c.requires.left_rises c.requires.below_rises rows c.install.new.self c.in_ok-rows.rows.items c.in_ok-rows.ensures.count c.in_ok-rows.ensures.fresh c.install.ensures.lines
     columns c.install-2.new.self c.in_ok-columns.columns.items c.in_ok-columns.ensures.count c.in_ok-columns.ensures.fresh c.install-2.ensures.lines) s t
-    ∙ ap (λ v. cond (has s (keys left) && has t (keys below)) (placed (part left below A s t)) (held v s t)) c.self.view_is
+    ∙ ap (λ v. cond (has s (keys left) && has t (keys below)) (as_block (part left below A s t)) (block_at v s t)) c.self.view_is

@@ -1,12 +1,12 @@
 use Rattle.std.proofs.Common.{ap, ◌∙◌}
 use Rattle.cell_complex.specs.Complexes.{CellComplex, with_face}
-use Rattle.cell_complex.specs.Verdicts.{fault_of}
+use Rattle.cell_complex.specs.Verdicts.{face_fault}
 use Rattle.cell_complex.proofs.Faults.{accepted-complex, with_first-more}
 use Rattle.cell_complex.proofs.complex.Complex.copy.Goals as goal
 
 pub append-requires : goal.append-requires
 append-requires c =
-    ap (λ all. fault_of all c.face_at.result) c.loop-place.invariant
+    ap (λ all. face_fault all c.face_at.result) c.loop-place.invariant
     ∙ accepted-complex c.args.self.now c.face_count-place-end.ensures.complex c.loop-place.place c.face_at.result c.face_at.ensures
 
 pub loop-place-preserved : goal.loop-place-preserved

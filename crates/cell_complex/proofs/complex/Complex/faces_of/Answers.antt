@@ -1,22 +1,22 @@
 use Rattle.std.proofs.Common.{sym, ◌∙◌, subst, arith}
 use Rattle.std.specs.List.Sorted.{IsStrictlyIncreasing}
-use Rattle.cell_complex.specs.Neighbours.{lists_of}
-use Rattle.cell_complex.specs.Fields.{IsKept}
+use Rattle.cell_complex.specs.Neighbours.{neighbour_lists}
+use Rattle.cell_complex.specs.Fields.{AreNeighbourLists}
 use Rattle.cell_complex.proofs.Faults.{below-size, below-at, faces_of-rise}
 use Rattle.cell_complex.proofs.complex.Complex.faces_of.Goals as goal
 
 pub list-requires : goal.list-requires
 list-requires c =
-    let below = lists_of c.self.inside.below in
-    let above = lists_of c.self.inside.above in
-    let kept : IsKept c.args.self.now below above = subst (λ all. IsKept all below above) c.self.view_is c.self.invariant in
+    let below = neighbour_lists c.self.inside.below in
+    let above = neighbour_lists c.self.inside.above in
+    let kept : AreNeighbourLists c.args.self.now below above = subst (λ all. AreNeighbourLists all below above) c.self.view_is c.self.invariant in
     omega (arith, below-size c.args.self.now below above kept)
 
 pub returns-clause-cells : goal.returns-clause-cells
 returns-clause-cells c =
-    let below = lists_of c.self.inside.below in
-    let above = lists_of c.self.inside.above in
-    let kept : IsKept c.args.self.now below above = subst (λ all. IsKept all below above) c.self.view_is c.self.invariant in
+    let below = neighbour_lists c.self.inside.below in
+    let above = neighbour_lists c.self.inside.above in
+    let kept : AreNeighbourLists c.args.self.now below above = subst (λ all. AreNeighbourLists all below above) c.self.view_is c.self.invariant in
     c.list.ensures ∙ below-at c.args.self.now below above kept c.args.t c.requires
 
 pub returns-clause-rising : goal.returns-clause-rising

@@ -1,7 +1,7 @@
 use Rattle.std.proofs.Common.{ap, ◌∙◌, arith}
 use Rattle.std.proofs.lemmas.List.{length-map}
 use Rattle.cell_complex.specs.Complexes.{place}
-use Rattle.cell_complex.specs.Fields.{face_of, shown}
+use Rattle.cell_complex.specs.Fields.{face_of_entry, complex_from}
 use Rattle.cell_complex.proofs.Entries.{position-place}
 use Rattle.cell_complex.proofs.Counts.{length-faces}
 use Rattle.cell_complex.proofs.complex.Complex.place.Goals as goal
@@ -14,8 +14,8 @@ returns-in_err-place c =
 
 pub overflow_cast-result : goal.overflow_cast-result
 overflow_cast-result c =
-    let all = shown c.self.inside.dims.items c.self.inside.signs.entries in
-    omega (arith, length-faces all c.self.invariant.complex, length-map c.self.inside.signs.entries face_of, c.in_ok-place.ensures.within)
+    let all = complex_from c.self.inside.dims.items c.self.inside.signs.entries in
+    omega (arith, length-faces all c.self.invariant.complex, length-map c.self.inside.signs.entries face_of_entry, c.in_ok-place.ensures.within)
 
 pub returns : goal.returns
 returns c =

@@ -2,7 +2,7 @@ use Rattle.std.proofs.Common.{◌≡◌, ℕ, ◌+◌, List, [], length, take, g
 use Rattle.std.proofs.lemmas.List.Elements.{All-get_or}
 use Rattle.dense_blocks.specs.Field.{Ops, IsField}
 use Rattle.dense_blocks.specs.Vectors.{IsVector, zeros}
-use Rattle.dense_blocks.specs.Elimination.{ComesFrom, Eliminates, Fits, parts, reduced}
+use Rattle.dense_blocks.specs.Elimination.{ComesFrom, Eliminates, IsPivot, parts, reduced}
 use Rattle.dense_blocks.specs.Solving.{lists}
 use Rattle.dense_blocks.specs.declared.solving.Pivot.{Pivot}
 use Rattle.dense_blocks.proofs.EliminationSteps.{list_at, own_matrix, eliminates-zero, eliminates-pivot}
@@ -32,7 +32,7 @@ returns-in_ok-push-clause-after g c =
     ∙ ap (λ t. get_or vectors t []) (sym c.of-pivot.ensures.source) in
     let place_is : get_or row at 0 ≡ get_or q.row.items q.place 0 =
     ap (λ t. get_or t at 0) (sym c.of-pivot.ensures.row) ∙ ap (λ t. get_or q.row.items t 0) (sym c.of-pivot.ensures.place) in
-    let fit : Fits K n q = record {
+    let fit : IsPivot K n q = record {
       place = omega (arith, c.of-pivot.ensures.place, c.in-Some.ensures.inside, ap length c.as_slice-2.ensures.value, c.in_ok-reduced.ensures.vector.size);
       row = subst (IsVector K n) (sym c.of-pivot.ensures.row) c.in_ok-reduced.ensures.vector;
       first = ap₂ take c.of-pivot.ensures.place (c.of-pivot.ensures.row ∙ sym c.as_slice-2.ensures.value)

@@ -2,7 +2,7 @@ use Rattle.std.proofs.Common.{◌≡◌, ℕ, ◌<◌, List, [], ◌∷◌, ◌+
 use Rattle.std.specs.Prelude.{All}
 use Rattle.std.proofs.lemmas.List.{get_or_read, take_at}
 use Rattle.dense_blocks.specs.Field.{Ops, IsField}
-use Rattle.dense_blocks.specs.Vectors.{combination, plus, scaled, zeros}
+use Rattle.dense_blocks.specs.Vectors.{combination, plus, multiple, zeros}
 use Rattle.dense_blocks.specs.Elimination.{ComesFrom, rows}
 use Rattle.dense_blocks.specs.Solving.{lists}
 use Rattle.dense_blocks.specs.declared.solving.Pivot.{Pivot}
@@ -86,8 +86,8 @@ loop-last-preserved g c =
     omega (arith, c.loop-last.invariant.short, ap length c.in-Some.ensures.items, length-append shorter (last ∷ [])) in
     let is : q ≡ get_or ps k q = c.index-pivot.ensures ∙ ap (λ t. get_or ps t q) size in
     let from : ComesFrom K vectors (take k ps) q = come_from_at K n vectors (length c.args.columns.now) ps k k q c.requires.pivots inside refl is in
-    let taken_is : plus K shorter (scaled K (K.neg last) q.parts.items) ≡ take c.pop.new.self.len (after ++ drop (length after) shorter) =
-    ap₂ (plus K) (sym c.as_mut_slice.ensures.value) (ap₂ (scaled K) (sym c.neg.ensures) (sym c.as_slice.ensures.value))
+    let taken_is : plus K shorter (multiple K (K.neg last) q.parts.items) ≡ take c.pop.new.self.len (after ++ drop (length after) shorter) =
+    ap₂ (plus K) (sym c.as_mut_slice.ensures.value) (ap₂ (multiple K) (sym c.neg.ensures) (sym c.as_slice.ensures.value))
     ∙ sym c.add_scaled.ensures.sum
     ∙ sym (take_at after (drop (length after) shorter) c.pop.new.self.len (omega arith)) in
     let at : c.index.result.now ≡ get_or coefficients q.source 0 =

@@ -3,7 +3,7 @@ use Rattle.std.proofs.lemmas.List.{get_or_read}
 use Rattle.std.proofs.lemmas.List.Elements.{All-get_or}
 use Rattle.dense_blocks.specs.Field.{Ops, IsField}
 use Rattle.dense_blocks.specs.Vectors.{dot}
-use Rattle.dense_blocks.specs.Elimination.{Fits}
+use Rattle.dense_blocks.specs.Elimination.{IsPivot}
 use Rattle.dense_blocks.specs.declared.solving.Pivot.{Pivot}
 use Rattle.dense_blocks.proofs.EliminationSteps.{Pulling, pulling-start, pulling-next, pulling-end}
 use Rattle.dense_blocks.proofs.solving.Elimination.functional.Goals as goal
@@ -27,7 +27,7 @@ loop-i-preserved g c =
     let q : Pivot = c.index-pivot.result.now in
     let less : ℕ = c.neg-less.result in
     let inside : i < length ps = omega arith in
-    let fit : Fits K n q = subst (Fits K n) (sym c.index-pivot.ensures) (All-get_or (Fits K n) ps i q inside c.requires.fit) in
+    let fit : IsPivot K n q = subst (IsPivot K n) (sym c.index-pivot.ensures) (All-get_or (IsPivot K n) ps i q inside c.requires.fit) in
     let on_row : c.dot_product-on_row.result ≡ dot K p q.row.items =
     c.dot_product-on_row.ensures.value ∙ ap₂ (dot K) c.as_slice.ensures.value c.as_slice-in-loop-i.ensures.value in
     let is_less : less ≡ K.neg (K.mul (dot K p q.row.items) q.inverse) =

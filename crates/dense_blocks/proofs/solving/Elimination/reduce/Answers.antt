@@ -2,8 +2,8 @@ use Rattle.std.proofs.Common.{◌≡◌, ℕ, ◌+◌, ◌<◌, List, ◌++◌, 
 use Rattle.std.proofs.lemmas.List.{get_or_read, take_at}
 use Rattle.std.proofs.lemmas.List.Elements.{All-get_or}
 use Rattle.dense_blocks.specs.Field.{Ops, IsField}
-use Rattle.dense_blocks.specs.Vectors.{plus, scaled}
-use Rattle.dense_blocks.specs.Elimination.{Fits, part}
+use Rattle.dense_blocks.specs.Vectors.{plus, multiple}
+use Rattle.dense_blocks.specs.Elimination.{IsPivot, pivot_multiple}
 use Rattle.dense_blocks.specs.declared.solving.Pivot.{Pivot}
 use Rattle.dense_blocks.proofs.EliminationSteps.{Reducing, reducing-next, reducing-rest, reducing-parts}
 use Rattle.dense_blocks.proofs.solving.Elimination.reduce.Goals as goal
@@ -21,12 +21,12 @@ loop-pivot-preserved g c =
     let x : ℕ = c.mul-part.result in
     let inside : i < length ps = omega arith in
     let is : p ≡ get_or ps i p = c.pivot-item.is ∙ ap (λ t. get_or t i p) c.deref-pivot-items.ensures.value in
-    let fit : Fits K n p = subst (Fits K n) (sym is) (All-get_or (Fits K n) ps i p inside c.requires.fit) in
+    let fit : IsPivot K n p = subst (IsPivot K n) (sym is) (All-get_or (IsPivot K n) ps i p inside c.requires.fit) in
     let at : c.index.result.now ≡ get_or u p.place 0 =
     get_or_read u p.place c.index.result.now (omega (arith, fit.place, c.loop-pivot.invariant.vector.size)) c.index.ensures 0 in
-    let is_x : x ≡ part K p u = c.mul-part.ensures ∙ ap (λ t. K.mul t p.inverse) at in
-    let left : plus K u (scaled K (K.neg x) p.row.items) ≡ take c.loop-pivot.row.len (after ++ drop (length after) u) =
-    ap₂ (plus K) (sym c.as_mut_slice.ensures.value) (ap₂ (scaled K) (sym c.neg.ensures) (sym c.as_slice.ensures.value))
+    let is_x : x ≡ pivot_multiple K p u = c.mul-part.ensures ∙ ap (λ t. K.mul t p.inverse) at in
+    let left : plus K u (multiple K (K.neg x) p.row.items) ≡ take c.loop-pivot.row.len (after ++ drop (length after) u) =
+    ap₂ (plus K) (sym c.as_mut_slice.ensures.value) (ap₂ (multiple K) (sym c.neg.ensures) (sym c.as_slice.ensures.value))
     ∙ sym c.add_scaled.ensures.sum
     ∙ sym (take_at after (drop (length after) u) c.loop-pivot.row.len (omega arith)) in
     subst₂ (Reducing K n ps c.args.vector.now (i + 1)) left (sym c.in_ok-push.ensures.items)

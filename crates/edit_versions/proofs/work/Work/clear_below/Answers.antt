@@ -1,6 +1,6 @@
 use Rattle.std.proofs.Common.{◌≡◌, ◌<◌, true, [], length, get_or, refl, sym, ap, subst, arith}
 use Rattle.std.proofs.lemmas.List.Elements.{filter_passes}
-use Rattle.cell_complex.specs.Complexes.{cells, is_face, joins, faces_of}
+use Rattle.cell_complex.specs.Complexes.{all_cells, is_face, joins, faces_of}
 use Rattle.edit_versions.specs.Edits.{zero_at}
 use Rattle.edit_versions.specs.Works.{Puts, is_from}
 use Rattle.edit_versions.proofs.Putting.{puts-none, puts-count, puts-from-more}
@@ -14,7 +14,7 @@ clear-requires-clause-face c =
     let i = c.loop-s.s-index in
     let within : i < length (faces_of c.args.c.now c.args.t) = omega (arith, ap length c.faces_of-s-items.ensures.cells) in
     subst (λ xs. is_face c.args.c.now (get_or xs i 0) c.args.t ≡ true) (sym c.faces_of-s-items.ensures.cells)
-    (filter_passes (λ q. is_face c.args.c.now q c.args.t) (cells c.args.c.now) i 0 within)
+    (filter_passes (λ q. is_face c.args.c.now q c.args.t) (all_cells c.args.c.now) i 0 within)
 
 pub clear-requires-clause-count : goal.clear-requires-clause-count
 clear-requires-clause-count c = puts-count c.args.c.now _ _ c.args.self.now c.loop-s.self c.requires.count c.loop-s.invariant

@@ -1,7 +1,7 @@
 use Rattle.std.proofs.Common.{◌≡◌, ◌≤◌, ap, ◌∙◌, sym, subst, length, arith}
 use Rattle.std.proofs.lemmas.List.{length-map}
 use Rattle.std.specs.Vec.Iter.{into_iter_items}
-use Rattle.rising_lists.specs.Rising.{IsRising, keys, look, entry, updated}
+use Rattle.rising_lists.specs.Rising.{IsRising, keys, look, entry, entry_after}
 use Rattle.rising_lists.proofs.MergeLaws.{merged-next, merged-all, next-due, next-smaller}
 use Rattle.rising_lists.proofs.line.Line.merged.Goals as goal
 
@@ -36,5 +36,5 @@ returns g c = λ q.
     let vs = c.self.inside.values.items in
     let n : length ks ≤ c.loop-i.j = omega (arith, length-map c.args.listed.now (λ s. s.0)) in
     merged-all c.as_slice-old.result.now vs ks c.args.fresh.items (into_iter_items c.loop-i.left) c.loop-i.i c.loop-i.j c.loop-i.cells.items c.loop-i.values.items c.loop-i.invariant c.if-i-old.false n q
-    ∙ ap (λ old. updated ks c.args.fresh.items (look q old vs) q) c.as_slice-old.ensures.value
-    ∙ ap (λ line. updated ks c.args.fresh.items (entry line q) q) c.self.view_is
+    ∙ ap (λ old. entry_after ks c.args.fresh.items (look q old vs) q) c.as_slice-old.ensures.value
+    ∙ ap (λ line. entry_after ks c.args.fresh.items (entry line q) q) c.self.view_is
