@@ -1,6 +1,7 @@
--- For a block complex as cells with matrices: the sum over all cells between two is zero exactly where the coboundary of each
--- coboundary is.
-use Rattle.std.proofs.Common.{◌≡◌, ◌≢◌, ℕ, zero, suc, ◌<◌, Bool, true, false, cond, ◌||◌, eqb, refl, sym, ap, ap₂, ◌∙◌, subst, arith, inl, inr, List, [], ◌∷◌, length, map, get_or, All}
+-- For a block complex as cells with matrices: the sum over all cells between two is zero exactly where the coboundary
+-- of each coboundary is.
+use Rattle.std.proofs.Common.{◌≡◌, ◌≢◌, ℕ, zero, suc, ◌<◌, Bool, true, false, cond, ◌||◌, eqb, refl, sym, ap, ap₂, ◌∙◌}
+use Rattle.std.proofs.Common.{subst, arith, inl, inr, List, [], ◌∷◌, length, map, get_or, All}
 use Rattle.std.specs.List.{flat_map}
 use Rattle.std.proofs.lemmas.Bool.{eq-eqb, ne_eqb, eqb-true, cases_eq}
 use Rattle.std.proofs.lemmas.List.Elements.{All-map, All-filter, All-from_get_or, filter_passes}
@@ -9,12 +10,15 @@ use Rattle.dense_blocks.specs.Vectors.{zeros, plus}
 use Rattle.dense_blocks.specs.Matrices.{image_of, identity}
 use Rattle.dense_blocks.proofs.Shapes.{Vector, Matrix, matrix-size, from_vector}
 use Rattle.dense_blocks.proofs.VectorLaws.{zeros-vector, plus-zeros}
-use Rattle.dense_blocks.proofs.MatrixLaws.{image_of-vector, image_of-zeros, zero_matrix-image_of, identity-image_of, identity-matrix}
+use Rattle.dense_blocks.proofs.MatrixLaws.{image_of-vector, image_of-zeros, zero_matrix-image_of, identity-image_of}
+use Rattle.dense_blocks.proofs.MatrixLaws.{identity-matrix}
 use Rattle.cochain_vec.specs.declared.cell.Cell.{Cell}
-use Rattle.cochain_vec.specs.Complexes.{Arrow, CellularComplex, cells_of, total_size, coordinates, value_at, sum_into, coboundary}
+use Rattle.cochain_vec.specs.Complexes.{Arrow, CellularComplex, cells_of, total_size, coordinates, value_at, sum_into}
+use Rattle.cochain_vec.specs.Complexes.{coboundary}
 use Rattle.cochain_vec.specs.Cohomology.{IsCochainComplex}
 use Rattle.cochain_vec.proofs.CoboundaryLaws.{size_at, RowsInto, sum_into-vector, joined-vector}
-use Rattle.cochain_vec.proofs.PathLaws.{sum_over, sum_over-vector, sum_over-same, sum_over-zeros, sum_over-plus, joined-zeros, value-joined}
+use Rattle.cochain_vec.proofs.PathLaws.{sum_over, sum_over-vector, sum_over-same, sum_over-zeros, sum_over-plus}
+use Rattle.cochain_vec.proofs.PathLaws.{joined-zeros, value-joined}
 use Rattle.rising_lists.specs.Rising.{IsRising, has}
 use Rattle.rising_lists.proofs.Keyed.{has-at}
 use Rattle.block_complexes.specs.BlockComplexes.{BlockComplex, cells, degree_of, size_of}
@@ -51,13 +55,15 @@ of_degree-are live r k i d l =
     numbered : (i : ℕ) → i < length live → IsCell (cell_of (get_or live i (0, 0, 0)))
     numbered i l =
         let m = get_or live i (0, 0, 0) in (
-          subst (λ c. has c (cells live) ≡ true) (cell-at live i l) (has-at (cells live) i (omega (arith, length-cells live))),
+          subst (λ c. has c (cells live) ≡ true) (cell-at live i l)
+              (has-at (cells live) i (omega (arith, length-cells live))),
           of_cell-at (λ l. l.1) live i m.0 r l refl,
           of_cell-at (λ l. l.2) live i m.0 r l refl,
         )
 
 -- the size of a live cell among the cells of its degree
-size-of_degree : (live : List (ℕ × ℕ × ℕ)) (k c : ℕ) → has c (cells live) ≡ true → degree_of live c ≡ k → size_at (of_degree k live) c ≡ size_of live c
+size-of_degree : (live : List (ℕ × ℕ × ℕ)) (k c : ℕ) → has c (cells live) ≡ true → degree_of live c ≡ k
+    → size_at (of_degree k live) c ≡ size_of live c
 unfolding size_at
 size-of_degree [] k c h e = cc
 size-of_degree (l ∷ ls) k c h e = go (eqb l.0 c) refl h e (size-of_degree ls k c)
@@ -84,7 +90,8 @@ sum_over-swap K F n h ss (t ∷ ts) =
     ∙ sym (sum_over-plus K F n (λ s. h s t) (λ s. sum_over K n (λ t. h s t) ts) ss)
 
 -- a vector at one cell, zero at all others: what an arrow into that cell gives
-module _ (K : Ops) (F : IsField K) (cs : List Cell) (s n : ℕ) (z : List ℕ) (hz : Vector K n z) (one : All (λ (c : Cell). c.cell ≡ s → c.size ≡ n) cs) where
+module _ (K : Ops) (F : IsField K) (cs : List Cell) (s n : ℕ) (z : List ℕ) (hz : Vector K n z)
+    (one : All (λ (c : Cell). c.cell ≡ s → c.size ≡ n) cs) where
   arrow : List Arrow
   arrow = record { from = 0; to = s; matrix = identity n } ∷ []
 
@@ -96,10 +103,12 @@ module _ (K : Ops) (F : IsField K) (cs : List Cell) (s n : ℕ) (z : List ℕ) (
   alone-parts i d l =
       let c = get_or cs i d in
       sum_into-vector K F arrow (λ p. z) c.size c.cell
-      (All-from_get_or (λ (a : Arrow). a.to ≡ c.cell → length a.matrix ≡ c.size) arrow (record { from = 0; to = s; matrix = identity n })
+      (All-from_get_or (λ (a : Arrow). a.to ≡ c.cell → length a.matrix ≡ c.size) arrow
+      (record { from = 0; to = s; matrix = identity n })
       (λ j m. rows j m))
     where
-      rows : (j : ℕ) → j < 1 → (get_or arrow j (record { from = 0; to = s; matrix = identity n })).to ≡ (get_or cs i d).cell
+      rows : (j : ℕ) → j < 1 → (get_or arrow j (record { from = 0; to = s; matrix = identity n })).to
+          ≡ (get_or cs i d).cell
           → length (get_or arrow j (record { from = 0; to = s; matrix = identity n })).matrix ≡ (get_or cs i d).size
       rows zero m e = matrix-size K n n (identity n) (identity-matrix K F n) ∙ sym (one i d l (sym e))
       rows (suc j) m e = absurd (omega arith)
@@ -112,14 +121,16 @@ module _ (K : Ops) (F : IsField K) (cs : List Cell) (s n : ℕ) (z : List ℕ) (
   unfolding alone arrow
   alone-there e =
       value-joined K F arrow (λ p. z) cs s alone-parts
-      ∙ ap (λ b. cond b (plus K (image_of K (identity n) z) (zeros (size_at cs s))) (zeros (size_at cs s))) (eq-eqb s s refl)
+      ∙ ap (λ b. cond b (plus K (image_of K (identity n) z) (zeros (size_at cs s))) (zeros (size_at cs s)))
+      (eq-eqb s s refl)
       ∙ ap₂ (plus K) (identity-image_of K F n z hz) (ap zeros e) ∙ plus-zeros K F n z hz
 
   pub alone-elsewhere : (p : ℕ) → p ≢ s → value_at cs alone p ≡ zeros (size_at cs p)
   unfolding alone arrow
   alone-elsewhere p apart =
       value-joined K F arrow (λ p. z) cs p alone-parts
-      ∙ ap (λ b. cond b (plus K (image_of K (identity n) z) (zeros (size_at cs p))) (zeros (size_at cs p))) (ne_eqb s p (λ e. apart (sym e)))
+      ∙ ap (λ b. cond b (plus K (image_of K (identity n) z) (zeros (size_at cs p))) (zeros (size_at cs p)))
+      (ne_eqb s p (λ e. apart (sym e)))
 
 module _ (K : Ops) (F : IsField K) (v : BlockComplex) (full : IsFull K v) where
   abbrev C : CellularComplex
@@ -149,20 +160,28 @@ module _ (K : Ops) (F : IsField K) (v : BlockComplex) (full : IsFull K v) where
 
   arrives-vector : (value : ℕ → List ℕ) (t : ℕ) → Vector K (size t) (arrives value t)
   arrives-vector value t =
-      sum_over-vector K F (size t) (λ s. image_of K (M s t) (value s)) (cells v.live) (λ s. image_of-vector K F (size t) (size s) (M s t) (value s) (M-shape s t))
+      sum_over-vector K F (size t) (λ s. image_of K (M s t) (value s)) (cells v.live)
+      (λ s. image_of-vector K F (size t) (size s) (M s t) (value s) (M-shape s t))
 
   sum_into-arrives : (value : ℕ → List ℕ) (t : ℕ) → IsLive t → sum_into K C.arrows value (size t) t ≡ arrives value t
-  sum_into-arrives value t h = sum_into-live K F v value (size t) t (λ s. matrix-size K (size t) (size s) (M s t) (M-shape s t)) rises h
+  sum_into-arrives value t h = sum_into-live K F v value (size t) t
+      (λ s. matrix-size K (size t) (size s) (M s t) (M-shape s t)) rises h
 
   -- twice, by the cells where it begins
-  arrives-arrives : (value : ℕ → List ℕ) (u : ℕ) → arrives (arrives value) u ≡ sum_over K (size u) (λ s. passes s u (value s)) (cells v.live)
+  arrives-arrives : (value : ℕ → List ℕ) (u : ℕ) → arrives (arrives value) u ≡ sum_over K (size u)
+      (λ s. passes s u (value s)) (cells v.live)
   arrives-arrives value u =
-      sum_over-same K F (size u) (λ t. image_of K (M t u) (arrives value t)) (λ t. sum_over K (size u) (λ s. image_of K (M t u) (image_of K (M s t) (value s))) (cells v.live)) (cells v.live)
-      (λ t. image_of-sum_over K F (size t) (size u) (M t u) (λ s. image_of K (M s t) (value s)) (cells v.live) (M-shape t u)
+      sum_over-same K F (size u) (λ t. image_of K (M t u) (arrives value t))
+      (λ t. sum_over K (size u) (λ s. image_of K (M t u) (image_of K (M s t) (value s))) (cells v.live))
+      (cells v.live)
+      (λ t. image_of-sum_over K F (size t) (size u) (M t u) (λ s. image_of K (M s t) (value s)) (cells v.live)
+      (M-shape t u)
       (λ s. image_of-vector K F (size t) (size s) (M s t) (value s) (M-shape s t)))
-      ∙ sum_over-swap K F (size u) (λ s t. image_of K (M t u) (image_of K (M s t) (value s))) (cells v.live) (cells v.live)
+      ∙ sum_over-swap K F (size u) (λ s t. image_of K (M t u) (image_of K (M s t) (value s))) (cells v.live)
+      (cells v.live)
 
-  parts : (k : ℕ) (value : ℕ → List ℕ) → All (λ (t : Cell). Vector K t.size (sum_into K C.arrows value t.size t.cell)) (cells_of C k)
+  parts : (k : ℕ) (value : ℕ → List ℕ) → All (λ (t : Cell). Vector K t.size (sum_into K C.arrows value t.size t.cell))
+      (cells_of C k)
   parts k value i d l =
       let t = get_or (of_degree k v.live) i d in
       let is = of_degree-are v.live rises k i d l in
@@ -183,8 +202,10 @@ module _ (K : Ops) (F : IsField K) (v : BlockComplex) (full : IsFull K v) where
         ∙ sum_into-arrives value t h
 
     -- only cells one degree below give something
-    next-arrives : (u : ℕ) → degree_of v.live u ≡ suc (suc k) → arrives next u ≡ sum_over K (size u) (λ s. passes s u (value s)) (cells v.live)
-    next-arrives u e = sum_over-equal K F (size u) (λ t. image_of K (M t u) (next t)) (λ t. image_of K (M t u) (arrives value t)) (cells v.live) same ∙ arrives-arrives value u
+    next-arrives : (u : ℕ) → degree_of v.live u ≡ suc (suc k)
+        → arrives next u ≡ sum_over K (size u) (λ s. passes s u (value s)) (cells v.live)
+    next-arrives u e = sum_over-equal K F (size u) (λ t. image_of K (M t u) (next t))
+        (λ t. image_of K (M t u) (arrives value t)) (cells v.live) same ∙ arrives-arrives value u
       where
         same : (t : ℕ) → IsLive t → image_of K (M t u) (next t) ≡ image_of K (M t u) (arrives value t)
         same t h = elim (cases_eq (degree_of v.live t) (suc k)) [
@@ -192,29 +213,36 @@ module _ (K : Ops) (F : IsField K) (v : BlockComplex) (full : IsFull K v) where
           | inr n ↦
               let none = full.apart t u (λ up. n (omega (arith, up, e))) in
               ap (λ A. image_of K A (next t)) none ∙ zero_matrix-image_of K F (size u) (size t) (next t)
-              ∙ sym (ap (λ A. image_of K A (arrives value t)) none ∙ zero_matrix-image_of K F (size u) (size t) (arrives value t))
+              ∙ sym (ap (λ A. image_of K A (arrives value t)) none ∙ zero_matrix-image_of K F (size u) (size t)
+              (arrives value t))
         ]
 
   passes-zero : IsDifferential K v → (s u : ℕ) → IsLive s → IsLive u → (z : List ℕ) → passes s u z ≡ zeros (size u)
-  passes-zero closed s u hs hu z = between-zero K F size M (cells v.live) (λ s t hs ht. M-shape s t) s u hs hu (closed s u (record { from = hs; to = hu })) z
+  passes-zero closed s u hs hu z = between-zero K F size M (cells v.live) (λ s t hs ht. M-shape s t) s u hs hu
+      (closed s u (record { from = hs; to = hu })) z
 
   pub differential-complex : IsDifferential K v → IsCochainComplex K C
-  differential-complex closed k z is = joined-zeros (λ (u : Cell). sum_into K C.arrows (next k z) u.size u.cell) (cells_of C (suc (suc k))) at_cell
+  differential-complex closed k z is = joined-zeros (λ (u : Cell). sum_into K C.arrows (next k z) u.size u.cell)
+      (cells_of C (suc (suc k))) at_cell
     where
-      at_cell : All (λ (u : Cell). sum_into K C.arrows (next k z) u.size u.cell ≡ zeros u.size) (cells_of C (suc (suc k)))
+      at_cell : All (λ (u : Cell). sum_into K C.arrows (next k z) u.size u.cell ≡ zeros u.size)
+          (cells_of C (suc (suc k)))
       at_cell i d l =
           let u = get_or (of_degree (suc (suc k)) v.live) i d in
           let is = of_degree-are v.live rises (suc (suc k)) i d l in
           subst (λ n. sum_into K C.arrows (next k z) n u.cell ≡ zeros n) is.size
           (sum_into-arrives (next k z) u.cell is.is_live
           ∙ next-arrives k z u.cell is.degree
-          ∙ sum_over-equal K F (size u.cell) (λ s. passes s u.cell (value k z s)) (λ s. zeros (size u.cell)) (cells v.live)
+          ∙ sum_over-equal K F (size u.cell) (λ s. passes s u.cell (value k z s)) (λ s. zeros (size u.cell))
+          (cells v.live)
           (λ s hs. passes-zero closed s u.cell hs is.is_live (value k z s))
           ∙ sum_over-zeros K F (size u.cell) (λ s. zeros (size u.cell)) (cells v.live) (λ s. refl))
 
   -- where the degrees are not two apart, each term is zero
-  passes-nothing : (s u : ℕ) (z : List ℕ) → degree_of v.live u ≢ suc (suc (degree_of v.live s)) → passes s u z ≡ zeros (size u)
-  passes-nothing s u z apart = sum_over-zeros K F (size u) (λ t. image_of K (M t u) (image_of K (M s t) z)) (cells v.live) each
+  passes-nothing : (s u : ℕ) (z : List ℕ) → degree_of v.live u ≢ suc (suc (degree_of v.live s))
+      → passes s u z ≡ zeros (size u)
+  passes-nothing s u z apart = sum_over-zeros K F (size u) (λ t. image_of K (M t u) (image_of K (M s t) z))
+      (cells v.live) each
     where
       each : (t : ℕ) → image_of K (M t u) (image_of K (M s t) z) ≡ zeros (size u)
       each t = elim (cases_eq (degree_of v.live t) (suc (degree_of v.live s))) [
@@ -222,11 +250,13 @@ module _ (K : Ops) (F : IsField K) (v : BlockComplex) (full : IsFull K v) where
             ap (λ A. image_of K A (image_of K (M s t) z)) (full.apart t u (λ up. apart (omega (arith, up, d))))
             ∙ zero_matrix-image_of K F (size u) (size t) (image_of K (M s t) z)
         | inr n ↦
-            ap (image_of K (M t u)) (ap (λ A. image_of K A z) (full.apart s t (λ up. n (omega (arith, up)))) ∙ zero_matrix-image_of K F (size t) (size s) z)
+            ap (image_of K (M t u)) (ap (λ A. image_of K A z) (full.apart s t (λ up. n (omega (arith, up))))
+            ∙ zero_matrix-image_of K F (size t) (size s) z)
             ∙ image_of-zeros K F (size t) (size u) (size t) (M t u) (M-shape t u)
       ]
 
-  module _ (closed : IsCochainComplex K C) (s u : ℕ) (hs : IsLive s) (hu : IsLive u) (z : List ℕ) (hz : Vector K (size s) z)
+  module _ (closed : IsCochainComplex K C) (s u : ℕ) (hs : IsLive s) (hu : IsLive u) (z : List ℕ)
+      (hz : Vector K (size s) z)
       (two : degree_of v.live u ≡ suc (suc (degree_of v.live s))) where
     abbrev k : ℕ
     k = degree_of v.live s
@@ -248,7 +278,8 @@ module _ (K : Ops) (F : IsField K) (v : BlockComplex) (full : IsFull K v) where
         ∙ ap (λ y. value_at (cells_of C top) y u)
         (closed k only (from_vector K (coordinates C k) only (alone-vector K F (cells_of C k) s (size s) z hz one))
         ∙ sym (joined-zeros (λ (c : Cell). zeros c.size) (cells_of C top) (λ i d l. refl)))
-        ∙ value-joined K F [] (next k only) (cells_of C top) u (λ i d l. zeros-vector K F (get_or (cells_of C top) i d).size)
+        ∙ value-joined K F [] (next k only) (cells_of C top) u
+        (λ i d l. zeros-vector K F (get_or (cells_of C top) i d).size)
         ∙ ap zeros same
 
     pub passes-two : passes s u z ≡ zeros (size u)
@@ -275,14 +306,18 @@ module _ (K : Ops) (F : IsField K) (v : BlockComplex) (full : IsFull K v) where
 
         elsewhere : (q : ℕ) → has q (s ∷ []) ≡ false → passes q u (value k only q) ≡ zeros (size u)
         elsewhere q h =
-            let apart : q ≢ s = λ e. let bad : true ≡ false = sym (ap (λ b. b || false) (eq-eqb s q (sym e))) ∙ h in cc in
+            let apart : q ≢ s = λ e. let bad : true ≡ false = sym (ap (λ b. b || false) (eq-eqb s q (sym e)))
+            ∙ h in cc in
             ap (passes q u) (alone-elsewhere K F (cells_of C k) s (size s) z hz one q apart)
-            ∙ sum_over-zeros K F (size u) (λ t. image_of K (M t u) (image_of K (M q t) (zeros (size_at (cells_of C k) q)))) (cells v.live)
-            (λ t. ap (image_of K (M t u)) (image_of-zeros K F (size_at (cells_of C k) q) (size t) (size q) (M q t) (M-shape q t))
+            ∙ sum_over-zeros K F (size u)
+            (λ t. image_of K (M t u) (image_of K (M q t) (zeros (size_at (cells_of C k) q)))) (cells v.live)
+            (λ t. ap (image_of K (M t u)) (image_of-zeros K F (size_at (cells_of C k) q) (size t) (size q) (M q t)
+            (M-shape q t))
             ∙ image_of-zeros K F (size t) (size u) (size t) (M t u) (M-shape t u))
 
   pub complex-differential : IsCochainComplex K C → IsDifferential K v
-  complex-differential closed s u l = zero-between K F size M (cells v.live) (λ s t hs ht. M-shape s t) s u l.from l.to each
+  complex-differential closed s u l = zero-between K F size M (cells v.live) (λ s t hs ht. M-shape s t) s u l.from l.to
+      each
     where
       each : (z : List ℕ) → Vector K (size s) z → passes s u z ≡ zeros (size u)
       each z hz = elim (cases_eq (degree_of v.live u) (suc (suc (degree_of v.live s)))) [
@@ -294,7 +329,8 @@ pub differential_is_cochain_complex : DifferentialIsCochainComplex
 differential_is_cochain_complex K v F is =
     let full = filled-full K F v is in
     let same = same-complex v (filled v) (same-filled v) in (
-      λ closed. subst (IsCochainComplex K) same (differential-complex K F (filled v) full (same-differential K v (filled v) (same-filled v) closed)),
+      λ closed. subst (IsCochainComplex K) same
+          (differential-complex K F (filled v) full (same-differential K v (filled v) (same-filled v) closed)),
       λ closed. same-differential K (filled v) v (same-sym v (filled v) (same-filled v))
           (complex-differential K F (filled v) full (subst (IsCochainComplex K) (sym same) closed)),
     )

@@ -4,8 +4,8 @@ use Rattle.dense_blocks.specs.Field.{Ops}
 use Rattle.dense_blocks.specs.Matrices.{IsMatrix, zero_matrix}
 use Rattle.rising_lists.specs.Rising.{IsRising, has}
 
--- the live cells, each with its degree and its size; and for cells s and t the matrix from s to t, of which only what it is at
--- two live cells counts
+-- the live cells, each with its degree and its size; and for cells s and t the matrix from s to t, of which only what
+-- it is at two live cells counts
 pub record BlockComplex : Type 0 where
   pub live : List (ℕ × ℕ × ℕ)
   pub matrix : ℕ → ℕ → List (List ℕ)
@@ -39,8 +39,9 @@ pub record AreConsecutive (live : List (ℕ × ℕ × ℕ)) (s t : ℕ) : Type 0
   pub to : has t (cells live) ≡ true
   pub degrees : degree_of live t ≡ degree_of live s + 1
 
--- v is a block complex over the field: the live cells rise, and each has a coordinate; from a live cell s to a live cell t goes a matrix
--- of scalars, with a row for each coordinate of t and a column for each of s; it is zero where the degrees are not consecutive
+-- v is a block complex over the field: the live cells rise, and each has a coordinate; from a live cell s to a live
+-- cell t goes a matrix of scalars, with a row for each coordinate of t and a column for each of s; it is zero where the
+-- degrees are not consecutive
 pub record IsBlockComplex (K : Ops) (v : BlockComplex) : Type 0 where
   pub rising : IsRising (cells v.live)
   pub sizes : All (λ l. 1 ≤ l.2) v.live

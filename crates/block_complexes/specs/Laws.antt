@@ -6,6 +6,8 @@ use Rattle.block_complexes.specs.BlockComplexes.{BlockComplex, IsBlockComplex}
 use Rattle.block_complexes.specs.Cochains.{complex_of}
 use Rattle.block_complexes.specs.Differentials.{IsDifferential}
 
--- the matrices of a block complex over a field are a differential exactly where the coboundary of the coboundary of each cochain is zero
+-- the matrices of a block complex over a field are a differential exactly where the coboundary of the coboundary of
+-- each cochain is zero
 abbrev pub DifferentialIsCochainComplex : Type 0
-DifferentialIsCochainComplex = (K : Ops) (v : BlockComplex) → IsField K → IsBlockComplex K v → IsDifferential K v ↔ IsCochainComplex K (complex_of v)
+DifferentialIsCochainComplex = (K : Ops) (v : BlockComplex) → IsField K → IsBlockComplex K v → IsDifferential K v
+    ↔ IsCochainComplex K (complex_of v)

@@ -12,9 +12,9 @@ use std::alloc::{AllocError as NoMemory, Global};
 
 /// The joined matrix of the blocks from the cells on the left to those below; zeros where none stands.
 ///
-/// Both lists rise and hold live cells with their sizes. The matrix has a column for each coordinate of the cells on the left,
-/// and a row for each of those below, in order. Takes, for each row, one step for each cell on the left and for each block that
-/// goes to the cell of the row, and one for each entry. Fails only where memory does.
+/// Both lists rise and hold live cells with their sizes. The matrix has a column for each coordinate of the cells on
+/// the left, and a row for each of those below, in order. Takes, for each row, one step for each cell on the left and
+/// for each block that goes to the cell of the row, and one for each entry. Fails only where memory does.
 pub fn grid(
     alloc: Global,
     b: &Blocks,
@@ -43,13 +43,13 @@ pub fn grid(
     })
 }
 
-/// The first pair of a cell on the left and a cell below at which the part of the matrix is neither the block that stands nor,
-/// where none does, zeros; none exactly where it is the joined matrix of the blocks.
+/// The first pair of a cell on the left and a cell below at which the part of the matrix is neither the block that
+/// stands nor, where none does, zeros; none exactly where it is the joined matrix of the blocks.
 ///
-/// Of two pairs that with the lesser cell on the left is first; of two with one cell on the left, that with the lesser below.
-/// Both lists rise and hold live cells with their sizes; the matrix has a column for each coordinate of the cells on the left,
-/// and a row for each of those below, in order; columns and rows beyond those are not looked at. Takes no more than one step for
-/// each block in the rows of the cells below, for each pair, and for each entry.
+/// Of two pairs that with the lesser cell on the left is first; of two with one cell on the left, that with the lesser
+/// below. Both lists rise and hold live cells with their sizes; the matrix has a column for each coordinate of the
+/// cells on the left, and a row for each of those below, in order; columns and rows beyond those are not looked at.
+/// Takes no more than one step for each block in the rows of the cells below, for each pair, and for each entry.
 pub fn first_other(
     b: &Blocks,
     left: &[(u32, u8)],

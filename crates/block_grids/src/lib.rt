@@ -1,4 +1,5 @@
-//! Joined matrices of the blocks of a block complex: to make one, and to find where one differs from the blocks that stand.
+//! Joined matrices of the blocks of a block complex: to make one, and to find where one differs from the blocks that
+//! stand.
 #![tactic(auto)]
 
 mod grids;

@@ -1,5 +1,6 @@
 -- A block is a candidate where its mark is open.
-use Rattle.std.proofs.Common.{◌≡◌, ℕ, Bool, true, false, not, ◌&&◌, refl, sym, ap, ap₂, ◌∙◌, inl, inr, Option, Some, None, eqb}
+use Rattle.std.proofs.Common.{◌≡◌, ℕ, Bool, true, false, not, ◌&&◌, refl, sym, ap, ap₂, ◌∙◌, inl, inr, Option, Some}
+use Rattle.std.proofs.Common.{None, eqb}
 use Rattle.std.specs.Option.{option_map, unwrap_or}
 use Rattle.std.proofs.lemmas.Bool.{eq-eqb, ne_eqb, cases_eq}
 use Rattle.dense_blocks.specs.declared.block.Block.{Block}
@@ -12,8 +13,10 @@ use Rattle.block_sparse.specs.Invariants.{IsSound, is_square}
 use Rattle.block_sparse.specs.Candidates.{is_candidate, is_unflagged}
 
 -- a mark is open where the block is a candidate
-pub open-candidate : (v : StoredBlocks) (s t : ℕ) → IsSound v.live v.rows v.columns → is_open (entry_of v.columns s t) ≡ is_candidate v s t
-open-candidate v s t sound = go (entry_of v.rows t s) (entry_of v.columns s t) (sound.marks s t) (λ b h. sound.blocks_fit s t b h)
+pub open-candidate : (v : StoredBlocks) (s t : ℕ) → IsSound v.live v.rows v.columns → is_open (entry_of v.columns s t)
+    ≡ is_candidate v s t
+open-candidate v s t sound = go (entry_of v.rows t s) (entry_of v.columns s t) (sound.marks s t)
+    (λ b h. sound.blocks_fit s t b h)
   where
     same-size : (m n : ℕ) → eqb m n ≡ eqb n m
     same-size m n = elim (cases_eq m n) [
@@ -27,7 +30,8 @@ open-candidate v s t sound = go (entry_of v.rows t s) (entry_of v.columns s t) (
     exchanged false true c e = e
     exchanged false false c e = refl
 
-    go : (o : Option Block) (m : Option Mark) → option_map (λ (m : Mark). m.square) m ≡ option_map is_square o → ((b : Block) → o ≡ Some b → FitsPair v.live s t b)
+    go : (o : Option Block) (m : Option Mark) → option_map (λ (m : Mark). m.square) m ≡ option_map is_square o
+        → ((b : Block) → o ≡ Some b → FitsPair v.live s t b)
         → is_open m ≡ (is_unflagged (stored_block o m) && eqb (size_of v.live s) (size_of v.live t))
     go None None e fit = refl
     go None (Some m) e fit = cc

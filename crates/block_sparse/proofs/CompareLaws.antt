@@ -1,5 +1,7 @@
 -- Blocks that stand, compared with parts of a matrix.
-use Rattle.std.proofs.Common.{◌≡◌, ◌≢◌, ℕ, zero, suc, ◌<◌, ◌≤◌, Bool, true, false, cond, ◌||◌, refl, sym, ap, ap₂, ◌∙◌, arith, inl, inr, List, [], ◌∷◌, length, map, get_or, take, drop, Option, Some, None, eqb, IsTrue}
+use Rattle.std.proofs.Common.{◌≡◌, ◌≢◌, ℕ, zero, suc, ◌<◌, ◌≤◌, Bool, true, false, cond, ◌||◌, refl, sym, ap, ap₂, ◌∙◌}
+use Rattle.std.proofs.Common.{arith, inl, inr, List, [], ◌∷◌, length, map, get_or, take, drop, Option, Some, None, eqb}
+use Rattle.std.proofs.Common.{IsTrue}
 use Rattle.std.specs.Option.{is_some}
 use Rattle.std.proofs.lemmas.Bool.{cases_Bool, cases_eq, cases_lt, eq-eqb, ne_eqb}
 use Rattle.std.proofs.lemmas.List.{take_all, length-map, get_or-map}
@@ -15,15 +17,18 @@ use Rattle.dense_blocks.proofs.Cutting.{Sized}
 use Rattle.block_sparse.proofs.GridLaws.{segment-at, map-same}
 use Rattle.block_sparse.proofs.Windows.{sized-drop, width-within}
 
-pub stands-matrix : (v : StoredBlocks) (s t : ℕ) (b : Block) → StandsAt v s t b → block_matrix (block_at v s t) ≡ Some (matrix_of b)
+pub stands-matrix : (v : StoredBlocks) (s t : ℕ) (b : Block) → StandsAt v s t b → block_matrix (block_at v s t)
+    ≡ Some (matrix_of b)
 stands-matrix v s t b h = go (block_at v s t) (zero_matrix (size_of v.live t) (size_of v.live s)) h.is_held h.is_matrix
   where
-    go : (o : Option StoredBlock) (Z : List (List ℕ)) → is_some o ≡ true → matrix_of b ≡ matrix_or o Z → block_matrix o ≡ Some (matrix_of b)
+    go : (o : Option StoredBlock) (Z : List (List ℕ)) → is_some o ≡ true → matrix_of b ≡ matrix_or o Z
+        → block_matrix o ≡ Some (matrix_of b)
     go None Z e f = cc
     go (Some x) Z e f = ap Some (sym f)
 
 -- a block that stands is a part, or is not
-pub compare-some : (M W : List (List ℕ)) (o : Option (List (List ℕ))) → is_zero M ≡ false → o ≡ Some M → (M ≡ W → o ≡ nonzero W) × (o ≡ nonzero W → M ≡ W)
+pub compare-some : (M W : List (List ℕ)) (o : Option (List (List ℕ))) → is_zero M ≡ false → o ≡ Some M
+    → (M ≡ W → o ≡ nonzero W) × (o ≡ nonzero W → M ≡ W)
 compare-some M W o nz is = (forth, back)
   where
     forth : M ≡ W → o ≡ nonzero W
@@ -36,16 +41,23 @@ compare-some M W o nz is = (forth, back)
     ]
 
 -- where none stands, the part is zero, or is not
-pub compare-none : (r : Bool) (W : List (List ℕ)) (o : Option (List (List ℕ))) → r ≡ is_zero W → o ≡ None → (IsTrue r → o ≡ nonzero W) × (o ≡ nonzero W → IsTrue r)
+pub compare-none : (r : Bool) (W : List (List ℕ)) (o : Option (List (List ℕ))) → r ≡ is_zero W → o ≡ None
+    → (IsTrue r → o ≡ nonzero W) × (o ≡ nonzero W → IsTrue r)
 compare-none true W o e is = (λ h. is ∙ sym (ap (λ b. cond b None (Some W)) (sym e)), λ h. refl)
-compare-none false W o e is = (λ h. let g : false ≡ true = h in cc, λ h. let f : None ≡ Some W = sym is ∙ h ∙ ap (λ b. cond b None (Some W)) (sym e) in cc)
+compare-none false W o e is = (
+  λ h. let g : false ≡ true = h in cc,
+  λ h. let f : None ≡ Some W = sym is ∙ h
+      ∙ ap (λ b. cond b None (Some W)) (sym e) in cc,
+)
 
 -- a cell that is not listed has no segment
-pub segment-absent : {T : Type 0} (ls : List (ℕ × ℕ)) (xs : List T) (c : ℕ) → has c (keys ls) ≡ false → segment ls xs c ≡ []
+pub segment-absent : {T : Type 0} (ls : List (ℕ × ℕ)) (xs : List T) (c : ℕ) → has c (keys ls) ≡ false
+    → segment ls xs c ≡ []
 segment-absent [] xs c h = refl
 segment-absent {T} (l ∷ ls) xs c h = go (eqb l.0 c) (λ m. segment-absent ls (drop l.1 xs) c m) h
   where
-    go : (b : Bool) → (has c (keys ls) ≡ false → segment ls (drop l.1 xs) c ≡ []) → (b || has c (keys ls)) ≡ false → cond b (take l.1 xs) (segment ls (drop l.1 xs) c) ≡ []
+    go : (b : Bool) → (has c (keys ls) ≡ false → segment ls (drop l.1 xs) c ≡ []) → (b || has c (keys ls)) ≡ false
+        → cond b (take l.1 xs) (segment ls (drop l.1 xs) c) ≡ []
     go true f m = cc
     go false f m = f m
 
@@ -54,21 +66,27 @@ zero-empty_rows [] f h = refl
 zero-empty_rows (r ∷ A) f h = rw (h r) (zero-empty_rows A f h)
 
 -- a cell that is not listed has a zero part
-pub columns-absent : (left : List (ℕ × ℕ)) (A : List (List ℕ)) (s : ℕ) → has s (keys left) ≡ false → nonzero (columns_of left A s) ≡ None
+pub columns-absent : (left : List (ℕ × ℕ)) (A : List (List ℕ)) (s : ℕ) → has s (keys left) ≡ false
+    → nonzero (columns_of left A s) ≡ None
 columns-absent left A s h =
-    ap (λ b. cond b None (Some (columns_of left A s))) (zero-empty_rows A (λ row. segment left row s) (λ r. segment-absent left r s h))
+    ap (λ b. cond b None (Some (columns_of left A s)))
+    (zero-empty_rows A (λ row. segment left row s) (λ r. segment-absent left r s h))
 
-pub rows-absent : (below : List (ℕ × ℕ)) (A : List (List ℕ)) (t : ℕ) → has t (keys below) ≡ false → nonzero (segment below A t) ≡ None
+pub rows-absent : (below : List (ℕ × ℕ)) (A : List (List ℕ)) (t : ℕ) → has t (keys below) ≡ false
+    → nonzero (segment below A t) ≡ None
 rows-absent below A t h = ap nonzero (segment-absent below A t h)
 
 -- the parts of whole rows and of whole columns
-pub columns-window : (left : List (ℕ × ℕ)) (A : List (List ℕ)) (m i : ℕ) → IsRising (keys left) → length A ≡ m → i < length left
+pub columns-window : (left : List (ℕ × ℕ)) (A : List (List ℕ)) (m i : ℕ) → IsRising (keys left) → length A ≡ m → i
+    < length left
     → window 0 m (width (take i left)) (get_or left i (0, 0)).1 A ≡ columns_of left A (get_or (keys left) i 0)
 columns-window left A m i r size l =
     ap (map (λ row. take (get_or left i (0, 0)).1 (drop (width (take i left)) row))) (take_all m A (omega arith))
-    ∙ sym (map-same (λ row. segment left row (get_or (keys left) i 0)) (λ row. take (get_or left i (0, 0)).1 (drop (width (take i left)) row)) (λ row. segment-at left r row i l) A)
+    ∙ sym (map-same (λ row. segment left row (get_or (keys left) i 0))
+    (λ row. take (get_or left i (0, 0)).1 (drop (width (take i left)) row)) (λ row. segment-at left r row i l) A)
 
-pub rows-window : (below : List (ℕ × ℕ)) (A : List (List ℕ)) (m n j : ℕ) → IsRising (keys below) → Sized m n A → width below ≤ m → j < length below
+pub rows-window : (below : List (ℕ × ℕ)) (A : List (List ℕ)) (m n j : ℕ) → IsRising (keys below) → Sized m n A
+    → width below ≤ m → j < length below
     → window (width (take j below)) (get_or below j (0, 0)).1 0 n A ≡ segment below A (get_or (keys below) j 0)
 rows-window below A m n j r sized w l =
     let h : ℕ = (get_or below j (0, 0)).1 in
@@ -96,7 +114,8 @@ module _ (ls : List (ℕ × ℕ)) (o : ℕ → Option StoredBlock) (target : ℕ
   some None e f = let g : false ≡ true = e in cc
   some (Some b) e f = cc
 
-  pub all-same : ((i : ℕ) → i < length ls → (get_or ls i (0, 0)).0 ≢ x → block_matrix (o (get_or ls i (0, 0)).0) ≡ target (get_or (keys ls) i 0))
+  pub all-same : ((i : ℕ) → i < length ls → (get_or ls i (0, 0)).0 ≢ x → block_matrix (o (get_or ls i (0, 0)).0)
+      ≡ target (get_or (keys ls) i 0))
       → ((q : ℕ) → has q there ≡ true → q ≢ x → has q (keys ls) ≡ true)
       → (q : ℕ) → q ≢ x → block_matrix (o q) ≡ target q
   all-same p listed q ne = elim (cases_Bool (has q (keys ls))) [
@@ -112,26 +131,33 @@ module _ (ls : List (ℕ × ℕ)) (o : ℕ → Option StoredBlock) (target : ℕ
       unlisted true f e = let g : true ≡ false = sym (f refl) ∙ e in cc
       unlisted false f e = refl
 
-  pub same-listed : ((q : ℕ) → q ≢ x → block_matrix (o q) ≡ target q) → (q : ℕ) → has q there ≡ true → q ≢ x → has q (keys ls) ≡ true
+  pub same-listed : ((q : ℕ) → q ≢ x → block_matrix (o q) ≡ target q) → (q : ℕ) → has q there ≡ true → q ≢ x
+      → has q (keys ls) ≡ true
   same-listed all q h ne = elim (cases_Bool (has q (keys ls))) [
     | inl e ↦ e
     | inr e ↦ absurd (some (o q) (sym (holds q) ∙ h) (all q ne ∙ absent q e))
   ]
 
 -- lists of rows with the same rows are the same
-pub rows-same : (M W : List (List ℕ)) → length M ≡ length W → ((k : ℕ) → k < length M → get_or M k [] ≡ get_or W k []) → M ≡ W
+pub rows-same : (M W : List (List ℕ)) → length M ≡ length W → ((k : ℕ) → k < length M → get_or M k [] ≡ get_or W k [])
+    → M ≡ W
 rows-same [] [] n h = refl
 rows-same [] (w ∷ W) n h = absurd (omega arith)
 rows-same (m ∷ M) [] n h = absurd (omega arith)
-rows-same (m ∷ M) (w ∷ W) n h = ap₂ ◌∷◌ (h 0 (omega arith)) (rows-same M W (omega arith) (λ k l. h (suc k) (omega arith)))
+rows-same (m ∷ M) (w ∷ W) n h =
+    ap₂ ◌∷◌ (h 0 (omega arith)) (rows-same M W (omega arith) (λ k l. h (suc k) (omega arith)))
 
-pub same-at : (ls : List (ℕ × ℕ)) (o : ℕ → Option StoredBlock) (target : ℕ → Option (List (List ℕ))) (x : ℕ) → ((q : ℕ) → q ≢ x → block_matrix (o q) ≡ target q)
-    → (i : ℕ) → i < length ls → (get_or ls i (0, 0)).0 ≢ x → block_matrix (o (get_or ls i (0, 0)).0) ≡ target (get_or (keys ls) i 0)
-same-at ls o target x all i l ne = all (get_or ls i (0, 0)).0 ne ∙ ap target (sym (get_or-map (λ s. s.0) ls i (0, 0) 0 l))
+pub same-at : (ls : List (ℕ × ℕ)) (o : ℕ → Option StoredBlock) (target : ℕ → Option (List (List ℕ))) (x : ℕ)
+    → ((q : ℕ) → q ≢ x → block_matrix (o q) ≡ target q)
+    → (i : ℕ) → i < length ls → (get_or ls i (0, 0)).0 ≢ x → block_matrix (o (get_or ls i (0, 0)).0)
+    ≡ target (get_or (keys ls) i 0)
+same-at ls o target x all i l ne = all (get_or ls i (0, 0)).0 ne
+    ∙ ap target (sym (get_or-map (λ s. s.0) ls i (0, 0) 0 l))
 
 -- whether the cell stands where it would
 pub listed-absent : (ls : List (ℕ × ℕ)) (c at : ℕ) → IsRising (keys ls) → ((i : ℕ) → i < at → get_or (keys ls) i 0 < c)
-    → ((i : ℕ) → at ≤ i → i < length ls → c ≤ get_or (keys ls) i 0) → (at < length ls → (get_or ls at (0, 0)).0 ≢ c) → has c (keys ls) ≡ false
+    → ((i : ℕ) → at ≤ i → i < length ls → c ≤ get_or (keys ls) i 0) → (at < length ls → (get_or ls at (0, 0)).0 ≢ c)
+    → has c (keys ls) ≡ false
 listed-absent ls c at r below from other = has-absent c (keys ls) (λ i l e.
     let m : i < length ls = omega (arith, l, length-map ls (λ s. s.0)) in
     elim (cases_lt i at) [
@@ -140,15 +166,18 @@ listed-absent ls c at r below from other = has-absent c (keys ls) (λ i l e.
         | inl v ↦ absurd (omega (arith, from at (omega arith) (omega arith), r at i v l, e))
         | inr v ↦
             let same : i ≡ at = omega arith in
-            absurd (other (omega arith) (sym (get_or-map (λ s. s.0) ls at (0, 0) 0 (omega arith)) ∙ ap (λ k. get_or (keys ls) k 0) (sym same) ∙ e))
+            absurd (other (omega arith) (sym (get_or-map (λ s. s.0) ls at (0, 0) 0 (omega arith))
+            ∙ ap (λ k. get_or (keys ls) k 0) (sym same) ∙ e))
       ]
     ])
 
 pub listed-at : (ls : List (ℕ × ℕ)) (c at : ℕ) → IsRising (keys ls) → ((i : ℕ) → i < at → get_or (keys ls) i 0 < c)
-    → ((i : ℕ) → at ≤ i → i < length ls → c ≤ get_or (keys ls) i 0) → at < length ls → eqb (get_or ls at (0, 0)).0 c ≡ has c (keys ls)
+    → ((i : ℕ) → at ≤ i → i < length ls → c ≤ get_or (keys ls) i 0) → at < length ls → eqb (get_or ls at (0, 0)).0 c
+    ≡ has c (keys ls)
 listed-at ls c at r below from l = elim (cases_eq (get_or ls at (0, 0)).0 c) [
   | inl e ↦
       eq-eqb (get_or ls at (0, 0)).0 c e
-      ∙ sym (ap (λ k. has k (keys ls)) (sym (get_or-map (λ s. s.0) ls at (0, 0) 0 l ∙ e)) ∙ has-at (keys ls) at (omega (arith, l, length-map ls (λ s. s.0))))
+      ∙ sym (ap (λ k. has k (keys ls)) (sym (get_or-map (λ s. s.0) ls at (0, 0) 0 l ∙ e))
+      ∙ has-at (keys ls) at (omega (arith, l, length-map ls (λ s. s.0))))
   | inr n ↦ ne_eqb (get_or ls at (0, 0)).0 c n ∙ sym (listed-absent ls c at r below from (λ m. n))
 ]

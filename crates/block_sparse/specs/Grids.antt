@@ -1,5 +1,6 @@
 -- Joined matrices of the blocks from some cells to others, and their parts.
-use Rattle.std.specs.Prelude.{◌≡◌, ◌≢◌, ◌==◌, ◌+◌, ◌<◌, ◌⊎◌, ℕ, true, false, List, [], ◌∷◌, Option, Some, None, if◌then◌else◌, map, take, drop, All, MatchOption}
+use Rattle.std.specs.Prelude.{◌≡◌, ◌≢◌, ◌==◌, ◌+◌, ◌<◌, ◌⊎◌, ℕ, true, false, List, [], ◌∷◌, Option, Some, None}
+use Rattle.std.specs.Prelude.{if◌then◌else◌, map, take, drop, All, MatchOption}
 use Rattle.dense_blocks.specs.Blocks.{IsBlock}
 use Rattle.dense_blocks.specs.declared.block.Block.{Block}
 use Rattle.rising_lists.specs.Rising.{has, keys}
@@ -16,7 +17,8 @@ abbrev pub segment : {A : Type 0} → List (ℕ × ℕ) → List A → ℕ → L
 segment [] xs c = []
 segment (l ∷ ls) xs c = if l.0 == c then take l.1 xs else segment ls (drop l.1 xs) c
 
--- the part from s to t of a matrix with a column for each coordinate of the left cells and a row for each of those below
+-- the part from s to t of a matrix with a column for each coordinate of the left cells and a row for each of those
+-- below
 abbrev pub part : List (ℕ × ℕ) → List (ℕ × ℕ) → List (List ℕ) → ℕ → ℕ → List (List ℕ)
 part left below A s t = map (λ row. segment left row s) (segment below A t)
 
@@ -37,16 +39,20 @@ nonzero A = if is_zero A then None else Some A
 abbrev pub as_block : List (List ℕ) → Option StoredBlock
 as_block A = if is_zero A then None else Some (record { matrix = A; flagged = false })
 
--- A is the joined matrix of the blocks from the cells on the left to those below: its part at each pair is the matrix from one to the other
+-- A is the joined matrix of the blocks from the cells on the left to those below: its part at each pair is the matrix
+-- from one to the other
 abbrev pub IsJoined : StoredBlocks → List (ℕ × ℕ) → List (ℕ × ℕ) → List (List ℕ) → Type 0
-IsJoined v left below A = (s t : ℕ) → has s (keys left) ≡ true → has t (keys below) ≡ true → part left below A s t ≡ matrix v s t
+IsJoined v left below A = (s t : ℕ) → has s (keys left) ≡ true → has t (keys below) ≡ true → part left below A s t
+    ≡ matrix v s t
 
--- (s, t) is the first pair of a cell on the left and a cell below, in order of s and then of t, at which A has another part than the joined matrix
+-- (s, t) is the first pair of a cell on the left and a cell below, in order of s and then of t, at which A has another
+-- part than the joined matrix
 pub record IsFirstOther (v : StoredBlocks) (left below : List (ℕ × ℕ)) (A : List (List ℕ)) (s t : ℕ) : Type 0 where
   pub on_left : has s (keys left) ≡ true
   pub is_below : has t (keys below) ≡ true
   pub other : part left below A s t ≢ matrix v s t
-  pub first : (p q : ℕ) → has p (keys left) ≡ true → has q (keys below) ≡ true → (p < s) ⊎ ((p ≡ s) × (q < t)) → part left below A p q ≡ matrix v p q
+  pub first : (p q : ℕ) → has p (keys left) ≡ true → has q (keys below) ≡ true → (p < s) ⊎ ((p ≡ s) × (q < t))
+      → part left below A p q ≡ matrix v p q
 
 -- the cells are live and have these sizes
 abbrev pub AreSized : List (ℕ × ℕ × ℕ) → List (ℕ × ℕ) → Type 0

@@ -10,9 +10,10 @@ use Rattle.block_sparse.specs.StoredBlocks.{FitsPair, is_zero, AreLive}
 abbrev pub is_square : Block → Bool
 is_square b = b.rows == b.cols
 
--- each live cell has a row and a column; the columns note of each block in a row whether it is square; a block in a row goes between
--- live cells of consecutive degree, has their sizes, and is not zero
-pub record IsSound (live : List (ℕ × ℕ × ℕ)) (rows : ByCell (ByCell Block)) (columns : ByCell (ByCell Mark)) : Type 0 where
+-- each live cell has a row and a column; the columns note of each block in a row whether it is square; a block in a row
+-- goes between live cells of consecutive degree, has their sizes, and is not zero
+pub record IsSound (live : List (ℕ × ℕ × ℕ)) (rows : ByCell (ByCell Block)) (columns : ByCell (ByCell Mark)) :
+    Type 0 where
   pub live_cells : AreLive live
   pub has_row : (c : ℕ) → has c (cells live) ≡ true → has c rows.cells ≡ true
   pub has_column : (c : ℕ) → has c (cells live) ≡ true → has c columns.cells ≡ true

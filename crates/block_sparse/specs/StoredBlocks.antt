@@ -8,8 +8,8 @@ use Rattle.rising_lists.specs.Rising.{ByCell, IsRising, entry_of}
 use Rattle.open_columns.specs.declared.mark.Mark.{Mark}
 use Rattle.block_complexes.specs.BlockComplexes.{BlockComplex, AreConsecutive, cells, size_of, live_size}
 
--- the live cells, each with its degree and its size; for each cell t the blocks that go to it, by the cells s that they come from;
--- and for each s what is noted of those that come from it, by t
+-- the live cells, each with its degree and its size; for each cell t the blocks that go to it, by the cells s that they
+-- come from; and for each s what is noted of those that come from it, by t
 pub record StoredBlocks : Type 0 where
   pub live : List (ℕ × ℕ × ℕ)
   pub rows : ByCell (ByCell Block)

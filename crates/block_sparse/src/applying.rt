@@ -39,9 +39,9 @@ impl Blocks {
 
     /// The coboundary of a cochain of degree `k`: its coordinates at the live cells of degree `k + 1`, in order.
     ///
-    /// At each cell it is the sum, over the nonzero blocks that go there, of the block times the value at the cell that it comes
-    /// from. The blocks have scalars of the field. Takes one step for each live cell, and for each nonzero block a look-up and its
-    /// product. Fails only where memory does.
+    /// At each cell it is the sum, over the nonzero blocks that go there, of the block times the value at the cell that
+    /// it comes from. The blocks have scalars of the field. Takes one step for each live cell, and for each nonzero
+    /// block a look-up and its product. Fails only where memory does.
     pub fn apply<F: Scalars>(
         &self,
         alloc: Global,

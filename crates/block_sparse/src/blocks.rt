@@ -17,8 +17,8 @@ use std::marker::Model;
 
 /// A block complex: live cells, each with a degree and a size, and a matrix for each ordered pair of them.
 ///
-/// The cells rise, their degrees are at most 15, their sizes at least 1 and together at most 4,096. Only nonzero blocks take
-/// room; they go from a cell to a cell one degree above, and each has a flag. Reading takes no memory.
+/// The cells rise, their degrees are at most 15, their sizes at least 1 and together at most 4,096. Only nonzero blocks
+/// take room; they go from a cell to a cell one degree above, and each has a flag. Reading takes no memory.
 #[derive(Debug, Drop)]
 pub struct Blocks {
     pub(crate) live: Vec<(u32, u8, u8)>,
@@ -144,18 +144,19 @@ impl Blocks {
         self.columns.cells(x)
     }
 
-    /// The first cell `t` at or after `from` to which a square block without a flag goes from the cell `x`; none exactly where there
-    /// is no such cell.
+    /// The first cell `t` at or after `from` to which a square block without a flag goes from the cell `x`; none
+    /// exactly where there is no such cell.
     ///
-    /// Takes one step where none goes from `x`, or the first of all at or after `from`; else one for each block that it passes.
+    /// Takes one step where none goes from `x`, or the first of all at or after `from`; else one for each block that it
+    /// passes.
     pub fn next_open(&self, x: u32, from: u32) -> Option<u32>
         ensures { FirstFrom (λ t. is_candidate self.now x t) from result }
     {
         self.columns.next_open(x, from)
     }
 
-    /// The first square block without a flag that comes from a cell after `x`: the cell that it comes from, and the first to which
-    /// one goes from there; none exactly where there is no such block.
+    /// The first square block without a flag that comes from a cell after `x`: the cell that it comes from, and the
+    /// first to which one goes from there; none exactly where there is no such block.
     ///
     /// Takes one search, and one step for each cell that it passes.
     pub fn first_open_after(&self, x: u32) -> Option<(u32, u32)>
@@ -184,13 +185,13 @@ impl Blocks {
         clear(&mut self.rows, &mut self.columns, c);
     }
 
-    /// Puts the parts of a joined matrix at each pair of a cell on the left and a cell below, without flags; a zero part leaves
-    /// no block there. All other blocks stay with their flags.
+    /// Puts the parts of a joined matrix at each pair of a cell on the left and a cell below, without flags; a zero
+    /// part leaves no block there. All other blocks stay with their flags.
     ///
-    /// Both lists rise and hold live cells with their sizes, the cells below one degree above those on the left; the matrix has
-    /// a column for each coordinate of the cells on the left, and a row for each of those below, in order. Takes one step for
-    /// each cell listed, for each block in the rows and columns of the cells listed, and for each entry. Fails only where memory
-    /// does, and then nothing has changed.
+    /// Both lists rise and hold live cells with their sizes, the cells below one degree above those on the left; the
+    /// matrix has a column for each coordinate of the cells on the left, and a row for each of those below, in order.
+    /// Takes one step for each cell listed, for each block in the rows and columns of the cells listed, and for each
+    /// entry. Fails only where memory does, and then nothing has changed.
     pub fn set_grid(
         &mut self,
         left: &[(u32, u8)],
@@ -243,8 +244,8 @@ impl Blocks {
 
     /// Puts the block from `s` to `t`, without a flag; a zero block leaves none there.
     ///
-    /// Both are live cells of consecutive degree whose sizes the block has. Fails only where memory does: then nothing has
-    /// changed, and the block comes back.
+    /// Both are live cells of consecutive degree whose sizes the block has. Fails only where memory does: then nothing
+    /// has changed, and the block comes back.
     pub fn set(&mut self, s: u32, t: u32, b: Block) -> Result<(), (Block, NoMemory)>
         requires { FitsPair self.old.live s t b }
         ensures live { OnOk result (self.new.live ≡ self.old.live) }
@@ -260,8 +261,8 @@ impl Blocks {
 
     /// Does what [`Blocks::set`] does for each member of the list in order, whose condition holds for each.
     ///
-    /// Takes all memory before the first change, as much as a copy does. Fails only where memory does: then nothing has changed,
-    /// and the list comes back.
+    /// Takes all memory before the first change, as much as a copy does. Fails only where memory does: then nothing has
+    /// changed, and the list comes back.
     pub fn set_all(
         &mut self,
         list: Vec<(u32, u32, Block)>,

@@ -10,11 +10,11 @@ use crate::parts::{is_same_at, is_zero_at};
 use dense_blocks::Block;
 
 impl Blocks {
-    /// Whether the nonzero blocks of row `y` other than at `x` are exactly the nonzero parts of the joined matrix at the listed
-    /// cells; at `x` nothing is compared.
+    /// Whether the nonzero blocks of row `y` other than at `x` are exactly the nonzero parts of the joined matrix at
+    /// the listed cells; at `x` nothing is compared.
     ///
-    /// The list rises and holds live cells with their sizes. The matrix has a column for each of their coordinates, in order, and
-    /// a row for each coordinate of `y`. Takes a look-up for each cell listed and for each cell of the row.
+    /// The list rises and holds live cells with their sizes. The matrix has a column for each of their coordinates, in
+    /// order, and a row for each coordinate of `y`. Takes a look-up for each cell listed and for each cell of the row.
     pub fn same_row(&self, x: u32, y: u32, left: &[(u32, u8)], joined: &Block) -> bool
         requires rising { IsRising (keys left.now) }
         requires sized { AreSized self.now.live left.now }
@@ -26,11 +26,12 @@ impl Blocks {
         self.is_row(x, y, left, joined) && are_listed(self.row(y), x, left)
     }
 
-    /// Whether the nonzero blocks of column `x` other than at `y` are exactly the nonzero parts of the joined matrix at the listed
-    /// cells; at `y` nothing is compared.
+    /// Whether the nonzero blocks of column `x` other than at `y` are exactly the nonzero parts of the joined matrix at
+    /// the listed cells; at `y` nothing is compared.
     ///
-    /// The list rises and holds live cells with their sizes. The matrix has a row for each of their coordinates, in order, and a
-    /// column for each coordinate of `x`. Takes a look-up for each cell listed and for each cell of the column.
+    /// The list rises and holds live cells with their sizes. The matrix has a row for each of their coordinates, in
+    /// order, and a column for each coordinate of `x`. Takes a look-up for each cell listed and for each cell of the
+    /// column.
     pub fn same_column(&self, x: u32, y: u32, below: &[(u32, u8)], joined: &Block) -> bool
         requires rising { IsRising (keys below.now) }
         requires sized { AreSized self.now.live below.now }

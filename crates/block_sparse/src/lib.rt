@@ -1,9 +1,9 @@
 //! Block complexes whose zero blocks take no room: for each cell the blocks that go to it.
 //!
-//! What is here: to make and copy one, to read its blocks by pair, row and column, to put blocks one by one, by list or as the parts
-//! of a joined matrix, to set flags, to take cells away, to compare a joined matrix with the blocks of a row or of a column, to find
-//! the square blocks without a flag, and to apply all blocks to a cochain. Besides, what joining and comparing such matrices needs:
-//! entries added at the end, and parts of a matrix compared.
+//! What is here: to make and copy one, to read its blocks by pair, row and column, to put blocks one by one, by list or
+//! as the parts of a joined matrix, to set flags, to take cells away, to compare a joined matrix with the blocks of a
+//! row or of a column, to find the square blocks without a flag, and to apply all blocks to a cochain. Besides, what
+//! joining and comparing such matrices needs: entries added at the end, and parts of a matrix compared.
 #![tactic(auto)]
 
 mod applying;

@@ -1,5 +1,6 @@
 -- What callers cite of a complex.
-use Rattle.std.proofs.Common.{◌≡◌, ℕ, suc, ◌+◌, ◌<◌, ◌≤◌, Bool, true, false, ◌&&◌, ⊎_elim, nat_eq, List, [], ◌∷◌, length, filter, cond, get_or, slice_index, All, refl, sym, ap, ◌∙◌, arith}
+use Rattle.std.proofs.Common.{◌≡◌, ℕ, suc, ◌+◌, ◌<◌, ◌≤◌, Bool, true, false, ◌&&◌, ⊎_elim, nat_eq, List, [], ◌∷◌}
+use Rattle.std.proofs.Common.{length, filter, cond, get_or, slice_index, All, refl, sym, ap, ◌∙◌, arith}
 use Rattle.std.specs.List.{list_any}
 use Rattle.std.proofs.lemmas.Bool.{true≢false, and_parts, or_cases, eqb-true, eq-eqb}
 use Rattle.std.proofs.lemmas.List.Elements.{All-head, All-tail, All-filter}
@@ -7,7 +8,8 @@ use Rattle.std.proofs.lemmas.List.Folds.{list_any_at}
 use Rattle.std.proofs.lemmas.List.FromFn.{length-range_with_len, get_or-range_with_len}
 use Rattle.std.proofs.lemmas.Map.Views.{any-filter_same}
 use Rattle.cell_complex.specs.declared.face.Face.{Face}
-use Rattle.cell_complex.specs.Complexes.{CellComplex, IsComplex, JoinsCells, joins, all_cells, is_face, cofaces_of, middles}
+use Rattle.cell_complex.specs.Complexes.{CellComplex, IsComplex, JoinsCells, joins, all_cells, is_face, cofaces_of}
+use Rattle.cell_complex.specs.Complexes.{middles}
 use Rattle.cell_complex.proofs.Numbers.{filter-filter, range-below}
 
 -- s and t are all_cells, and t is one dimension above s
@@ -16,7 +18,8 @@ pub record AreIncident (dims : List ℕ) (s t : ℕ) : Type 0 where
   pub t_is_cell : t < length dims
   pub one_up : slice_index dims t ≡ slice_index dims s + 1
 
-incident : (dims : List ℕ) (s t : ℕ) (fs : List Face) → All (JoinsCells dims) fs → list_any (joins s t) fs ≡ true → AreIncident dims s t
+incident : (dims : List ℕ) (s t : ℕ) (fs : List Face) → All (JoinsCells dims) fs → list_any (joins s t) fs ≡ true
+    → AreIncident dims s t
 incident dims s t [] fit h = absurd (true≢false (sym h))
 incident dims s t (f ∷ fs) fit h =
     ⊎_elim
@@ -39,7 +42,8 @@ incident_from_face c h s t there = incident c.dims s t c.faces h.fit there
 -- the all_cells are below their number
 pub cofaces_of-below : (c : CellComplex) (s : ℕ) → All (λ t. t < length c.dims) (cofaces_of c s)
 cofaces_of-below c s k d l =
-    let h = All-filter (λ t. is_face c s t) (λ t. t < 0 + length c.dims) (all_cells c) (range-below 0 (length c.dims)) k d l in
+    let h = All-filter (λ t. is_face c s t) (λ t. t < 0 + length c.dims) (all_cells c) (range-below 0 (length c.dims)) k
+    d l in
     omega (arith, h)
 
 -- the all_cells between s and u are those above s that are below u
@@ -47,9 +51,11 @@ pub middles_by_cofaces : (c : CellComplex) (s u : ℕ) → middles c s u ≡ fil
 middles_by_cofaces c s u = sym (filter-filter (λ t. is_face c s t) (λ t. is_face c t u) (all_cells c))
 
 -- u is in the list above t just where t is a face of u
-pub list_any-cofaces_of : (c : CellComplex) → IsComplex c → (t u : ℕ) → list_any (nat_eq u) (cofaces_of c t) ≡ is_face c t u
+pub list_any-cofaces_of : (c : CellComplex) → IsComplex c → (t u : ℕ) → list_any (nat_eq u) (cofaces_of c t)
+    ≡ is_face c t u
 list_any-cofaces_of c h t u =
-    any-filter_same (nat_eq u) (λ v. is_face c t v) (is_face c t u) (λ k e. ap (is_face c t) (sym (eqb-true u k e))) (all_cells c)
+    any-filter_same (nat_eq u) (λ v. is_face c t v) (is_face c t u) (λ k e. ap (is_face c t) (sym (eqb-true u k e)))
+    (all_cells c)
     ∙ by (is_face c t u) (λ e. there (incident_from_face c h t u e))
   where
     there : AreIncident c.dims t u → list_any (nat_eq u) (all_cells c) ≡ true
@@ -57,18 +63,25 @@ list_any-cofaces_of c h t u =
         list_any_at (nat_eq u) (all_cells c) u 0 (omega (arith, i.t_is_cell, length-range_with_len 0 (length c.dims)))
         (eq-eqb u (get_or (all_cells c) u 0) (omega (arith, get_or-range_with_len 0 (length c.dims) u 0 i.t_is_cell)))
 
-    by : (b : Bool) → (b ≡ true → list_any (nat_eq u) (all_cells c) ≡ true) → (b && list_any (nat_eq u) (all_cells c)) ≡ b
+    by : (b : Bool) → (b ≡ true → list_any (nat_eq u) (all_cells c) ≡ true) → (b && list_any (nat_eq u) (all_cells c))
+        ≡ b
     by true h = h refl
     by false h = refl
 
 pub length-middles : (c : CellComplex) → IsComplex c → (s u : ℕ) → length (middles c s u) ≤ 4096
 length-middles c h s u =
-    omega (arith, length-filter-le (λ t. is_face c s t && is_face c t u) (all_cells c), length-range_with_len 0 (length c.dims), h.small.few)
+    omega (
+      arith,
+      length-filter-le (λ t. is_face c s t && is_face c t u) (all_cells c),
+      length-range_with_len 0 (length c.dims),
+      h.small.few,
+    )
   where
     length-filter-le : (p : ℕ → Bool) (xs : List ℕ) → length (filter p xs) ≤ length xs
     length-filter-le p [] = omega arith
     length-filter-le p (x ∷ xs) = by (p x) (length-filter-le p xs)
       where
-        by : (b : Bool) → length (filter p xs) ≤ length xs → length (cond b (x ∷ filter p xs) (filter p xs)) ≤ suc (length xs)
+        by : (b : Bool) → length (filter p xs) ≤ length xs → length (cond b (x ∷ filter p xs) (filter p xs))
+            ≤ suc (length xs)
         by true l = omega arith
         by false l = omega arith

@@ -1,5 +1,6 @@
 -- How many faces a complex has at most.
-use Rattle.std.proofs.Common.{◌≡◌, ℕ, ◌+◌, ◌*◌, ◌<◌, ◌≤◌, false, nat_eq, eqb, List, [], ◌∷◌, length, map, get_or, All, AllPairs, sym, ap₂, ◌∙◌, arith}
+use Rattle.std.proofs.Common.{◌≡◌, ℕ, ◌+◌, ◌*◌, ◌<◌, ◌≤◌, false, nat_eq, eqb, List, [], ◌∷◌, length, map, get_or, All}
+use Rattle.std.proofs.Common.{AllPairs, sym, ap₂, ◌∙◌, arith}
 use Rattle.std.specs.List.{IsDistinct}
 use Rattle.std.proofs.lemmas.Bool.{eq-eqb, ne_eqb, and_from, true≢false}
 use Rattle.std.proofs.lemmas.List.{get_or-map, length-map}
@@ -20,7 +21,8 @@ codes-differ f g p q h = ne_eqb (code f) (code g) (λ e.
     let t : f.t ≡ g.t = omega arith in
     true≢false (sym (and_from (nat_eq f.s g.s) (nat_eq f.t g.t) (eq-eqb f.s g.s s) (eq-eqb f.t g.t t)) ∙ h))
 
-codes-distinct : (dims : List ℕ) (fs : List Face) → length dims ≤ 4096 → All (JoinsCells dims) fs → AllPairs AreApart fs → IsDistinct eqb (map code fs)
+codes-distinct : (dims : List ℕ) (fs : List Face) → length dims ≤ 4096 → All (JoinsCells dims) fs → AllPairs AreApart fs
+    → IsDistinct eqb (map code fs)
 codes-distinct dims [] few fit apart = IsDistinct-from_apart eqb [] (λ i j d l m. absurd (omega arith))
 codes-distinct dims (f ∷ fs) few fit apart = IsDistinct-from_apart eqb (map code (f ∷ fs)) (λ i j d l m.
     let all : List Face = f ∷ fs in
@@ -35,8 +37,10 @@ pub length-faces : (c : CellComplex) → IsComplex c → length c.faces ≤ 4096
 length-faces c h =
     let below : All (λ n. n < 4096 * 4096) (map code c.faces) =
     All-map (λ n. n < 4096 * 4096) code c.faces
-    (All-weaker (JoinsCells c.dims) (λ f. code f < 4096 * 4096) (λ f fit. let few : length c.dims ≤ 4096 = h.small.few in omega arith) c.faces h.fit) in
+    (All-weaker (JoinsCells c.dims) (λ f. code f < 4096 * 4096) (λ f fit. let few : length c.dims ≤ 4096 =
+    h.small.few in omega arith) c.faces h.fit) in
     let few : length (map code c.faces) ≤ 4096 * 4096 = length-le_from_distinct_below (map code c.faces) (4096 * 4096)
     (codes-distinct c.dims c.faces h.small.few h.fit h.apart)
-    (λ q there. All-contains (λ n. n < 4096 * 4096) (map code c.faces) q below (Contains-from_any exact_unsigned_eq q (map code c.faces) there)) in
+    (λ q there. All-contains (λ n. n < 4096 * 4096) (map code c.faces) q below
+    (Contains-from_any exact_unsigned_eq q (map code c.faces) there)) in
     omega (arith, length-map c.faces code)

@@ -1,9 +1,13 @@
 -- What no fault says of a face, and what one face more changes.
-use Rattle.std.proofs.Common.{◌≡◌, ◌≢◌, ℕ, ◌+◌, ◌<◌, ◌≤◌, Bool, true, false, cond, not, ◌||◌, nat_eq, nat_lt, List, [], ◌∷◌, ◌++◌, length, take, replicate, filter, set, get_or, slice_index, slice_get, None, Some, refl, sym, ap, ap₂, ◌∙◌, subst, arith}
+use Rattle.std.proofs.Common.{◌≡◌, ◌≢◌, ℕ, ◌+◌, ◌<◌, ◌≤◌, Bool, true, false, cond, not, ◌||◌, nat_eq, nat_lt, List, []}
+use Rattle.std.proofs.Common.{◌∷◌, ◌++◌, length, take, replicate, filter, set, get_or, slice_index, slice_get, None}
+use Rattle.std.proofs.Common.{Some, refl, sym, ap, ap₂, ◌∙◌, subst, arith}
 use Rattle.std.specs.List.{list_any}
 use Rattle.std.specs.List.Sorted.{IsStrictlyIncreasing}
-use Rattle.std.proofs.lemmas.Bool.{eq-eqb, ne_eqb, eqb-true, lt-ltb, ltb-true, and_from, and_left, and_right, and_parts, false_from_ne_true, true≢false}
-use Rattle.std.proofs.lemmas.List.{get_or-take, length-take, get_or_default, take_more, take_all, get_or-replicate, length-replicate}
+use Rattle.std.proofs.lemmas.Bool.{eq-eqb, ne_eqb, eqb-true, lt-ltb, ltb-true, and_from, and_left, and_right, and_parts}
+use Rattle.std.proofs.lemmas.Bool.{false_from_ne_true, true≢false}
+use Rattle.std.proofs.lemmas.List.{get_or-take, length-take, get_or_default, take_more, take_all, get_or-replicate}
+use Rattle.std.proofs.lemmas.List.{length-replicate}
 use Rattle.std.proofs.lemmas.List.Elements.{All-push, All-get_or}
 use Rattle.std.proofs.lemmas.List.Folds.{list_any-append, list_any_none, list_any_at}
 use Rattle.std.proofs.lemmas.List.FromFn.{length-map-range_with_len, get_or-map-range_with_len, fill_by_all}
@@ -14,7 +18,8 @@ use Rattle.std.proofs.lemmas.Option.{get_or_from_slice_get, slice_get_within}
 use Rattle.cell_complex.specs.declared.face.Face.{Face}
 use Rattle.cell_complex.specs.declared.fault.FaceFault.{FaceFault}
 use Rattle.cell_complex.specs.declared.fault.FaceFault.TheVariants.{UnknownCell, WrongDims, TwiceFace}
-use Rattle.cell_complex.specs.Complexes.{CellComplex, AreCells, IsComplex, AreApart, JoinsCells, joins, all_cells, is_face, faces_of, cofaces_of, with_face}
+use Rattle.cell_complex.specs.Complexes.{CellComplex, AreCells, IsComplex, AreApart, JoinsCells, joins, all_cells}
+use Rattle.cell_complex.specs.Complexes.{is_face, faces_of, cofaces_of, with_face}
 use Rattle.cell_complex.specs.Verdicts.{face_fault, with_first_faces, AllAccepted, IsFirstFault}
 use Rattle.cell_complex.specs.Fields.{AreNeighbourLists}
 use Rattle.cell_complex.specs.Neighbours.{with_cell}
@@ -37,7 +42,8 @@ first_of false b c d u v w x h = absurd (cc)
 
 pub new_from_none : (c : CellComplex) (f : Face) → face_fault c f ≡ None → IsNew c f
 new_from_none c f h =
-    let e = first_of (nat_lt f.s (length c.dims)) (nat_lt f.t (length c.dims)) (nat_eq (slice_index c.dims f.t) (slice_index c.dims f.s + 1)) (is_face c f.s f.t)
+    let e = first_of (nat_lt f.s (length c.dims)) (nat_lt f.t (length c.dims))
+    (nat_eq (slice_index c.dims f.t) (slice_index c.dims f.s + 1)) (is_face c f.s f.t)
     (UnknownCell f.s) (UnknownCell f.t) (WrongDims f.s f.t) (TwiceFace f.s f.t) h in
     record {
       fits = record {
@@ -54,11 +60,15 @@ new_shown all now f is h = new_from_none all f (ap (λ c. face_fault c f) is ∙
 
 pub none_from_new : (c : CellComplex) (f : Face) → IsNew c f → face_fault c f ≡ None
 none_from_new c f h =
-    tests (nat_lt f.s (length c.dims)) (nat_lt f.t (length c.dims)) (nat_eq (slice_index c.dims f.t) (slice_index c.dims f.s + 1)) (is_face c f.s f.t)
-    (lt-ltb f.s (length c.dims) h.fits.s_is_cell) (lt-ltb f.t (length c.dims) h.fits.t_is_cell) (eq-eqb (slice_index c.dims f.t) (slice_index c.dims f.s + 1) h.fits.one_up) h.absent
+    tests (nat_lt f.s (length c.dims)) (nat_lt f.t (length c.dims))
+    (nat_eq (slice_index c.dims f.t) (slice_index c.dims f.s + 1)) (is_face c f.s f.t)
+    (lt-ltb f.s (length c.dims) h.fits.s_is_cell) (lt-ltb f.t (length c.dims) h.fits.t_is_cell)
+    (eq-eqb (slice_index c.dims f.t) (slice_index c.dims f.s + 1) h.fits.one_up) h.absent
   where
     tests : (a b e d : Bool) → a ≡ true → b ≡ true → e ≡ true → d ≡ false
-        → cond (not a) (Some (UnknownCell f.s)) (cond (not b) (Some (UnknownCell f.t)) (cond (not e) (Some (WrongDims f.s f.t)) (cond d (Some (TwiceFace f.s f.t)) None))) ≡ None
+        → cond (not a) (Some (UnknownCell f.s))
+        (cond (not b) (Some (UnknownCell f.t))
+        (cond (not e) (Some (WrongDims f.s f.t)) (cond d (Some (TwiceFace f.s f.t)) None))) ≡ None
     tests true true true false p q r s = refl
     tests true true true true p q r s = absurd (cc)
     tests true true false d p q r s = absurd (cc)
@@ -68,10 +78,12 @@ none_from_new c f h =
 apart-sym : (f g : Face) → AreApart f g → AreApart g f
 apart-sym f g h = false_from_ne_true (joins g.s g.t f) (λ e.
     let p = and_parts (nat_eq g.s f.s) (nat_eq g.t f.t) e in
-    true≢false (sym (and_from (nat_eq f.s g.s) (nat_eq f.t g.t) (eq-eqb f.s g.s (sym (eqb-true g.s f.s p.0))) (eq-eqb f.t g.t (sym (eqb-true g.t f.t p.1)))) ∙ h))
+    true≢false (sym (and_from (nat_eq f.s g.s) (nat_eq f.t g.t) (eq-eqb f.s g.s (sym (eqb-true g.s f.s p.0)))
+    (eq-eqb f.t g.t (sym (eqb-true g.t f.t p.1)))) ∙ h))
 
 -- no face of the list joins the pair of f, just where each is apart from f
-each_apart : (fs : List Face) (f : Face) → list_any (joins f.s f.t) fs ≡ false → (k : ℕ) (d : Face) → k < length fs → AreApart (get_or fs k d) f
+each_apart : (fs : List Face) (f : Face) → list_any (joins f.s f.t) fs ≡ false → (k : ℕ) (d : Face) → k < length fs
+    → AreApart (get_or fs k d) f
 each_apart fs f h k d l = apart-sym f (get_or fs k d) (false_from_ne_true (joins f.s f.t (get_or fs k d)) (λ e.
     true≢false (sym (list_any_at (joins f.s f.t) fs k d l e) ∙ h)))
 
@@ -84,7 +96,8 @@ complex-with_face c f h new = record {
 }
 
 -- each face is new to those before it
-pub new-with_first : (c : CellComplex) → IsComplex c → (k : ℕ) (f : Face) → slice_get c.faces k ≡ Some f → IsNew (with_first_faces c.dims c.faces k) f
+pub new-with_first : (c : CellComplex) → IsComplex c → (k : ℕ) (f : Face) → slice_get c.faces k ≡ Some f
+    → IsNew (with_first_faces c.dims c.faces k) f
 new-with_first c h k f at =
     let within : k < length c.faces = slice_get_within c.faces k f at in
     let is : get_or c.faces k f ≡ f = get_or_from_slice_get c.faces k f f at in
@@ -94,7 +107,8 @@ new-with_first c h k f at =
           let before : j < k = omega (arith, length-take k c.faces) in
           apart-sym (get_or (take k c.faces) j d) f
           (subst (λ g. AreApart g f) (sym (get_or-take k c.faces j d before))
-          (subst (λ g. AreApart (get_or c.faces j d) g) (get_or_default_is c.faces k d f within is) (h.apart j k d before within))));
+          (subst (λ g. AreApart (get_or c.faces j d) g) (get_or_default_is c.faces k d f within is)
+          (h.apart j k d before within))));
     }
   where
     get_or_default_is : (fs : List Face) (k : ℕ) (d f : Face) → k < length fs → get_or fs k f ≡ f → get_or fs k d ≡ f
@@ -105,8 +119,10 @@ pub accepted-complex : (c : CellComplex) → IsComplex c → AllAccepted c.dims 
 accepted-complex c h k f at = none_from_new (with_first_faces c.dims c.faces k) f (new-with_first c h k f at)
 
 -- the fault of the face after the first n, where these make a complex
-pub first_fault : (dims : List ℕ) (faces : List Face) (n : ℕ) (f : Face) (fault : FaceFault) → IsComplex (with_first_faces dims faces n)
-    → slice_get faces n ≡ Some f → face_fault (with_first_faces dims faces n) f ≡ Some fault → IsFirstFault dims faces n fault
+pub first_fault : (dims : List ℕ) (faces : List Face) (n : ℕ) (f : Face) (fault : FaceFault)
+    → IsComplex (with_first_faces dims faces n)
+    → slice_get faces n ≡ Some f → face_fault (with_first_faces dims faces n) f ≡ Some fault
+    → IsFirstFault dims faces n fault
 first_fault dims faces n f fault h at is = record {
   fails = λ g here. let same : g ≡ f = cc in ap (face_fault (with_first_faces dims faces n)) same ∙ is;
   within = slice_get_within faces n f at;
@@ -122,16 +138,19 @@ complex-empty dims h = record {
 }
 
 -- one face more of a list of faces
-pub with_first-more : (dims : List ℕ) (faces : List Face) (i : ℕ) (f : Face) → slice_get faces i ≡ Some f → with_face (with_first_faces dims faces i) f ≡ with_first_faces dims faces (i + 1)
+pub with_first-more : (dims : List ℕ) (faces : List Face) (i : ℕ) (f : Face) → slice_get faces i ≡ Some f
+    → with_face (with_first_faces dims faces i) f ≡ with_first_faces dims faces (i + 1)
 with_first-more dims faces i f at =
     ap (λ fs. record { dims = dims; faces = fs })
-    (ap (λ g. take i faces ++ g ∷ []) (sym (get_or_from_slice_get faces i f f at)) ∙ sym (take_more faces i f (slice_get_within faces i f at)))
+    (ap (λ g. take i faces ++ g ∷ []) (sym (get_or_from_slice_get faces i f f at))
+    ∙ sym (take_more faces i f (slice_get_within faces i f at)))
 
 pub with_first-all : (c : CellComplex) (n : ℕ) → length c.faces ≤ n → with_first_faces c.dims c.faces n ≡ c
 with_first-all c n l = ap (λ fs. record { dims = c.dims; faces = fs }) (take_all n c.faces l)
 
 -- whether s is a face of t, with a face more
-is_face-with_face : (c : CellComplex) (f : Face) (s t : ℕ) → joins s t f ≡ false → is_face (with_face c f) s t ≡ is_face c s t
+is_face-with_face : (c : CellComplex) (f : Face) (s t : ℕ) → joins s t f ≡ false → is_face (with_face c f) s t
+    ≡ is_face c s t
 is_face-with_face c f s t h =
     list_any-append (joins s t) c.faces (f ∷ []) ∙ ap (λ b. is_face c s t || (b || false)) h ∙ or-false (is_face c s t)
   where
@@ -142,7 +161,8 @@ is_face-with_face c f s t h =
 is_face-here : (c : CellComplex) (f : Face) → is_face (with_face c f) f.s f.t ≡ true
 is_face-here c f =
     list_any-append (joins f.s f.t) c.faces (f ∷ [])
-    ∙ ap (λ b. is_face c f.s f.t || (b || false)) (and_from (nat_eq f.s f.s) (nat_eq f.t f.t) (eq-eqb f.s f.s refl) (eq-eqb f.t f.t refl))
+    ∙ ap (λ b. is_face c f.s f.t || (b || false)) (and_from (nat_eq f.s f.s) (nat_eq f.t f.t) (eq-eqb f.s f.s refl)
+    (eq-eqb f.t f.t refl))
     ∙ or-true (is_face c f.s f.t)
   where
     or-true : (b : Bool) → (b || true) ≡ true
@@ -181,22 +201,28 @@ module _ (c : CellComplex) (below above : List (List ℕ)) (h : AreNeighbourList
   above-size = ap length h.above_is ∙ length-map-range_with_len (cofaces_of c) 0 (length c.dims)
 
   pub below-at : (t : ℕ) → t < length c.dims → get_or below t [] ≡ faces_of c t
-  below-at t l = ap (λ xs. get_or xs t []) h.below_is ∙ get_or-map-range_with_len (faces_of c) 0 (length c.dims) t t [] l (omega arith)
+  below-at t l = ap (λ xs. get_or xs t []) h.below_is ∙ get_or-map-range_with_len (faces_of c) 0 (length c.dims) t t []
+      l (omega arith)
 
   pub above-at : (s : ℕ) → s < length c.dims → get_or above s [] ≡ cofaces_of c s
-  above-at s l = ap (λ xs. get_or xs s []) h.above_is ∙ get_or-map-range_with_len (cofaces_of c) 0 (length c.dims) s s [] l (omega arith)
+  above-at s l = ap (λ xs. get_or xs s []) h.above_is ∙ get_or-map-range_with_len (cofaces_of c) 0 (length c.dims) s s
+      [] l (omega arith)
 
   -- the lists with a new face
   pub kept-with_face : (f : Face) → IsNew c f
-      → AreNeighbourLists (with_face c f) (set below f.t (with_cell f.s (get_or below f.t []))) (set above f.s (with_cell f.t (get_or above f.s [])))
+      → AreNeighbourLists (with_face c f) (set below f.t (with_cell f.s (get_or below f.t [])))
+      (set above f.s (with_cell f.t (get_or above f.s [])))
   kept-with_face f new = record {
     complex = complex-with_face c f h.complex new;
     below_is =
         ap₂ (λ xs ys. set xs f.t (with_cell f.s ys)) h.below_is (below-at f.t new.fits.t_is_cell)
-        ∙ set-map-range (faces_of c) (faces_of (with_face c f)) (length c.dims) f.t (with_cell f.s (faces_of c f.t)) new.fits.t_is_cell (sym (faces_of-here c f new)) (faces_of-other c f new);
+        ∙ set-map-range (faces_of c) (faces_of (with_face c f)) (length c.dims) f.t (with_cell f.s (faces_of c f.t))
+        new.fits.t_is_cell (sym (faces_of-here c f new)) (faces_of-other c f new);
     above_is =
         ap₂ (λ xs ys. set xs f.s (with_cell f.t ys)) h.above_is (above-at f.s new.fits.s_is_cell)
-        ∙ set-map-range (cofaces_of c) (cofaces_of (with_face c f)) (length c.dims) f.s (with_cell f.t (cofaces_of c f.s)) new.fits.s_is_cell (sym (cofaces_of-here c f new)) (cofaces_of-other c f new);
+        ∙ set-map-range (cofaces_of c) (cofaces_of (with_face c f)) (length c.dims) f.s
+        (with_cell f.t (cofaces_of c f.s)) new.fits.s_is_cell (sym (cofaces_of-here c f new))
+        (cofaces_of-other c f new);
   }
 
 pub faces_of-rise : (c : CellComplex) (t : ℕ) → IsStrictlyIncreasing (faces_of c t)
@@ -205,11 +231,14 @@ faces_of-rise c t = IsStrictlyIncreasing-filter (λ s. is_face c s t) (all_cells
 pub cofaces_of-rise : (c : CellComplex) (s : ℕ) → IsStrictlyIncreasing (cofaces_of c s)
 cofaces_of-rise c s = IsStrictlyIncreasing-filter (λ t. is_face c s t) (all_cells c) (rising-range 0 (length c.dims))
 
-pub kept-empty : (dims : List ℕ) → AreCells dims → AreNeighbourLists record { dims = dims; faces = [] } (replicate (length dims) []) (replicate (length dims) [])
+pub kept-empty : (dims : List ℕ) → AreCells dims → AreNeighbourLists record { dims = dims; faces = [] }
+    (replicate (length dims) []) (replicate (length dims) [])
 kept-empty dims h = record {
   complex = complex-empty dims h;
-  below_is = fill_by_all (faces_of all) (replicate n []) n [] (length-replicate n []) (λ k l. get_or-replicate n k [] [] l ∙ sym (filter-none (all_cells all)));
-  above_is = fill_by_all (cofaces_of all) (replicate n []) n [] (length-replicate n []) (λ k l. get_or-replicate n k [] [] l ∙ sym (filter-none (all_cells all)));
+  below_is = fill_by_all (faces_of all) (replicate n []) n [] (length-replicate n [])
+      (λ k l. get_or-replicate n k [] [] l ∙ sym (filter-none (all_cells all)));
+  above_is = fill_by_all (cofaces_of all) (replicate n []) n [] (length-replicate n [])
+      (λ k l. get_or-replicate n k [] [] l ∙ sym (filter-none (all_cells all)));
 }
   where
     all : CellComplex

@@ -1,12 +1,15 @@
 -- Rising lists of numbers, filtered and joined.
-use Rattle.std.proofs.Common.{◌≡◌, ◌≢◌, ℕ, zero, suc, ◌+◌, ◌<◌, ◌≤◌, Bool, true, false, cond, ◌&&◌, ◌||◌, ⊎_elim, nat_eq, nat_lt, List, [], ◌∷◌, length, map, get_or, set, filter, All, insert, refl, sym, ap, ap₂, ◌∙◌, subst, arith}
+use Rattle.std.proofs.Common.{◌≡◌, ◌≢◌, ℕ, zero, suc, ◌+◌, ◌<◌, ◌≤◌, Bool, true, false, cond, ◌&&◌, ◌||◌, ⊎_elim}
+use Rattle.std.proofs.Common.{nat_eq, nat_lt, List, [], ◌∷◌, length, map, get_or, set, filter, All, insert, refl, sym}
+use Rattle.std.proofs.Common.{ap, ap₂, ◌∙◌, subst, arith}
 use Rattle.std.specs.List.{AllWithin, list_any, range_with_len}
 use Rattle.std.specs.List.Sorted.{IsStrictlyIncreasing, IsNonDecreasing}
 use Rattle.std.proofs.lemmas.Bool.{eq-eqb, ne_eqb, eqb-true, lt-ltb, or_from, or_left, cases_eq, cond-true, cond-false}
 use Rattle.std.proofs.lemmas.Cmp.{nat_eq_equiv}
 use Rattle.std.proofs.lemmas.List.{get_or-set_same, get_or-set_other, length-set}
 use Rattle.std.proofs.lemmas.List.Elements.{All-head, All-tail, All-cons, All-weaker, All-filter, Contains-get_or}
-use Rattle.std.proofs.lemmas.List.FromFn.{length-range_with_len, get_or-range_with_len, length-map-range_with_len, get_or-map-range_with_len, fill_by_all}
+use Rattle.std.proofs.lemmas.List.FromFn.{length-range_with_len, get_or-range_with_len, length-map-range_with_len}
+use Rattle.std.proofs.lemmas.List.FromFn.{get_or-map-range_with_len, fill_by_all}
 use Rattle.std.proofs.lemmas.List.Kept.{AllPairs-from_increasing}
 use Rattle.std.proofs.lemmas.Map.Keys.{sorted_from_strictly_increasing, non_decreasing_from_sorted}
 use Rattle.std.proofs.lemmas.Map.Views.{list_any-from_Contains, any-filter_same}
@@ -17,14 +20,17 @@ use Rattle.cell_complex.specs.Neighbours.{with_cell}
 filter_agree_on : {X : Type 0} (p q : X → Bool) (xs : List X) → All (λ x. p x ≡ q x) xs → filter p xs ≡ filter q xs
 filter_agree_on p q [] h = refl
 filter_agree_on p q (x ∷ xs) h =
-    ap₂ (λ b t. cond b (x ∷ t) t) (All-head (λ x. p x ≡ q x) x xs h) (filter_agree_on p q xs (All-tail (λ x. p x ≡ q x) x xs h))
+    ap₂ (λ b t. cond b (x ∷ t) t) (All-head (λ x. p x ≡ q x) x xs h)
+    (filter_agree_on p q xs (All-tail (λ x. p x ≡ q x) x xs h))
 
 -- a filter of a filter keeps what passes both tests
 pub filter-filter : {X : Type 0} (p q : X → Bool) (xs : List X) → filter q (filter p xs) ≡ filter (λ x. p x && q x) xs
 filter-filter p q [] = refl
 filter-filter {X} p q (x ∷ xs) = by (p x) (filter-filter p q xs)
   where
-    by : (b : Bool) → filter q (filter p xs) ≡ filter (λ x. p x && q x) xs → filter q (cond b (x ∷ filter p xs) (filter p xs)) ≡ cond (b && q x) (x ∷ filter (λ x. p x && q x) xs) (filter (λ x. p x && q x) xs)
+    by : (b : Bool) → filter q (filter p xs) ≡ filter (λ x. p x && q x) xs
+        → filter q (cond b (x ∷ filter p xs) (filter p xs)) ≡ cond (b && q x) (x ∷ filter (λ x. p x && q x) xs)
+        (filter (λ x. p x && q x) xs)
     by true h = ap (λ t. cond (q x) (x ∷ t) t) h
     by false h = h
 
@@ -81,21 +87,26 @@ pub with_cell-filter : (p q : ℕ → Bool) (x : ℕ) → p x ≡ false → q x 
     → (a n : ℕ) → a ≤ x → x < a + n → with_cell x (filter p (range_with_len a n)) ≡ filter q (range_with_len a n)
 with_cell-filter p q x without within others a zero low high = absurd (omega arith)
 with_cell-filter p q x without within others a (suc n) low high = ⊎_elim here
-    (λ (ne : a ≢ x). later ne (with_cell-filter p q x without within others (a + 1) n (omega arith) (omega arith))) (cases_eq a x)
+    (λ (ne : a ≢ x). later ne (with_cell-filter p q x without within others (a + 1) n (omega arith) (omega arith)))
+    (cases_eq a x)
   where
     rest : List ℕ
     rest = range_with_len (a + 1) n
 
     here : a ≡ x → with_cell x (filter p (range_with_len a (suc n))) ≡ filter q (range_with_len a (suc n))
     here e =
-        let above : All (λ y. x < y) rest = All-weaker (λ y. a + 1 ≤ y) (λ y. x < y) (λ y l. omega arith) rest (range-from (a + 1) n) in
-        let same : filter p rest ≡ filter q rest = filter_agree_on p q rest (All-weaker (λ y. x < y) (λ y. p y ≡ q y) (λ y l. sym (others y (omega arith))) rest above) in
+        let above : All (λ y. x < y) rest = All-weaker (λ y. a + 1 ≤ y) (λ y. x < y) (λ y l. omega arith) rest
+        (range-from (a + 1) n) in
+        let same : filter p rest ≡ filter q rest =
+        filter_agree_on p q rest (All-weaker (λ y. x < y) (λ y. p y ≡ q y) (λ y l. sym (others y (omega arith)))
+        rest above) in
         ap (with_cell x) (cond-false (p a) (a ∷ filter p rest) (filter p rest) (ap p e ∙ without))
         ∙ with_cell-front x (filter p rest) (All-filter p (λ y. x < y) rest above)
         ∙ ap₂ (λ y t. y ∷ t) (sym e) same
         ∙ sym (cond-true (q a) (a ∷ filter q rest) (filter q rest) (ap q e ∙ within))
 
-    later : a ≢ x → with_cell x (filter p rest) ≡ filter q rest → with_cell x (filter p (range_with_len a (suc n))) ≡ filter q (range_with_len a (suc n))
+    later : a ≢ x → with_cell x (filter p rest) ≡ filter q rest → with_cell x (filter p (range_with_len a (suc n)))
+        ≡ filter q (range_with_len a (suc n))
     later ne h = by (p a) (q a) (others a ne) h
       where
         by : (b c : Bool) → c ≡ b → with_cell x (filter p rest) ≡ filter q rest
@@ -112,15 +123,18 @@ set-map-range f g n i x within here others =
     let xs = map f (range_with_len 0 n) in
     let size : length xs ≡ n = length-map-range_with_len f 0 n in
     fill_by_all g (set xs i x) n x (length-set xs i x ∙ size) (λ k l. ⊎_elim
-    (λ (e : k ≡ i). ap (λ j. get_or (set xs i x) j x) e ∙ get_or-set_same xs i x x (omega arith) ∙ sym here ∙ ap g (sym e))
-    (λ (ne : k ≢ i). get_or-set_other xs i k x x ne ∙ get_or-map-range_with_len f 0 n k k x l (omega arith) ∙ sym (others k ne))
+    (λ (e : k ≡ i). ap (λ j. get_or (set xs i x) j x) e ∙ get_or-set_same xs i x x (omega arith) ∙ sym here
+    ∙ ap g (sym e))
+    (λ (ne : k ≢ i). get_or-set_other xs i k x x ne ∙ get_or-map-range_with_len f 0 n k k x l (omega arith)
+    ∙ sym (others k ne))
     (cases_eq k i))
 
 -- what a rising list has in common with another, from the first elements on
 list_any-above : (x : ℕ) (xs : List ℕ) → All (λ y. x < y) xs → list_any (λ y. nat_eq x y) xs ≡ false
 list_any-above x [] h = refl
 list_any-above x (y ∷ ys) h =
-    or_from (nat_eq x y) (list_any (λ y. nat_eq x y) ys) (ne_eqb x y (λ e. let l : x < y = All-head (λ y. x < y) y ys h in omega arith))
+    or_from (nat_eq x y) (list_any (λ y. nat_eq x y) ys)
+    (ne_eqb x y (λ e. let l : x < y = All-head (λ y. x < y) y ys h in omega arith))
     (list_any-above x ys (All-tail (λ y. x < y) y ys h))
 
 common-nil : (xs : List ℕ) → common xs [] ≡ []
@@ -132,7 +146,8 @@ common-none xs [] e = common-nil xs
 common-none xs (y ∷ ys) e = absurd (omega arith)
 
 common-left : (x : ℕ) (xs ys : List ℕ) → All (λ y. x < y) ys → common (x ∷ xs) ys ≡ common xs ys
-common-left x xs ys h = cond-false (list_any (λ y. nat_eq x y) ys) (x ∷ common xs ys) (common xs ys) (list_any-above x ys h)
+common-left x xs ys h = cond-false (list_any (λ y. nat_eq x y) ys) (x ∷ common xs ys) (common xs ys)
+    (list_any-above x ys h)
 
 common-right : (xs : List ℕ) (y : ℕ) (ys : List ℕ) → All (λ x. y < x) xs → common xs (y ∷ ys) ≡ common xs ys
 common-right xs y ys h =
@@ -142,7 +157,8 @@ common-right xs y ys h =
 
 common-both : (x : ℕ) (xs ys : List ℕ) → All (λ y. x < y) xs → common (x ∷ xs) (x ∷ ys) ≡ x ∷ common xs ys
 common-both x xs ys h =
-    cond-true (nat_eq x x || list_any (λ y. nat_eq x y) ys) (x ∷ common xs (x ∷ ys)) (common xs (x ∷ ys)) (or_left (nat_eq x x) (list_any (λ y. nat_eq x y) ys) (eq-eqb x x refl))
+    cond-true (nat_eq x x || list_any (λ y. nat_eq x y) ys) (x ∷ common xs (x ∷ ys)) (common xs (x ∷ ys))
+    (or_left (nat_eq x x) (list_any (λ y. nat_eq x y) ys) (eq-eqb x x refl))
     ∙ ap (λ t. x ∷ t) (common-right xs x ys h)
 
 -- what two filters of one list have in common passes both tests
@@ -150,7 +166,10 @@ pub common-filter : (p q : ℕ → Bool) (xs : List ℕ) → common (filter p xs
 common-filter p q xs =
     let inside : ℕ → Bool = λ x. list_any (λ y. nat_eq x y) (filter q xs) in
     filter-filter p inside xs
-    ∙ filter_agree_on (λ x. p x && inside x) (λ x. p x && q x) xs (λ k d l. ap (λ b. p (get_or xs k d) && b) (passes (get_or xs k d) (list_any-from_Contains nat_eq_equiv (get_or xs k d) xs (Contains-get_or xs k d l))))
+    ∙ filter_agree_on (λ x. p x && inside x) (λ x. p x && q x) xs
+    (λ k d l. ap (λ b. p (get_or xs k d) && b)
+    (passes (get_or xs k d) (list_any-from_Contains nat_eq_equiv (get_or xs k d) xs
+    (Contains-get_or xs k d l))))
   where
     passes : (x : ℕ) → list_any (nat_eq x) xs ≡ true → list_any (λ y. nat_eq x y) (filter q xs) ≡ q x
     passes x there =
@@ -165,13 +184,15 @@ common-filter p q xs =
 module _ (xs ys : List ℕ) (x y : ℕ) (xs' ys' : List ℕ) (left : xs ≡ x ∷ xs') (right : ys ≡ y ∷ ys') where
   pub common-less : IsStrictlyIncreasing ys → x < y → common xs ys ≡ common xs' ys
   common-less rise l =
-      let above : All (λ z. x < z) ys' = All-weaker (λ z. y < z) (λ z. x < z) (λ z m. omega arith) ys' (rising-above y ys' (subst IsStrictlyIncreasing right rise)) in
+      let above : All (λ z. x < z) ys' = All-weaker (λ z. y < z) (λ z. x < z) (λ z m. omega arith) ys'
+      (rising-above y ys' (subst IsStrictlyIncreasing right rise)) in
       ap (λ s. common s ys) left
       ∙ common-left x xs' ys (subst (λ s. All (λ z. x < z) s) (sym right) (All-cons (λ z. x < z) y ys' l above))
 
   pub common-greater : IsStrictlyIncreasing xs → y < x → common xs ys ≡ common xs ys'
   common-greater rise l =
-      let above : All (λ z. y < z) xs' = All-weaker (λ z. x < z) (λ z. y < z) (λ z m. omega arith) xs' (rising-above x xs' (subst IsStrictlyIncreasing left rise)) in
+      let above : All (λ z. y < z) xs' = All-weaker (λ z. x < z) (λ z. y < z) (λ z m. omega arith) xs'
+      (rising-above x xs' (subst IsStrictlyIncreasing left rise)) in
       ap (common xs) right
       ∙ common-right xs y ys' (subst (λ s. All (λ z. y < z) s) (sym left) (All-cons (λ z. y < z) x xs' l above))
 
@@ -180,5 +201,6 @@ module _ (xs ys : List ℕ) (x y : ℕ) (xs' ys' : List ℕ) (left : xs ≡ x �
       ap₂ common left (right ∙ ap (λ z. z ∷ ys') (sym e))
       ∙ common-both x xs' ys' (rising-above x xs' (subst IsStrictlyIncreasing left rise))
 
-pub rising-rest : (xs : List ℕ) (x : ℕ) (xs' : List ℕ) → xs ≡ x ∷ xs' → IsStrictlyIncreasing xs → IsStrictlyIncreasing xs'
+pub rising-rest : (xs : List ℕ) (x : ℕ) (xs' : List ℕ) → xs ≡ x ∷ xs' → IsStrictlyIncreasing xs
+    → IsStrictlyIncreasing xs'
 rising-rest xs x xs' e rise = rising-tail x xs' (subst IsStrictlyIncreasing e rise)

@@ -1,5 +1,6 @@
 -- Complexes: a list of the dimensions of the all_cells, and a list of faces.
-use Rattle.std.specs.Prelude.{◌≡◌, ℕ, ◌+◌, ◌<◌, ◌≤◌, Bool, List, [], ◌∷◌, ◌++◌, Option, length, slice_index, filter, find, position, All, AllPairs, false, ◌==◌, ◌&&◌}
+use Rattle.std.specs.Prelude.{◌≡◌, ℕ, ◌+◌, ◌<◌, ◌≤◌, Bool, List, [], ◌∷◌, ◌++◌, Option, length, slice_index, filter}
+use Rattle.std.specs.Prelude.{find, position, All, AllPairs, false, ◌==◌, ◌&&◌}
 use Rattle.std.specs.List.{list_any, range_with_len}
 use Rattle.std.specs.Option.{option_map}
 use Rattle.cell_complex.specs.declared.face.Face.{Face}

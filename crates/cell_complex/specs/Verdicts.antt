@@ -1,5 +1,6 @@
 -- Why a face does not fit a complex, and which face of a list is the first that does not.
-use Rattle.std.specs.Prelude.{◌≡◌, ℕ, ◌+◌, ◌<◌, List, Option, None, Some, length, take, nat_lt, slice_index, slice_get, not, if◌then◌else◌, ◌==◌}
+use Rattle.std.specs.Prelude.{◌≡◌, ℕ, ◌+◌, ◌<◌, List, Option, None, Some, length, take, nat_lt, slice_index, slice_get}
+use Rattle.std.specs.Prelude.{not, if◌then◌else◌, ◌==◌}
 use Rattle.cell_complex.specs.declared.face.Face.{Face}
 use Rattle.cell_complex.specs.declared.fault.FaceFault.{FaceFault}
 use Rattle.cell_complex.specs.declared.fault.FaceFault.TheVariants.{UnknownCell, WrongDims, TwiceFace}
@@ -20,7 +21,8 @@ with_first_faces dims faces n = record { dims = dims; faces = take n faces }
 
 -- no face has a fault, after those before it
 abbrev pub AllAccepted : List ℕ → List Face → Type 0
-AllAccepted dims faces = (k : ℕ) (f : Face) → slice_get faces k ≡ Some f → face_fault (with_first_faces dims faces k) f ≡ None
+AllAccepted dims faces = (k : ℕ) (f : Face) → slice_get faces k ≡ Some f → face_fault (with_first_faces dims faces k) f
+    ≡ None
 
 -- the face at the place has this fault, and no face before it has one
 pub record IsFirstFault (dims : List ℕ) (faces : List Face) (at : ℕ) (fault : FaceFault) : Type 0 where

@@ -16,8 +16,8 @@ use std::marker::Model;
 /// Cells with dimensions, and faces with signs, in order of insertion.
 ///
 /// At most 4,096 cells, each of a dimension of at most 15. The pairs of cells that faces join are distinct, and the
-/// second cell of each is one dimension above the first. The sign and the place of a face are one look-up in a hash table
-/// away; the lists of faces and of cofaces are kept, and rising. Reading takes no memory.
+/// second cell of each is one dimension above the first. The sign and the place of a face are one look-up in a hash
+/// table away; the lists of faces and of cofaces are kept, and rising. Reading takes no memory.
 #[derive(Debug, Drop)]
 pub struct Complex {
     dims: Vec<u8>,

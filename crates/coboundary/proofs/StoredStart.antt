@@ -25,8 +25,11 @@ flag-put : (o : Option (List (List ℕ))) → flag_of (option_and_then as_block 
 flag-put None = refl
 flag-put (Some A) = flag-as_block A
 
-pub stored-start : (K : Ops) (F : IsField K) (c : CellComplex) (stalks : List ℕ) (blocks : List Block) (b : StoredBlocks) → IsComplex c → IsSheaf K c stalks blocks
-    → b.live ≡ with_stalks (numbered_cells 0 c.dims stalks) → ((s t : ℕ) → block_at b s t ≡ option_and_then as_block (face_matrix K c blocks s t)) → IsStart K c stalks blocks b
+pub stored-start : (K : Ops) (F : IsField K) (c : CellComplex) (stalks : List ℕ) (blocks : List Block)
+    (b : StoredBlocks) → IsComplex c → IsSheaf K c stalks blocks
+    → b.live ≡ with_stalks (numbered_cells 0 c.dims stalks)
+    → ((s t : ℕ) → block_at b s t ≡ option_and_then as_block (face_matrix K c blocks s t))
+    → IsStart K c stalks blocks b
 stored-start K F c stalks blocks b complex sheaf is_live put =
     let live : List (ℕ × ℕ × ℕ) = with_stalks (numbered_cells 0 c.dims stalks) in
     let is = start_is_block_complex K c stalks blocks F complex sheaf in

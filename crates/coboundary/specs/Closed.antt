@@ -9,7 +9,8 @@ use Rattle.sheaf_data.specs.Betti.{cochain_complex_of}
 
 -- for every sheaf over a field: the coboundary of the coboundary of a cochain is the zero cochain two degrees up
 abbrev pub CoboundaryOfCoboundaryIsZero : Type 0
-CoboundaryOfCoboundaryIsZero = (K : Ops) (c : CellComplex) (stalks : List ℕ) (blocks : List Block) → IsField K → IsComplex c
+CoboundaryOfCoboundaryIsZero = (K : Ops) (c : CellComplex) (stalks : List ℕ) (blocks : List Block) → IsField K
+    → IsComplex c
     → IsSheaf K c stalks blocks → IsCochainComplex K (cochain_complex_of K c stalks blocks)
 
 -- for every sheaf over a field: a coboundary is a cocycle

@@ -15,7 +15,8 @@ prefix_complex c n = record c { faces = take n c.faces }
 
 -- what stands where the blocks of the first n faces have been put
 abbrev pub AreFirstPut : Ops → CellComplex → List Block → ℕ → (ℕ → ℕ → Option StoredBlock) → Type 0
-AreFirstPut K c blocks n block_at = (s t : ℕ) → block_at s t ≡ option_and_then as_block (face_matrix K (prefix_complex c n) (take n blocks) s t)
+AreFirstPut K c blocks n block_at = (s t : ℕ) → block_at s t ≡ option_and_then as_block
+    (face_matrix K (prefix_complex c n) (take n blocks) s t)
 
 -- the start complex of a sheaf is stored, and no block has its flag set
 pub record IsStart (K : Ops) (c : CellComplex) (stalks : List ℕ) (blocks : List Block) (b : StoredBlocks) : Type 0 where

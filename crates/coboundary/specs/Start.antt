@@ -17,15 +17,16 @@ with_stalks cs = map (λ (c : Cell). (c.cell, c.degree, c.size)) (filter (λ (c 
 
 -- the sign times the restriction from s to t, where s is a face of t
 abbrev pub face_matrix : Ops → CellComplex → List Block → ℕ → ℕ → Option (List (List ℕ))
-face_matrix K c blocks s t = option_and_then (λ g. option_map (λ b. signed_matrix K g (matrix_of b)) (restriction c blocks s t)) (sign c s t)
+face_matrix K c blocks s t =
+    option_and_then (λ g. option_map (λ b. signed_matrix K g (matrix_of b)) (restriction c blocks s t)) (sign c s t)
 
 -- the matrix, or zeros of m rows and n columns where there is none
 abbrev pub or_zeros : Option (List (List ℕ)) → ℕ → ℕ → List (List ℕ)
 or_zeros None m n = zero_matrix m n
 or_zeros (Some A) m n = A
 
--- the start complex of a sheaf: its live cells are the cells with a stalk; the matrix from s to t is the sign times the restriction where
--- s is a face of t, and every other matrix is zero
+-- the start complex of a sheaf: its live cells are the cells with a stalk; the matrix from s to t is the sign times the
+-- restriction where s is a face of t, and every other matrix is zero
 abbrev pub start_complex : Ops → CellComplex → List ℕ → List Block → BlockComplex
 start_complex K c stalks blocks =
     let live = with_stalks (numbered_cells 0 c.dims stalks) in

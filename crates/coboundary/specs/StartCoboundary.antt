@@ -13,7 +13,8 @@ use Rattle.coboundary.specs.Start.{start_complex}
 
 -- for every sheaf over a field, its complex C and its start complex v
 abbrev pub ForEachStart : (Ops → CellularComplex → BlockComplex → Type 0) → Type 0
-ForEachStart P = (K : Ops) (c : CellComplex) (stalks : List ℕ) (blocks : List Block) → IsField K → IsComplex c → IsSheaf K c stalks blocks
+ForEachStart P = (K : Ops) (c : CellComplex) (stalks : List ℕ) (blocks : List Block) → IsField K → IsComplex c
+    → IsSheaf K c stalks blocks
     → P K (cochain_complex_of K c stalks blocks) (start_complex K c stalks blocks)
 
 -- two complexes have cochains of as many coordinates, and the same coboundary, in each degree
@@ -34,4 +35,5 @@ StartIsCochainComplex = ForEachStart (λ K C v. IsCochainComplex K (complex_of v
 
 -- the bases of cohomology are those of the sheaf
 abbrev pub StartHasTheCohomology : Type 0
-StartHasTheCohomology = ForEachStart (λ K C v. (k : ℕ) (B : List (List ℕ)) → IsBasis K (complex_of v) k B ↔ IsBasis K C k B)
+StartHasTheCohomology = ForEachStart (λ K C v. (k : ℕ) (B : List (List ℕ)) → IsBasis K (complex_of v) k B
+    ↔ IsBasis K C k B)

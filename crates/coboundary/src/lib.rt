@@ -1,5 +1,5 @@
-//! The coboundary of a cellular sheaf: taken twice it is zero, as in Curry, "Sheaves, Cosheaves and Applications" (2014); and
-//! the block complex that a sheaf is.
+//! The coboundary of a cellular sheaf: taken twice it is zero, as in Curry, "Sheaves, Cosheaves and Applications"
+//! (2014); and the block complex that a sheaf is.
 #![tactic(auto)]
 
 mod laws;

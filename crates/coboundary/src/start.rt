@@ -14,9 +14,9 @@ use dense_blocks::{Block, Scalars, minus};
 use sheaf_data::{Draft, Sheaf};
 use std::alloc::{AllocError as NoMemory, Global};
 
-/// The start complex of a sheaf: its live cells are the cells with a stalk that is not zero, each with its dimension as its
-/// degree and the size of its stalk; from `s` to `t` goes the sign times the restriction, where `s` is a face of `t`, and zero
-/// otherwise; no block has its flag set.
+/// The start complex of a sheaf: its live cells are the cells with a stalk that is not zero, each with its dimension as
+/// its degree and the size of its stalk; from `s` to `t` goes the sign times the restriction, where `s` is a face of
+/// `t`, and zero otherwise; no block has its flag set.
 ///
 /// Fails only where memory does.
 pub fn full<F: Scalars>(alloc: Global, sheaf: &Sheaf<F>) -> Result<Blocks, NoMemory>

@@ -23,7 +23,8 @@ const CIRCLE: [Triple; 6] = [
 
 const CIRCLE_DIMS: [u8; 6] = [0, 0, 0, 1, 1, 1];
 
-// The boundary of a tetrahedron: its edges 4 to 9 join the vertices 0 to 3, its triangles 10 to 13 have three edges each.
+// The boundary of a tetrahedron: its edges 4 to 9 join the vertices 0 to 3, its triangles 10 to 13 have three edges
+// each.
 const TETRAHEDRON: [Triple; 24] = [
     (0, 4, Minus),
     (1, 4, Plus),

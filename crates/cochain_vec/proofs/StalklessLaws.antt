@@ -1,5 +1,6 @@
 -- A cell without coordinates changes neither cochains nor coboundaries, and so no basis.
-use Rattle.std.proofs.Common.{◌≡◌, ℕ, zero, suc, ◌+◌, ◌<◌, List, [], ◌∷◌, ◌++◌, get_or, take, drop, filter, cond, eqb, Bool, true, false, All, refl, sym, ap, ap₂, ◌∙◌, subst, arith}
+use Rattle.std.proofs.Common.{◌≡◌, ℕ, zero, suc, ◌+◌, ◌<◌, List, [], ◌∷◌, ◌++◌, get_or, take, drop, filter, cond, eqb}
+use Rattle.std.proofs.Common.{Bool, true, false, All, refl, sym, ap, ap₂, ◌∙◌, subst, arith}
 use Rattle.std.specs.Prelude.{◌==◌, not}
 use Rattle.std.specs.List.{flat_map}
 use Rattle.std.proofs.lemmas.List.Elements.{All-tail, All-head, All-filter}
@@ -9,7 +10,8 @@ use Rattle.dense_blocks.specs.Vectors.{IsVector, zeros, plus, combination}
 use Rattle.dense_blocks.specs.Matrices.{image_of}
 use Rattle.dense_blocks.proofs.VectorLaws.{plus-nil}
 use Rattle.cochain_vec.specs.declared.cell.Cell.{Cell}
-use Rattle.cochain_vec.specs.Complexes.{Arrow, CellularComplex, cells_of, total_size, coordinates, value_at, sum_into, coboundary}
+use Rattle.cochain_vec.specs.Complexes.{Arrow, CellularComplex, cells_of, total_size, coordinates, value_at, sum_into}
+use Rattle.cochain_vec.specs.Complexes.{coboundary}
 use Rattle.cochain_vec.specs.Cohomology.{IsCocycle, IsCoboundary, IsRepresented, IsBasis}
 use Rattle.cochain_vec.specs.Stalkless.{HasRisingCells, without_empty, EmptyCellsChangeNothing}
 
@@ -55,33 +57,43 @@ total_size-filter (c ∷ cs) = go (has_coordinates c) refl (total_size-filter cs
 -- a cell with a smaller number than all of these is none of them
 value-absent : (cs : List Cell) (z : List ℕ) (s : ℕ) → All (λ (d : Cell). s < d.cell) cs → value_at cs z s ≡ []
 value-absent [] z s h = refl
-value-absent (c ∷ cs) z s h = go (eqb c.cell s) refl (value-absent cs (drop c.size z) s (All-tail (λ (d : Cell). s < d.cell) c cs h))
+value-absent (c ∷ cs) z s h =
+    go (eqb c.cell s) refl (value-absent cs (drop c.size z) s (All-tail (λ (d : Cell). s < d.cell) c cs h))
   where
-    go : (b : Bool) → eqb c.cell s ≡ b → value_at cs (drop c.size z) s ≡ [] → cond b (take c.size z) (value_at cs (drop c.size z) s) ≡ []
-    go true e r = let same : c.cell ≡ s = eqb-true c.cell s e in let less = All-head (λ (d : Cell). s < d.cell) c cs h in absurd (omega arith)
+    go : (b : Bool) → eqb c.cell s ≡ b → value_at cs (drop c.size z) s ≡ []
+        → cond b (take c.size z) (value_at cs (drop c.size z) s) ≡ []
+    go true e r = let same : c.cell ≡ s = eqb-true c.cell s e in let less = All-head (λ (d : Cell). s < d.cell) c cs h
+        in absurd (omega arith)
     go false e r = r
 
-value-filter : (cs : List Cell) (z : List ℕ) (s : ℕ) → HasRisingCells cs → value_at (filter has_coordinates cs) z s ≡ value_at cs z s
+value-filter : (cs : List Cell) (z : List ℕ) (s : ℕ) → HasRisingCells cs → value_at (filter has_coordinates cs) z s
+    ≡ value_at cs z s
 value-filter [] z s h = refl
 value-filter (c ∷ cs) z s h = go (has_coordinates c) (eqb c.cell s) refl refl (λ y. value-filter cs y s h.1)
   where
-    go : (b e : Bool) → has_coordinates c ≡ b → eqb c.cell s ≡ e → ((y : List ℕ) → value_at (filter has_coordinates cs) y s ≡ value_at cs y s)
-        → value_at (cond b (c ∷ filter has_coordinates cs) (filter has_coordinates cs)) z s ≡ cond e (take c.size z) (value_at cs (drop c.size z) s)
+    go : (b e : Bool) → has_coordinates c ≡ b → eqb c.cell s ≡ e
+        → ((y : List ℕ) → value_at (filter has_coordinates cs) y s ≡ value_at cs y s)
+        → value_at (cond b (c ∷ filter has_coordinates cs) (filter has_coordinates cs)) z s ≡ cond e (take c.size z)
+        (value_at cs (drop c.size z) s)
     go true true f g r = rw g refl
     go true false f g r = rw g (r (drop c.size z))
     go false true f g r =
         let none : c.size ≡ 0 = not_zero c.size f in
         let same : c.cell ≡ s = eqb-true c.cell s g in
-        r z ∙ value-absent cs z s (subst (λ k. All (λ (d : Cell). k < d.cell) cs) same h.0) ∙ ap (λ n. take n z) (sym none)
-    go false false f g r = let none : c.size ≡ 0 = not_zero c.size f in r z ∙ ap (λ n. value_at cs (drop n z) s) (sym none)
+        r z ∙ value-absent cs z s (subst (λ k. All (λ (d : Cell). k < d.cell) cs) same h.0)
+        ∙ ap (λ n. take n z) (sym none)
+    go false false f g r = let none : c.size ≡ 0 = not_zero c.size f in r z
+        ∙ ap (λ n. value_at cs (drop n z) s) (sym none)
 
 module _ (K : Ops) where
   -- the same values give the same sums
-  pub sum_into-same : (arrows : List Arrow) (x y : ℕ → List ℕ) (n t : ℕ) → ((s : ℕ) → x s ≡ y s) → sum_into K arrows x n t ≡ sum_into K arrows y n t
+  pub sum_into-same : (arrows : List Arrow) (x y : ℕ → List ℕ) (n t : ℕ) → ((s : ℕ) → x s ≡ y s)
+      → sum_into K arrows x n t ≡ sum_into K arrows y n t
   sum_into-same [] x y n t e = refl
   sum_into-same (a ∷ others) x y n t e =
       let rest = sum_into-same others x y n t e in
-      elim (eqb a.to t) as (λ b. cond b (plus K (image_of K a.matrix (x a.from)) (sum_into K others x n t)) (sum_into K others x n t)
+      elim (eqb a.to t) as (λ b. cond b (plus K (image_of K a.matrix (x a.from)) (sum_into K others x n t))
+      (sum_into K others x n t)
       ≡ cond b (plus K (image_of K a.matrix (y a.from)) (sum_into K others y n t)) (sum_into K others y n t)) [
         | true ↦ ap₂ (plus K) (ap (image_of K a.matrix) (e a.from)) rest
         | false ↦ rest
@@ -92,12 +104,14 @@ module _ (K : Ops) where
   sum_into-none [] x t = refl
   sum_into-none (a ∷ others) x t =
       let rest = sum_into-none others x t in
-      elim (eqb a.to t) as (λ b. cond b (plus K (image_of K a.matrix (x a.from)) (sum_into K others x 0 t)) (sum_into K others x 0 t) ≡ []) [
+      elim (eqb a.to t) as (λ b. cond b (plus K (image_of K a.matrix (x a.from)) (sum_into K others x 0 t))
+      (sum_into K others x 0 t) ≡ []) [
         | true ↦ ap (plus K (image_of K a.matrix (x a.from))) rest ∙ plus-nil K (image_of K a.matrix (x a.from))
         | false ↦ rest
       ]
 
-  joined-filter : (x y : Cell → List ℕ) (ts : List Cell) → ((t : Cell) → x t ≡ y t) → ((t : Cell) → t.size ≡ 0 → y t ≡ [])
+  joined-filter : (x y : Cell → List ℕ) (ts : List Cell) → ((t : Cell) → x t ≡ y t)
+      → ((t : Cell) → t.size ≡ 0 → y t ≡ [])
       → flat_map x (filter has_coordinates ts) ≡ flat_map y ts
   joined-filter x y [] e none = refl
   joined-filter x y (t ∷ ts) e none = go (has_coordinates t) refl (joined-filter x y ts e none)
@@ -120,9 +134,11 @@ module _ (K : Ops) where
         ap (λ cs. flat_map (here cs) (cells_of (without_empty F) (suc k))) (cells-without_empty k)
         ∙ ap (flat_map (here (filter has_coordinates (cells_of F k)))) (cells-without_empty (suc k))
         ∙ joined-filter (here (filter has_coordinates (cells_of F k))) (here (cells_of F k)) (cells_of F (suc k))
-        (λ t. sum_into-same F.arrows (value_at (filter has_coordinates (cells_of F k)) z) (value_at (cells_of F k) z) t.size t.cell
+        (λ t. sum_into-same F.arrows (value_at (filter has_coordinates (cells_of F k)) z) (value_at (cells_of F k) z)
+        t.size t.cell
         (λ s. value-filter (cells_of F k) z s (rising-filter (λ c. c.degree == k) F.cells rising)))
-        (λ t e. ap (λ n. sum_into K F.arrows (value_at (cells_of F k) z) n t.cell) e ∙ sum_into-none F.arrows (value_at (cells_of F k) z) t.cell)
+        (λ t e. ap (λ n. sum_into K F.arrows (value_at (cells_of F k) z) n t.cell) e
+        ∙ sum_into-none F.arrows (value_at (cells_of F k) z) t.cell)
 
 -- two complexes with the same coordinates and the same coboundary have the same bases
 pub record Agree (K : Ops) (F G : CellularComplex) : Type 0 where
@@ -152,7 +168,8 @@ module _ (K : Ops) (F G : CellularComplex) (same : Agree K F G) where
 pub agree_back : (K : Ops) (F G : CellularComplex) → Agree K F G → Agree K G F
 agree_back K F G same = record { sizes = λ k. sym (same.sizes k); maps = λ k z. sym (same.maps k z) }
 
-pub basis_over : (K : Ops) (F G : CellularComplex) → Agree K F G → (k : ℕ) (B : List (List ℕ)) → IsBasis K F k B → IsBasis K G k B
+pub basis_over : (K : Ops) (F G : CellularComplex) → Agree K F G → (k : ℕ) (B : List (List ℕ)) → IsBasis K F k B
+    → IsBasis K G k B
 basis_over K F G same k B b = record {
   cocycles = λ i d l. cocycle_over K F G same k (get_or B i d) (b.cocycles i d l);
   spans = λ z c. represented_over K F G same k B z (b.spans z (cocycle_over K G F (agree_back K F G same) k z c));
@@ -166,5 +183,8 @@ empty_cells_change_nothing K F rising k B =
     let same : Agree K F (without_empty F) = record {
       sizes = λ j. sym (coordinates-without_empty K F rising j);
       maps = λ j z. sym (coboundary-without_empty K F rising j z);
-    } in
-    (basis_over K F (without_empty F) same k B, basis_over K (without_empty F) F (agree_back K F (without_empty F) same) k B)
+    } in (
+      basis_over K F (without_empty F) same k B,
+      basis_over K (without_empty F) F (agree_back K F (without_empty F) same)
+          k B,
+    )

@@ -6,7 +6,8 @@ use Rattle.cochain_vec.specs.Complexes.{CellularComplex, coordinates, IsCochain,
 
 -- the coboundary of the coboundary of each cochain is the zero cochain
 abbrev pub IsCochainComplex : Ops → CellularComplex → Type 0
-IsCochainComplex K F = (k : ℕ) (z : List ℕ) → IsCochain K F k z → coboundary K F (suc k) (coboundary K F k z) ≡ zeros (coordinates F (suc (suc k)))
+IsCochainComplex K F = (k : ℕ) (z : List ℕ) → IsCochain K F k z → coboundary K F (suc k) (coboundary K F k z)
+    ≡ zeros (coordinates F (suc (suc k)))
 
 -- a cochain whose coboundary is zero
 pub record IsCocycle (K : Ops) (F : CellularComplex) (k : ℕ) (z : List ℕ) : Type 0 where
@@ -30,8 +31,8 @@ pub record IsRepresented (K : Ops) (F : CellularComplex) (k : ℕ) (B : List (Li
   pub is_coboundary : IsCoboundary K F k rest
   pub sum : z ≡ plus K (combination K (coordinates F k) coefficients B) rest
 
--- B is a basis of the cohomology of degree k: its members are cocycles, each cocycle is a combination of B plus a coboundary,
--- and a combination of B that is a coboundary has only zero coefficients
+-- B is a basis of the cohomology of degree k: its members are cocycles, each cocycle is a combination of B plus a
+-- coboundary, and a combination of B that is a coboundary has only zero coefficients
 pub record IsBasis (K : Ops) (F : CellularComplex) (k : ℕ) (B : List (List ℕ)) : Type 0 where
   pub cocycles : All (IsCocycle K F k) B
   pub spans : (z : List ℕ) → IsCocycle K F k z → IsRepresented K F k B z

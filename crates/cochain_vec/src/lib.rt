@@ -1,7 +1,7 @@
 //! Cochains, and the cohomology of cells with matrices between them: cocycles modulo coboundaries.
 //!
-//! For a cellular sheaf these are the cochains and the coboundary of Curry, Ghrist and Nanda, "Discrete Morse theory for
-//! computing cellular sheaf cohomology" (2016).
+//! For a cellular sheaf these are the cochains and the coboundary of Curry, Ghrist and Nanda, "Discrete Morse theory
+//! for computing cellular sheaf cohomology" (2016).
 #![tactic(auto)]
 
 mod cell;

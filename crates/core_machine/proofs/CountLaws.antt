@@ -1,5 +1,7 @@
 -- What a transcript counts is what the machine keeps, event by event.
-use Rattle.std.proofs.Common.{◌≡◌, ℕ, zero, suc, ◌+◌, ◌<◌, Bool, true, false, ◌==◌, if◌then◌else◌, List, [], ◌∷◌, ◌++◌, length, take, slice_get, Option, Some, None, refl, sym, ap, subst, ◌∙◌, arith, append_assoc, append-nil, length-append}
+use Rattle.std.proofs.Common.{◌≡◌, ℕ, zero, suc, ◌+◌, ◌<◌, Bool, true, false, ◌==◌, if◌then◌else◌, List, [], ◌∷◌, ◌++◌}
+use Rattle.std.proofs.Common.{length, take, slice_get, Option, Some, None, refl, sym, ap, subst, ◌∙◌, arith}
+use Rattle.std.proofs.Common.{append_assoc, append-nil, length-append}
 use Rattle.std.proofs.lemmas.Option.{slice_get_within, same_Some, none-some}
 use Rattle.std.proofs.lemmas.Bool.{eqb-true}
 use Rattle.std.specs.Prelude.{option_and_then}
@@ -16,10 +18,12 @@ use Rattle.sheaf_words.specs.declared.replying.Reply.TheVariants as replies
 use Rattle.sheaf_words.specs.declared.happening.Event.{Event}
 use Rattle.sheaf_words.specs.declared.happening.Event.TheVariants.{Edit, Ask, Pair, Reply}
 use Rattle.reply_text.specs.Replies.{IsAnswerTo}
-use Rattle.reply_text.specs.Transcripts.{ends_for, is_accepted, ended_count, current_version, asked_version, IfPresent, IsAnswered, IsOf, AreOf}
+use Rattle.reply_text.specs.Transcripts.{ends_for, is_accepted, ended_count, current_version, asked_version, IfPresent}
+use Rattle.reply_text.specs.Transcripts.{IsAnswered, IsOf, AreOf}
 use Rattle.reply_text.proofs.Counting.{count-more, asked-more}
 use Rattle.core_machine.specs.Replies.{IsRightReply}
-use Rattle.core_machine.specs.Machine.{Lane, State, free_lane, waiting_lane, first_state, command_at, with_lane, AreVersionsAfter, EditStep, AskStep, ReplyStep, Step, Leads, IsLegal}
+use Rattle.core_machine.specs.Machine.{Lane, State, free_lane, waiting_lane, first_state, command_at, with_lane}
+use Rattle.core_machine.specs.Machine.{AreVersionsAfter, EditStep, AskStep, ReplyStep, Step, Leads, IsLegal}
 use Rattle.core_machine.specs.Counting.{IsCounted}
 
 -- ---- the lanes after one step
@@ -29,12 +33,14 @@ position-next : (lanes : ℕ → Lane) (c d p : ℕ) → (lanes c).position ≡ 
     → (with_lane lanes c (free_lane (p + 1)) d).position ≡ (lanes d).position + (if c == d then 1 else 0)
 position-next lanes c d p is = go (c == d) refl
   where
-    go : (b : Bool) → (c == d) ≡ b → (if b then free_lane (p + 1) else lanes d).position ≡ (lanes d).position + (if b then 1 else 0)
+    go : (b : Bool) → (c == d) ≡ b → (if b then free_lane (p + 1) else lanes d).position ≡ (lanes d).position
+        + (if b then 1 else 0)
     go true e = ap (λ n. n + 1) (sym (subst (λ k. (lanes k).position ≡ p) (eqb-true c d e) is))
     go false e = omega arith
 
 -- the positions where the lane of client c was put to wait
-position-same : (lanes : ℕ → Lane) (c d p v : ℕ) → (lanes c).position ≡ p → (with_lane lanes c (waiting_lane p v) d).position ≡ (lanes d).position + 0
+position-same : (lanes : ℕ → Lane) (c d p v : ℕ) → (lanes c).position ≡ p
+    → (with_lane lanes c (waiting_lane p v) d).position ≡ (lanes d).position + 0
 position-same lanes c d p v is = go (c == d) refl
   where
     go : (b : Bool) → (c == d) ≡ b → (if b then waiting_lane p v else lanes d).position ≡ (lanes d).position + 0
@@ -42,7 +48,8 @@ position-same lanes c d p v is = go (c == d) refl
     go false e = omega arith
 
 -- what is pending where the lane of client c was freed
-pending-free : (lanes : ℕ → Lane) (c d p v : ℕ) → (with_lane lanes c (free_lane p) d).pending ≡ Some v → (lanes d).pending ≡ Some v
+pending-free : (lanes : ℕ → Lane) (c d p v : ℕ) → (with_lane lanes c (free_lane p) d).pending ≡ Some v
+    → (lanes d).pending ≡ Some v
 pending-free lanes c d p v is = go (c == d) is
   where
     go : (b : Bool) → (if b then free_lane p else lanes d).pending ≡ Some v → (lanes d).pending ≡ Some v
@@ -60,13 +67,16 @@ pending-asked lanes c d p n v w before is = go (c == d) is
 
 -- ---- the counts after one step
 
-counted-edit : {F : Type 0} (K : Ops) (scripts : List (List Command)) (events : List Event) (c : ℕ) (verdict : Verdict) (s t : State F)
+counted-edit : {F : Type 0} (K : Ops) (scripts : List (List Command)) (events : List Event) (c : ℕ) (verdict : Verdict)
+    (s t : State F)
     → EditStep K scripts c verdict s t → IsCounted events s → IsCounted (events ++ Edit c verdict ∷ []) t
 counted-edit {F} K scripts events c verdict s t step h = record {
   current = versions verdict step.versions ∙ ap (λ n. n + 1) (sym (count-more is_accepted events (Edit c verdict)));
-  positions = λ d. ap (λ lanes. (lanes d).position) step.lanes ∙ position-next s.lanes c d step.position (ap (λ l. l.position) step.is_free)
+  positions = λ d. ap (λ lanes. (lanes d).position) step.lanes ∙ position-next s.lanes c d step.position
+      (ap (λ l. l.position) step.is_free)
       ∙ ap (λ n. n + (if c == d then 1 else 0)) (h.positions d) ∙ sym (count-more (ends_for d) events (Edit c verdict));
-  pendings = λ d v is. h.pendings d v (pending-free s.lanes c d (step.position + 1) v (sym (ap (λ lanes. (lanes d).pending) step.lanes) ∙ is))
+  pendings = λ d v is. h.pendings d v
+      (pending-free s.lanes c d (step.position + 1) v (sym (ap (λ lanes. (lanes d).pending) step.lanes) ∙ is))
       ∙ sym (asked-more d events (Edit c verdict));
 }
   where
@@ -78,8 +88,10 @@ counted-edit {F} K scripts events c verdict s t step h = record {
 counted-ask : {F : Type 0} (scripts : List (List Command)) (events : List Event) (c : ℕ) (s t : State F)
     → AskStep scripts c s t → IsCounted events s → IsCounted (events ++ Ask c ∷ []) t
 counted-ask scripts events c s t step h = record {
-  current = ap length step.versions ∙ h.current ∙ ap (λ n. n + 1) (omega arith ∙ sym (count-more is_accepted events (Ask c)));
-  positions = λ d. ap (λ lanes. (lanes d).position) step.lanes ∙ position-same s.lanes c d step.position step.version (ap (λ l. l.position) step.is_free)
+  current = ap length step.versions ∙ h.current
+      ∙ ap (λ n. n + 1) (omega arith ∙ sym (count-more is_accepted events (Ask c)));
+  positions = λ d. ap (λ lanes. (lanes d).position) step.lanes ∙ position-same s.lanes c d step.position step.version
+      (ap (λ l. l.position) step.is_free)
       ∙ ap (λ n. n + 0) (h.positions d) ∙ sym (count-more (ends_for d) events (Ask c));
   pendings = λ d v is. pending-asked s.lanes c d step.position step.version v (asked_version d events) (h.pendings d v)
       (sym (ap (λ lanes. (lanes d).pending) step.lanes) ∙ is)
@@ -89,17 +101,22 @@ counted-ask scripts events c s t step h = record {
     version : step.version ≡ current_version events
     version = omega (arith, step.current, h.current)
 
-counted-reply : {F : Type 0} (K : Ops) (scripts : List (List Command)) (events : List Event) (c : ℕ) (r : Answer) (s t : State F)
+counted-reply : {F : Type 0} (K : Ops) (scripts : List (List Command)) (events : List Event) (c : ℕ) (r : Answer)
+    (s t : State F)
     → ReplyStep K scripts c r s t → IsCounted events s → IsCounted (events ++ Reply c r ∷ []) t
 counted-reply K scripts events c r s t step h = record {
-  current = ap length step.versions ∙ h.current ∙ ap (λ n. n + 1) (omega arith ∙ sym (count-more is_accepted events (Reply c r)));
-  positions = λ d. ap (λ lanes. (lanes d).position) step.lanes ∙ position-next s.lanes c d step.position (ap (λ l. l.position) step.is_waiting)
+  current = ap length step.versions ∙ h.current
+      ∙ ap (λ n. n + 1) (omega arith ∙ sym (count-more is_accepted events (Reply c r)));
+  positions = λ d. ap (λ lanes. (lanes d).position) step.lanes ∙ position-next s.lanes c d step.position
+      (ap (λ l. l.position) step.is_waiting)
       ∙ ap (λ n. n + (if c == d then 1 else 0)) (h.positions d) ∙ sym (count-more (ends_for d) events (Reply c r));
-  pendings = λ d v is. h.pendings d v (pending-free s.lanes c d (step.position + 1) v (sym (ap (λ lanes. (lanes d).pending) step.lanes) ∙ is))
+  pendings = λ d v is. h.pendings d v
+      (pending-free s.lanes c d (step.position + 1) v (sym (ap (λ lanes. (lanes d).pending) step.lanes) ∙ is))
       ∙ sym (asked-more d events (Reply c r));
 }
 
-counted-step : {F : Type 0} (K : Ops) (scripts : List (List Command)) (events : List Event) (event : Event) (s t : State F)
+counted-step : {F : Type 0} (K : Ops) (scripts : List (List Command)) (events : List Event) (event : Event)
+    (s t : State F)
     → Step K scripts event s t → IsCounted events s → IsCounted (events ++ event ∷ []) t
 counted-step K scripts events (Edit c verdict) s t step h = counted-edit K scripts events c verdict s t step h
 counted-step K scripts events (Ask c) s t step h = counted-ask scripts events c s t step h
@@ -114,14 +131,17 @@ counted-from K scripts earlier [] s t leads h =
     subst (λ es. IsCounted es t) (sym (append-nil earlier)) (subst (IsCounted earlier) leads h)
 counted-from K scripts earlier (event ∷ events) s t leads h =
     subst (λ es. IsCounted es t) (append_assoc earlier (event ∷ []) events)
-    (counted-from K scripts (earlier ++ event ∷ []) events leads.0 t leads.2 (counted-step K scripts earlier event s leads.0 leads.1 h))
+    (counted-from K scripts (earlier ++ event ∷ []) events leads.0 t leads.2
+    (counted-step K scripts earlier event s leads.0 leads.1 h))
 
 counted-first : {F : Type 0} (sheaf : SheafData F) → IsCounted [] (first_state sheaf)
 counted-first sheaf = record { current = refl; positions = λ c. refl; pendings = λ c v e. absurd (none-some v e) }
 
-pub transcripts_count : {F : Type 0} (K : Ops) (scripts : List (List Command)) (sheaf : SheafData F) (events : List Event) (s : State F)
+pub transcripts_count : {F : Type 0} (K : Ops) (scripts : List (List Command)) (sheaf : SheafData F)
+    (events : List Event) (s : State F)
     → IsLegal K scripts sheaf events s → IsCounted events s
-transcripts_count K scripts sheaf events s reaches = counted-from K scripts [] events (first_state sheaf) s reaches (counted-first sheaf)
+transcripts_count K scripts sheaf events s reaches = counted-from K scripts [] events (first_state sheaf) s reaches
+    (counted-first sheaf)
 
 -- ---- legal events answer the commands
 
@@ -129,29 +149,36 @@ present : {X : Type 0} (P : X → Type 0) (o : Option X) (x : X) → o ≡ Some 
 present P o x e p = subst (λ q. IfPresent q P) (sym e) p
 
 answered : (scripts : List (List Command)) (events : List Event) (c p : ℕ) (command : Command) (event : Event)
-    → p ≡ ended_count c events → command_at scripts c p ≡ Some command → IsAnswerTo command event → IsAnswered scripts events c event
+    → p ≡ ended_count c events → command_at scripts c p ≡ Some command → IsAnswerTo command event
+    → IsAnswered scripts events c event
 answered scripts events c p command event at there is =
-    present (λ k. IsAnswerTo k event) (command_at scripts c (ended_count c events)) command (ap (command_at scripts c) (sym at) ∙ there) is
+    present (λ k. IsAnswerTo k event) (command_at scripts c (ended_count c events)) command
+    (ap (command_at scripts c) (sym at) ∙ there) is
 
-inside : (scripts : List (List Command)) (c p : ℕ) (command : Command) → command_at scripts c p ≡ Some command → c < length scripts
+inside : (scripts : List (List Command)) (c p : ℕ) (command : Command) → command_at scripts c p ≡ Some command → c
+    < length scripts
 inside scripts c p command there = go (slice_get scripts c) refl there
   where
-    go : (o : Option (List Command)) → slice_get scripts c ≡ o → option_and_then (λ script. slice_get script p) o ≡ Some command → c < length scripts
+    go : (o : Option (List Command)) → slice_get scripts c ≡ o → option_and_then (λ script. slice_get script p) o
+        ≡ Some command → c < length scripts
     go None e h = absurd (none-some command h)
     go (Some script) e h = slice_get_within scripts c script e
 
-right-answers : {F : Type 0} (K : Ops) (sheaf : SheafData F) (c : ℕ) (q : Query) (r : Answer) → IsRightReply K sheaf q r → IsAnswerTo (commands.Ask q) (Reply c r)
+right-answers : {F : Type 0} (K : Ops) (sheaf : SheafData F) (c : ℕ) (q : Query) (r : Answer) → IsRightReply K sheaf q r
+    → IsAnswerTo (commands.Ask q) (Reply c r)
 right-answers K sheaf c queries.Betti (replies.Betti numbers) right = tt
 right-answers K sheaf c q r right = absurd right
 
 of-step : {F : Type 0} (K : Ops) (scripts : List (List Command)) (events : List Event) (event : Event) (s t : State F)
     → Step K scripts event s t → IsCounted events s → IsOf scripts events event
 of-step K scripts events (Edit c verdict) s t step h =
-    answered scripts events c step.position (commands.Change step.edit) (Edit c verdict) (sym (ap (λ l. l.position) step.is_free) ∙ h.positions c) step.command tt
+    answered scripts events c step.position (commands.Change step.edit) (Edit c verdict)
+    (sym (ap (λ l. l.position) step.is_free) ∙ h.positions c) step.command tt
 of-step K scripts events (Ask c) s t step h = inside scripts c step.position (commands.Ask step.query) step.command
 of-step K scripts events (Pair v x y) s t step h = tt
 of-step K scripts events (Reply c r) s t step h =
-    answered scripts events c step.position (commands.Ask step.query) (Reply c r) (sym (ap (λ l. l.position) step.is_waiting) ∙ h.positions c) step.command
+    answered scripts events c step.position (commands.Ask step.query) (Reply c r)
+    (sym (ap (λ l. l.position) step.is_waiting) ∙ h.positions c) step.command
     (right-answers K step.sheaf c step.query r step.right)
 
 of-from : {F : Type 0} (K : Ops) (scripts : List (List Command)) (earlier events : List Event) (s t : State F)
@@ -159,18 +186,24 @@ of-from : {F : Type 0} (K : Ops) (scripts : List (List Command)) (earlier events
     → (i : ℕ) (event : Event) → slice_get events i ≡ Some event → IsOf scripts (earlier ++ take i events) event
 of-from K scripts earlier [] s t leads h i event at = absurd (none-some event at)
 of-from K scripts earlier (first ∷ events) s t leads h zero event at =
-    subst (λ es. IsOf scripts es event) (sym (append-nil earlier)) (subst (IsOf scripts earlier) (same_Some first event at) (of-step K scripts earlier first s leads.0 leads.1 h))
+    subst (λ es. IsOf scripts es event) (sym (append-nil earlier))
+    (subst (IsOf scripts earlier) (same_Some first event at) (of-step K scripts earlier first s leads.0 leads.1 h))
 of-from K scripts earlier (first ∷ events) s t leads h (suc i) event at =
     subst (λ es. IsOf scripts es event) (append_assoc earlier (first ∷ []) (take i events))
-    (of-from K scripts (earlier ++ first ∷ []) events leads.0 t leads.2 (counted-step K scripts earlier first s leads.0 leads.1 h) i event at)
+    (of-from K scripts (earlier ++ first ∷ []) events leads.0 t leads.2
+    (counted-step K scripts earlier first s leads.0 leads.1 h) i event at)
 
-pub events_are_answers : {F : Type 0} (K : Ops) (scripts : List (List Command)) (sheaf : SheafData F) (events : List Event) (s : State F)
+pub events_are_answers : {F : Type 0} (K : Ops) (scripts : List (List Command)) (sheaf : SheafData F)
+    (events : List Event) (s : State F)
     → IsLegal K scripts sheaf events s → AreOf scripts events
-events_are_answers K scripts sheaf events s reaches i event at = of-from K scripts [] events (first_state sheaf) s reaches (counted-first sheaf) i event at
+events_are_answers K scripts sheaf events s reaches i event at = of-from K scripts [] events (first_state sheaf) s
+    reaches (counted-first sheaf) i event at
 
 -- ---- one event more
 
-pub leads-more : {F : Type 0} (K : Ops) (scripts : List (List Command)) (events : List Event) (event : Event) (s m t : State F)
+pub leads-more : {F : Type 0} (K : Ops) (scripts : List (List Command)) (events : List Event) (event : Event)
+    (s m t : State F)
     → Leads K scripts events s m → Step K scripts event m t → Leads K scripts (events ++ event ∷ []) s t
 leads-more K scripts [] event s m t leads step = (t, subst (λ x. Step K scripts event x t) (sym leads) step, refl)
-leads-more K scripts (first ∷ events) event s m t leads step = (leads.0, leads.1, leads-more K scripts events event leads.0 m t leads.2 step)
+leads-more K scripts (first ∷ events) event s m t leads step =
+    (leads.0, leads.1, leads-more K scripts events event leads.0 m t leads.2 step)

@@ -1,5 +1,6 @@
 -- The machine of versions, lanes and events.
-use Rattle.std.specs.Prelude.{◌≡◌, ℕ, ◌+◌, ◌==◌, List, [], ◌∷◌, ◌++◌, Option, Some, None, length, slice_get, option_and_then, if◌then◌else◌}
+use Rattle.std.specs.Prelude.{◌≡◌, ℕ, ◌+◌, ◌==◌, List, [], ◌∷◌, ◌++◌, Option, Some, None, length, slice_get}
+use Rattle.std.specs.Prelude.{option_and_then, if◌then◌else◌}
 use Rattle.dense_blocks.specs.Field.{Ops}
 use Rattle.sheaf_data.specs.Sheaves.{SheafData}
 use Rattle.sheaf_words.specs.declared.asking.Query.{Query}
@@ -58,12 +59,15 @@ with_lane lanes c lane d = if c == d then lane else lanes d
 -- ---- events: each has a guard, and an effect; what is not named stays
 
 -- the versions after a verdict on an edit: the edited sheaf is one more, or all stays
-abbrev pub AreVersionsAfter : {F : Type 0} → Ops → SheafData F → List Set → Verdict → List (SheafData F) → List (SheafData F) → Type 0
-AreVersionsAfter {F} K sheaf sets Accepted old new = (edited : SheafData F) × IsEdited K sheaf sets edited × (new ≡ old ++ edited ∷ [])
+abbrev pub AreVersionsAfter : {F : Type 0} → Ops → SheafData F → List Set → Verdict → List (SheafData F)
+    → List (SheafData F) → Type 0
+AreVersionsAfter {F} K sheaf sets Accepted old new = (edited : SheafData F) × IsEdited K sheaf sets edited
+    × (new ≡ old ++ edited ∷ [])
 AreVersionsAfter K sheaf sets (Refused cause) old new = new ≡ old
 
 -- client c has nothing pending and comes to an edit; the verdict is that on it and the current sheaf
-pub record EditStep {F : Type 0} (K : Ops) (scripts : List (List Command)) (c : ℕ) (verdict : Verdict) (s t : State F) : Type 0 where
+pub record EditStep {F : Type 0} (K : Ops) (scripts : List (List Command)) (c : ℕ) (verdict : Verdict) (s t : State F) :
+    Type 0 where
   pub position : ℕ
   pub edit : Change
   pub sheaf : SheafData F
@@ -85,8 +89,10 @@ pub record AskStep {F : Type 0} (scripts : List (List Command)) (c : ℕ) (s t :
   pub versions : t.sheaves ≡ s.sheaves
   pub lanes : t.lanes ≡ with_lane s.lanes c (waiting_lane position version)
 
--- client c waits for the answer to a question on a version, and the reply is right for the question and the sheaf of that version
-pub record ReplyStep {F : Type 0} (K : Ops) (scripts : List (List Command)) (c : ℕ) (reply : Answer) (s t : State F) : Type 0 where
+-- client c waits for the answer to a question on a version, and the reply is right for the question and the sheaf of
+-- that version
+pub record ReplyStep {F : Type 0} (K : Ops) (scripts : List (List Command)) (c : ℕ) (reply : Answer) (s t : State F) :
+    Type 0 where
   pub position : ℕ
   pub query : Query
   pub version : ℕ
@@ -118,10 +124,12 @@ IsLegal K scripts sheaf events t = Leads K scripts events (first_state sheaf) t
 
 -- whole: each client's script is done, and nothing is pending
 abbrev pub IsWhole : {F : Type 0} → List (List Command) → State F → Type 0
-IsWhole scripts s = (c : ℕ) (script : List Command) → slice_get scripts c ≡ Some script → s.lanes c ≡ free_lane (length script)
+IsWhole scripts s = (c : ℕ) (script : List Command) → slice_get scripts c ≡ Some script
+    → s.lanes c ≡ free_lane (length script)
 
 -- the events are one legal order of all commands of these scripts on this sheaf, whole
-pub record IsLegalAndWhole {F : Type 0} (K : Ops) (scripts : List (List Command)) (sheaf : SheafData F) (events : List Event) : Type 0 where
+pub record IsLegalAndWhole {F : Type 0} (K : Ops) (scripts : List (List Command)) (sheaf : SheafData F)
+    (events : List Event) : Type 0 where
   pub last : State F
   pub legal : IsLegal K scripts sheaf events last
   pub whole : IsWhole scripts last

@@ -1,6 +1,8 @@
 -- Matrices and their entries in one list, row by row.
-use Rattle.std.proofs.Common.{◌≡◌, ℕ, zero, suc, ◌+◌, ◌-◌, ◌*◌, ◌<◌, List, [], ◌∷◌, ◌++◌, length, map, take, drop, get_or, refl, sym, ap, ap₂, ◌∙◌, arith, add-one, length-append, length-drop, append_assoc}
-use Rattle.std.proofs.lemmas.List.{append-nil, take_at, drop_at, take-append-drop, length-take-le, drop-drop, take-map, drop-map, take_all, take_more, map_more}
+use Rattle.std.proofs.Common.{◌≡◌, ℕ, zero, suc, ◌+◌, ◌-◌, ◌*◌, ◌<◌, List, [], ◌∷◌, ◌++◌, length, map, take, drop}
+use Rattle.std.proofs.Common.{get_or, refl, sym, ap, ap₂, ◌∙◌, arith, add-one, length-append, length-drop, append_assoc}
+use Rattle.std.proofs.lemmas.List.{append-nil, take_at, drop_at, take-append-drop, length-take-le, drop-drop, take-map}
+use Rattle.std.proofs.lemmas.List.{drop-map, take_all, take_more, map_more}
 use Rattle.std.proofs.lemmas.List.Elements.{All-append, All-nil, All-take, All-drop}
 use Rattle.dense_blocks.specs.Field.{Ops}
 use Rattle.dense_blocks.specs.Vectors.{AllScalars, zeros, plus, negative}
@@ -50,7 +52,8 @@ pub flat-size : (m n : ℕ) (A : List (List ℕ)) → Sized m n A → length (fl
 flat-size zero n [] h = omega arith
 flat-size zero n (r ∷ A) h = absurd h
 flat-size (suc m) n [] h = absurd h
-flat-size (suc m) n (r ∷ A) h = let size : length r ≡ n = h.0 in omega (arith, length-append r (flat A), flat-size m n A h.1)
+flat-size (suc m) n (r ∷ A) h = let size : length r ≡ n = h.0 in
+    omega (arith, length-append r (flat A), flat-size m n A h.1)
 
 pub flat-scalars : (K : Ops) (m n : ℕ) (A : List (List ℕ)) → Matrix K m n A → AllScalars K (flat A)
 flat-scalars K zero n [] h = All-nil (λ a. a < K.order)
@@ -99,20 +102,26 @@ pub first_rows-none : (A : List (List ℕ)) → first_rows 0 A ≡ []
 unfolding first_rows
 first_rows-none A = refl
 
-pub first_rows-next : (i : ℕ) (A : List (List ℕ)) → i < length A → first_rows (i + 1) A ≡ first_rows i A ++ get_or A i []
+pub first_rows-next : (i : ℕ) (A : List (List ℕ)) → i < length A → first_rows (i + 1) A ≡ first_rows i A
+    ++ get_or A i []
 unfolding first_rows
 first_rows-next i A l =
-    ap flat (take_more A i [] l) ∙ flat-append (take i A) (get_or A i [] ∷ []) ∙ ap (λ t. flat (take i A) ++ t) (append-nil (get_or A i []))
+    ap flat (take_more A i [] l) ∙ flat-append (take i A) (get_or A i [] ∷ [])
+    ∙ ap (λ t. flat (take i A) ++ t) (append-nil (get_or A i []))
 
 pub first_rows-all : (i : ℕ) (A : List (List ℕ)) → length A ≡ i → first_rows i A ≡ flat A
 unfolding first_rows
 first_rows-all i A e = ap flat (take_all i A (omega arith))
 
-pub first_rows-size : (m n i : ℕ) (A : List (List ℕ)) (xs : List ℕ) → Sized m n A → i ≡ m → xs ≡ first_rows i A → length xs ≡ m * n
-first_rows-size m n i A xs h e now = ap length (now ∙ first_rows-all i A (sized-size m n A h ∙ sym e)) ∙ flat-size m n A h
+pub first_rows-size : (m n i : ℕ) (A : List (List ℕ)) (xs : List ℕ) → Sized m n A → i ≡ m → xs ≡ first_rows i A
+    → length xs ≡ m * n
+first_rows-size m n i A xs h e now = ap length (now ∙ first_rows-all i A (sized-size m n A h ∙ sym e))
+    ∙ flat-size m n A h
 
-pub cut-first_rows : (m n i : ℕ) (A : List (List ℕ)) (xs : List ℕ) → Sized m n A → i ≡ m → xs ≡ first_rows i A → cut m n xs ≡ A
-cut-first_rows m n i A xs h e now = ap (cut m n) (now ∙ first_rows-all i A (sized-size m n A h ∙ sym e)) ∙ cut-flat m n A h
+pub cut-first_rows : (m n i : ℕ) (A : List (List ℕ)) (xs : List ℕ) → Sized m n A → i ≡ m → xs ≡ first_rows i A
+    → cut m n xs ≡ A
+cut-first_rows m n i A xs h e now = ap (cut m n) (now ∙ first_rows-all i A (sized-size m n A h ∙ sym e))
+    ∙ cut-flat m n A h
 
 -- entries that are worked out one by one
 pub take-plus : (K : Ops) (n : ℕ) (u v : List ℕ) → take n (plus K u v) ≡ plus K (take n u) (take n v)
@@ -153,7 +162,8 @@ identity-row zero i l = absurd (omega arith)
 identity-row (suc n) zero l = let size : n ≡ suc n - 1 - 0 = omega arith in ap (λ k. 1 ∷ zeros k) size
 identity-row (suc n) (suc i) l =
     let size : n - 1 - i ≡ suc n - 1 - suc i = omega arith in
-    shifted (identity n) i (omega (arith, sized-size n n (identity n) (sized-identity n))) ∙ ap (λ t. 0 ∷ t) (identity-row n i (omega arith) ∙ ap (λ k. zeros i ++ 1 ∷ zeros k) size)
+    shifted (identity n) i (omega (arith, sized-size n n (identity n) (sized-identity n)))
+    ∙ ap (λ t. 0 ∷ t) (identity-row n i (omega arith) ∙ ap (λ k. zeros i ++ 1 ∷ zeros k) size)
   where
     shifted : (A : List (List ℕ)) (j : ℕ) → j < length A → get_or (map (λ row. 0 ∷ row) A) j [] ≡ 0 ∷ get_or A j []
     shifted [] j h = absurd (omega arith)
@@ -161,7 +171,8 @@ identity-row (suc n) (suc i) l =
     shifted (r ∷ A) (suc j) h = shifted A j (omega arith)
 
 -- one more row of the identity
-pub identity-next : (n i : ℕ) → i < n → first_rows (i + 1) (identity n) ≡ ((first_rows i (identity n) ++ zeros i) ++ 1 ∷ []) ++ zeros (n - 1 - i)
+pub identity-next : (n i : ℕ) → i < n → first_rows (i + 1) (identity n)
+    ≡ ((first_rows i (identity n) ++ zeros i) ++ 1 ∷ []) ++ zeros (n - 1 - i)
 identity-next n i l =
     first_rows-next i (identity n) (omega (arith, sized-size n n (identity n) (sized-identity n)))
     ∙ ap (λ t. first_rows i (identity n) ++ t) (identity-row n i l)
@@ -174,7 +185,8 @@ cut-zeros zero n = refl
 cut-zeros (suc m) n =
     let size : suc m * n ≡ n + m * n = omega arith in
     ap (cut (suc m) n) (ap zeros size ∙ zeros-append n (m * n))
-    ∙ ap₂ ◌∷◌ (take_at (zeros n) (zeros (m * n)) n (zeros-size n)) (ap (cut m n) (drop_at (zeros n) (zeros (m * n)) n (zeros-size n)) ∙ cut-zeros m n)
+    ∙ ap₂ ◌∷◌ (take_at (zeros n) (zeros (m * n)) n (zeros-size n))
+    (ap (cut m n) (drop_at (zeros n) (zeros (m * n)) n (zeros-size n)) ∙ cut-zeros m n)
 
 -- entries that a loop works out one by one: the sums, and the negatives, of the first i
 unfoldable pub first_sums : Ops → ℕ → List ℕ → List ℕ → List ℕ
@@ -190,7 +202,8 @@ unfolding first_sums
 first_sums-next K i u v hu hv = rw add-one (next i u v hu hv)
   where
     next : (j : ℕ) (s t : List ℕ) → j < length s → j < length t
-        → plus K (take (suc j) s) (take (suc j) t) ≡ plus K (take j s) (take j t) ++ K.add (get_or s j 0) (get_or t j 0) ∷ []
+        → plus K (take (suc j) s) (take (suc j) t) ≡ plus K (take j s) (take j t) ++ K.add (get_or s j 0) (get_or t j 0)
+        ∷ []
     next j [] t hs ht = absurd (omega arith)
     next j (a ∷ s) [] hs ht = absurd (omega arith)
     next zero (a ∷ s) (b ∷ t) hs ht = refl
@@ -207,7 +220,8 @@ pub first_negatives-none : (K : Ops) (v : List ℕ) → first_negatives K 0 v �
 unfolding first_negatives
 first_negatives-none K v = refl
 
-pub first_negatives-next : (K : Ops) (i : ℕ) (v : List ℕ) → i < length v → first_negatives K (i + 1) v ≡ first_negatives K i v ++ K.neg (get_or v i 0) ∷ []
+pub first_negatives-next : (K : Ops) (i : ℕ) (v : List ℕ) → i < length v → first_negatives K (i + 1) v
+    ≡ first_negatives K i v ++ K.neg (get_or v i 0) ∷ []
 unfolding first_negatives
 first_negatives-next K i v h = map_more K.neg v i 0 h
 
@@ -217,4 +231,11 @@ first_negatives-all K i v h = ap (negative K) (take_all i v (omega arith))
 
 pub ruleset cutting = (cut-zeros, cut-row, zeros-size, first_rows-none, identity-next)
 
-pub ruleset one_by_one = (first_sums-none, first_sums-next, first_sums-all, first_negatives-none, first_negatives-next, first_negatives-all)
+pub ruleset one_by_one = (
+  first_sums-none,
+  first_sums-next,
+  first_sums-all,
+  first_negatives-none,
+  first_negatives-next,
+  first_negatives-all,
+)

@@ -1,7 +1,9 @@
 -- Rows of a matrix beside those of the identity, once they are cleared: the inverse, or a vector in the kernel.
-use Rattle.std.proofs.Common.{◌≡◌, ◌⊎◌, inl, inr, ℕ, zero, suc, ◌+◌, ◌-◌, ◌*◌, ◌<◌, ◌≤◌, List, [], ◌∷◌, ◌++◌, length, map, take, drop, get_or, All, refl, sym, ap, ap₂, ◌∙◌, subst, arith, append_assoc}
+use Rattle.std.proofs.Common.{◌≡◌, ◌⊎◌, inl, inr, ℕ, zero, suc, ◌+◌, ◌-◌, ◌*◌, ◌<◌, ◌≤◌, List, [], ◌∷◌, ◌++◌, length}
+use Rattle.std.proofs.Common.{map, take, drop, get_or, All, refl, sym, ap, ap₂, ◌∙◌, subst, arith, append_assoc}
 use Rattle.std.proofs.lemmas.Bool.{cases_lt}
-use Rattle.std.proofs.lemmas.List.{take_at, drop_at, take-append-drop, drop_more, length-map, length-take-le, get_or-map, get_or-take, get_or-drop, get_or-append-add, length-drop}
+use Rattle.std.proofs.lemmas.List.{take_at, drop_at, take-append-drop, drop_more, length-map, length-take-le}
+use Rattle.std.proofs.lemmas.List.{get_or-map, get_or-take, get_or-drop, get_or-append-add, length-drop}
 use Rattle.std.proofs.lemmas.List.Elements.{All-get_or}
 use Rattle.dense_blocks.specs.Field.{Ops, IsField}
 use Rattle.dense_blocks.specs.Vectors.{zeros, plus, negative, dot}
@@ -9,40 +11,53 @@ use Rattle.dense_blocks.specs.Matrices.{image_of, product, identity, IsInverse}
 use Rattle.dense_blocks.specs.Clearing.{Annihilate, unit, StartUnits, HasUnitColumns, HasNoPivot, beside, undoing}
 use Rattle.dense_blocks.specs.Inverses.{InKernel}
 use Rattle.dense_blocks.proofs.ScalarLaws.{zero_below, one_below, zero_add, zero_mul, one_mul, neg_add}
-use Rattle.dense_blocks.proofs.Shapes.{Vector, Matrix, to_vector, from_vector, vector_of, vector-size, vector-scalars, to_matrix, from_matrix, matrix-size, append-vector, row-vector}
-use Rattle.dense_blocks.proofs.VectorLaws.{zeros-append, zeros-vector, negative-vector, plus-zeros, plus-comm, plus-negative, negative-plus, same-by-difference, dot-append, dot-below, dot-zeros, zeros-dot}
-use Rattle.dense_blocks.proofs.MatrixLaws.{identity-matrix, product-matrix, product-image_of, identity-image_of, image_of-vector, image_of-negative, image_of-zeros, matrix-ext, inverse-image_of}
+use Rattle.dense_blocks.proofs.Shapes.{Vector, Matrix, to_vector, from_vector, vector_of, vector-size, vector-scalars}
+use Rattle.dense_blocks.proofs.Shapes.{to_matrix, from_matrix, matrix-size, append-vector, row-vector}
+use Rattle.dense_blocks.proofs.VectorLaws.{zeros-append, zeros-vector, negative-vector, plus-zeros, plus-comm}
+use Rattle.dense_blocks.proofs.VectorLaws.{plus-negative, negative-plus, same-by-difference, dot-append, dot-below}
+use Rattle.dense_blocks.proofs.VectorLaws.{dot-zeros, zeros-dot}
+use Rattle.dense_blocks.proofs.MatrixLaws.{identity-matrix, product-matrix, product-image_of, identity-image_of}
+use Rattle.dense_blocks.proofs.MatrixLaws.{image_of-vector, image_of-negative, image_of-zeros, matrix-ext}
+use Rattle.dense_blocks.proofs.MatrixLaws.{inverse-image_of}
 use Rattle.dense_blocks.proofs.Reductions.{zeros-at}
 use Rattle.dense_blocks.proofs.Leading.{take-vector}
 use Rattle.dense_blocks.proofs.ClearingLaws.{units-at, unit-past}
 
 -- rows side by side, and their halves
-pub beside-matrix : (K : Ops) (m k n : ℕ) (A B : List (List ℕ)) → Matrix K m k A → Matrix K m n B → Matrix K m (k + n) (beside A B)
+pub beside-matrix : (K : Ops) (m k n : ℕ) (A B : List (List ℕ)) → Matrix K m k A → Matrix K m n B
+    → Matrix K m (k + n) (beside A B)
 beside-matrix K zero k n [] B ha hb = tt
 beside-matrix K zero k n (a ∷ A) B ha hb = absurd ha
 beside-matrix K (suc m) k n [] B ha hb = absurd ha
 beside-matrix K (suc m) k n (a ∷ A) [] ha hb = absurd hb
-beside-matrix K (suc m) k n (a ∷ A) (b ∷ B) ha hb = (append-vector K k n a b ha.0 hb.0, beside-matrix K m k n A B ha.1 hb.1)
+beside-matrix K (suc m) k n (a ∷ A) (b ∷ B) ha hb =
+    (append-vector K k n a b ha.0 hb.0, beside-matrix K m k n A B ha.1 hb.1)
 
-left-beside : (K : Ops) (m k n : ℕ) (A B : List (List ℕ)) → Matrix K m k A → Matrix K m n B → map (take k) (beside A B) ≡ A
+left-beside : (K : Ops) (m k n : ℕ) (A B : List (List ℕ)) → Matrix K m k A → Matrix K m n B → map (take k) (beside A B)
+    ≡ A
 left-beside K zero k n [] B ha hb = refl
 left-beside K zero k n (a ∷ A) B ha hb = absurd ha
 left-beside K (suc m) k n [] B ha hb = absurd ha
 left-beside K (suc m) k n (a ∷ A) [] ha hb = absurd hb
-left-beside K (suc m) k n (a ∷ A) (b ∷ B) ha hb = ap₂ ◌∷◌ (take_at a b k (vector-size K k a ha.0)) (left-beside K m k n A B ha.1 hb.1)
+left-beside K (suc m) k n (a ∷ A) (b ∷ B) ha hb = ap₂ ◌∷◌ (take_at a b k (vector-size K k a ha.0))
+    (left-beside K m k n A B ha.1 hb.1)
 
-right-beside : (K : Ops) (m k n : ℕ) (A B : List (List ℕ)) → Matrix K m k A → Matrix K m n B → map (drop k) (beside A B) ≡ B
+right-beside : (K : Ops) (m k n : ℕ) (A B : List (List ℕ)) → Matrix K m k A → Matrix K m n B → map (drop k) (beside A B)
+    ≡ B
 right-beside K zero k n [] [] ha hb = refl
 right-beside K zero k n [] (b ∷ B) ha hb = absurd hb
 right-beside K zero k n (a ∷ A) B ha hb = absurd ha
 right-beside K (suc m) k n [] B ha hb = absurd ha
 right-beside K (suc m) k n (a ∷ A) [] ha hb = absurd hb
-right-beside K (suc m) k n (a ∷ A) (b ∷ B) ha hb = ap₂ ◌∷◌ (drop_at a b k (vector-size K k a ha.0)) (right-beside K m k n A B ha.1 hb.1)
+right-beside K (suc m) k n (a ∷ A) (b ∷ B) ha hb = ap₂ ◌∷◌ (drop_at a b k (vector-size K k a ha.0))
+    (right-beside K m k n A B ha.1 hb.1)
 
 drop-vector : (K : Ops) (k n : ℕ) (v : List ℕ) → Vector K (k + n) v → Vector K n (drop k v)
 drop-vector K zero n v h = let none : zero + n ≡ n = omega arith in subst (λ t. Vector K t v) none h
-drop-vector K (suc k) n [] h = let more : suc k + n ≡ suc (k + n) = omega arith in absurd (subst (λ t. Vector K t []) more h)
-drop-vector K (suc k) n (a ∷ v) h = let more : suc k + n ≡ suc (k + n) = omega arith in drop-vector K k n v (subst (λ t. Vector K t (a ∷ v)) more h).1
+drop-vector K (suc k) n [] h = let more : suc k + n ≡ suc (k + n) = omega arith in
+    absurd (subst (λ t. Vector K t []) more h)
+drop-vector K (suc k) n (a ∷ v) h = let more : suc k + n ≡ suc (k + n) = omega arith in
+    drop-vector K k n v (subst (λ t. Vector K t (a ∷ v)) more h).1
 
 right-matrix : (K : Ops) (m k n : ℕ) (M : List (List ℕ)) → Matrix K m (k + n) M → Matrix K m n (map (drop k) M)
 right-matrix K zero k n [] h = tt
@@ -63,7 +78,8 @@ units-shifted n i (suc m) = ap (λ t. (0 ∷ unit n i) ∷ t) (units-shifted n (
 identity-units : (n : ℕ) → identity n ≡ units n 0 n
 unfolding units
 identity-units zero = refl
-identity-units (suc n) = ap (λ t. (1 ∷ zeros n) ∷ t) (ap (map (λ row. 0 ∷ row)) (identity-units n) ∙ sym (units-shifted n 0 n))
+identity-units (suc n) = ap (λ t. (1 ∷ zeros n) ∷ t) (ap (map (λ row. 0 ∷ row)) (identity-units n)
+    ∙ sym (units-shifted n 0 n))
 
 start-units : (n i m : ℕ) (M : List (List ℕ)) → length M ≡ m → StartUnits n i M → map (take n) M ≡ units n i m
 unfolding units
@@ -73,17 +89,22 @@ start-units n i (suc m) [] e h = absurd (omega arith)
 start-units n i (suc m) (r ∷ M) e h = ap₂ ◌∷◌ h.0 (start-units n (suc i) m M (omega arith) h.1)
 
 -- rows that kill x give zero at x
-kills-image_of : (K : Ops) (M : List (List ℕ)) (x : List ℕ) (m : ℕ) → length M ≡ m → Annihilate K M x → image_of K M x ≡ zeros m
+kills-image_of : (K : Ops) (M : List (List ℕ)) (x : List ℕ) (m : ℕ) → length M ≡ m → Annihilate K M x
+    → image_of K M x ≡ zeros m
 kills-image_of K [] x zero e h = refl
 kills-image_of K [] x (suc m) e h = absurd (omega arith)
 kills-image_of K (r ∷ M) x zero e h = absurd (omega arith)
 kills-image_of K (r ∷ M) x (suc m) e h = ap₂ ◌∷◌ h.0 (kills-image_of K M x m (omega arith) h.1)
 
-image_of-kills : (K : Ops) (M : List (List ℕ)) (x : List ℕ) (m : ℕ) → length M ≡ m → image_of K M x ≡ zeros m → Annihilate K M x
+image_of-kills : (K : Ops) (M : List (List ℕ)) (x : List ℕ) (m : ℕ) → length M ≡ m → image_of K M x ≡ zeros m
+    → Annihilate K M x
 image_of-kills K [] x m e h = tt
 image_of-kills K (r ∷ M) x zero e h = absurd (omega arith)
-image_of-kills K (r ∷ M) x (suc m) e h =
-    (first (dot K r x) 0 (image_of K M x) (zeros m) h, image_of-kills K M x m (omega arith) (rest (dot K r x) 0 (image_of K M x) (zeros m) h))
+image_of-kills K (r ∷ M) x (suc m) e h = (
+  first (dot K r x) 0 (image_of K M x) (zeros m) h,
+  image_of-kills K M x m (omega arith)
+      (rest (dot K r x) 0 (image_of K M x) (zeros m) h),
+)
   where
     first : (a b : ℕ) (u v : List ℕ) → ◌≡◌ {A = List ℕ} (a ∷ u) (b ∷ v) → a ≡ b
     first a b u v e = cc
@@ -91,7 +112,8 @@ image_of-kills K (r ∷ M) x (suc m) e h =
     rest : (a b : ℕ) (u v : List ℕ) → ◌≡◌ {A = List ℕ} (a ∷ u) (b ∷ v) → u ≡ v
     rest a b u v e = cc
 
-each-kills : (K : Ops) (M : List (List ℕ)) (x : List ℕ) → ((i : ℕ) → i < length M → dot K (get_or M i []) x ≡ 0) → Annihilate K M x
+each-kills : (K : Ops) (M : List (List ℕ)) (x : List ℕ) → ((i : ℕ) → i < length M → dot K (get_or M i []) x ≡ 0)
+    → Annihilate K M x
 each-kills K [] x h = tt
 each-kills K (r ∷ M) x h = (h 0 (omega arith), each-kills K M x (λ i l. h (suc i) (omega arith)))
 
@@ -104,7 +126,8 @@ module _ (K : Ops) (h : IsField K) where
   image_of-halves (suc m) k n (r ∷ M) u v hm e =
       ap₂ ◌∷◌
       (ap (λ t. dot K t (u ++ v)) (sym (take-append-drop k r))
-      ∙ dot-append K h (take k r) u (drop k r) v (vector-size K k (take k r) (take-vector K (k + n) k r hm.0 (omega arith)) ∙ sym e))
+      ∙ dot-append K h (take k r) u (drop k r) v
+      (vector-size K k (take k r) (take-vector K (k + n) k r hm.0 (omega arith)) ∙ sym e))
       (image_of-halves m k n M u v hm.1 e)
 
   -- a unit vector picks a coordinate
@@ -114,7 +137,8 @@ module _ (K : Ops) (h : IsField K) where
   unit-dot (suc n) i [] hc = absurd hc
   unit-dot (suc n) zero (x ∷ c) hc = ap₂ K.add (one_mul K h x hc.0) (zeros-dot K h n c) ∙ h.add_zero x hc.0
   unit-dot (suc n) (suc i) (x ∷ c) hc =
-      ap (λ t. K.add t (dot K (unit n i) c)) (zero_mul K h x) ∙ zero_add K h (dot K (unit n i) c) (dot-below K h (unit n i) c) ∙ unit-dot n i c hc.1
+      ap (λ t. K.add t (dot K (unit n i) c)) (zero_mul K h x)
+      ∙ zero_add K h (dot K (unit n i) c) (dot-below K h (unit n i) c) ∙ unit-dot n i c hc.1
 
   module _ (n : ℕ) (A : List (List ℕ)) (ha : Matrix K n n A) where
     double : n + n ≡ 2 * n
@@ -124,10 +148,13 @@ module _ (K : Ops) (h : IsField K) where
     joined = beside-matrix K n n n A (identity n) ha (identity-matrix K h n)
 
     -- what the joined rows do, before
-    joined-image_of : (u v : List ℕ) → Vector K n u → Vector K n v → image_of K (beside A (identity n)) (u ++ v) ≡ plus K (image_of K A u) v
+    joined-image_of : (u v : List ℕ) → Vector K n u → Vector K n v → image_of K (beside A (identity n)) (u ++ v)
+        ≡ plus K (image_of K A u) v
     joined-image_of u v hu hv =
         image_of-halves n n n (beside A (identity n)) u v joined (vector-size K n u hu)
-        ∙ ap₂ (λ L R. plus K (image_of K L u) (image_of K R v)) (left-beside K n n n A (identity n) ha (identity-matrix K h n)) (right-beside K n n n A (identity n) ha (identity-matrix K h n))
+        ∙ ap₂ (λ L R. plus K (image_of K L u) (image_of K R v))
+        (left-beside K n n n A (identity n) ha (identity-matrix K h n))
+        (right-beside K n n n A (identity n) ha (identity-matrix K h n))
         ∙ ap (plus K (image_of K A u)) (identity-image_of K h n v hv)
 
     module _ (M : List (List ℕ)) (cleared : HasUnitColumns K n n (beside A (identity n)) M) where
@@ -138,23 +165,29 @@ module _ (K : Ops) (h : IsField K) where
       inverse-matrix = right-matrix K n n n M rows
 
       -- and after
-      cleared-image_of : (u v : List ℕ) → Vector K n u → image_of K M (u ++ v) ≡ plus K u (image_of K (map (drop n) M) v)
+      cleared-image_of : (u v : List ℕ) → Vector K n u → image_of K M (u ++ v)
+          ≡ plus K u (image_of K (map (drop n) M) v)
       cleared-image_of u v hu =
           image_of-halves n n n M u v rows (vector-size K n u hu)
           ∙ ap (λ t. plus K t (image_of K (map (drop n) M) v))
-          (ap (λ L. image_of K L u) (start-units n 0 n M (matrix-size K n (n + n) M rows) cleared.units ∙ sym (identity-units n)) ∙ identity-image_of K h n u hu)
+          (ap (λ L. image_of K L u) (start-units n 0 n M (matrix-size K n (n + n) M rows) cleared.units
+          ∙ sym (identity-units n)) ∙ identity-image_of K h n u hu)
 
-      forth : (u v : List ℕ) → Vector K n u → Vector K n v → plus K (image_of K A u) v ≡ zeros n → plus K u (image_of K (map (drop n) M) v) ≡ zeros n
+      forth : (u v : List ℕ) → Vector K n u → Vector K n v → plus K (image_of K A u) v ≡ zeros n
+          → plus K u (image_of K (map (drop n) M) v) ≡ zeros n
       forth u v hu hv e =
           sym (cleared-image_of u v hu)
           ∙ kills-image_of K M (u ++ v) n (matrix-size K n (n + n) M rows)
-          (cleared.there (u ++ v) (image_of-kills K (beside A (identity n)) (u ++ v) n (matrix-size K n (n + n) (beside A (identity n)) joined) (joined-image_of u v hu hv ∙ e)))
+          (cleared.there (u ++ v) (image_of-kills K (beside A (identity n)) (u ++ v) n
+          (matrix-size K n (n + n) (beside A (identity n)) joined) (joined-image_of u v hu hv ∙ e)))
 
-      back : (u v : List ℕ) → Vector K n u → Vector K n v → plus K u (image_of K (map (drop n) M) v) ≡ zeros n → plus K (image_of K A u) v ≡ zeros n
+      back : (u v : List ℕ) → Vector K n u → Vector K n v → plus K u (image_of K (map (drop n) M) v) ≡ zeros n
+          → plus K (image_of K A u) v ≡ zeros n
       back u v hu hv e =
           sym (joined-image_of u v hu hv)
           ∙ kills-image_of K (beside A (identity n)) (u ++ v) n (matrix-size K n (n + n) (beside A (identity n)) joined)
-          (cleared.back (u ++ v) (image_of-kills K M (u ++ v) n (matrix-size K n (n + n) M rows) (cleared-image_of u v hu ∙ e)))
+          (cleared.back (u ++ v) (image_of-kills K M (u ++ v) n (matrix-size K n (n + n) M rows)
+          (cleared-image_of u v hu ∙ e)))
 
       left-acts : (v : List ℕ) → Vector K n v → v ≡ image_of K (map (drop n) M) (image_of K A v)
       left-acts v hv =
@@ -179,10 +212,13 @@ module _ (K : Ops) (h : IsField K) where
           let one : Matrix K n n (identity n) = identity-matrix K h n in
           record {
             shape = from_matrix K n n B inverse-matrix;
-            left = matrix-ext K h n n (product K n B A) (identity n) (product-matrix K h n n n B A inverse-matrix ha) one
+            left = matrix-ext K h n n (product K n B A) (identity n) (product-matrix K h n n n B A inverse-matrix ha)
+                one
                 (λ v hv. product-image_of K h n n B A v ha ∙ sym (left-acts v hv) ∙ sym (identity-image_of K h n v hv));
-            right = matrix-ext K h n n (product K n A B) (identity n) (product-matrix K h n n n A B ha inverse-matrix) one
-                (λ v hv. product-image_of K h n n A B v inverse-matrix ∙ sym (right-acts v hv) ∙ sym (identity-image_of K h n v hv));
+            right = matrix-ext K h n n (product K n A B) (identity n) (product-matrix K h n n n A B ha inverse-matrix)
+                one
+                (λ v hv. product-image_of K h n n A B v inverse-matrix ∙ sym (right-acts v hv)
+                ∙ sym (identity-image_of K h n v hv));
           }
 
     module _ (j : ℕ) (M : List (List ℕ)) (stuck : HasNoPivot K n j (beside A (identity n)) M) where
@@ -195,7 +231,8 @@ module _ (K : Ops) (h : IsField K) where
 
       above-size : length above ≡ j
       unfolding above
-      above-size = length-map (take j M) (λ row. K.neg (get_or row j 0)) ∙ length-take-le j M (omega (arith, matrix-size K n (2 * n) M stuck-rows, stuck.inside))
+      above-size = length-map (take j M) (λ row. K.neg (get_or row j 0))
+          ∙ length-take-le j M (omega (arith, matrix-size K n (2 * n) M stuck-rows, stuck.inside))
 
       above-vector : Vector K j above
       unfolding above
@@ -210,20 +247,28 @@ module _ (K : Ops) (h : IsField K) where
       tail = n - 1 - j
 
       -- a row at the vector
-      row-at : (r : List ℕ) → Vector K (2 * n) r → dot K r ((above ++ 1 ∷ zeros (n - 1 - j)) ++ zeros n) ≡ K.add (dot K (take j r) above) (get_or r j 0)
+      row-at : (r : List ℕ) → Vector K (2 * n) r → dot K r ((above ++ 1 ∷ zeros (n - 1 - j)) ++ zeros n)
+          ≡ K.add (dot K (take j r) above) (get_or r j 0)
       row-at r hr =
           let a : ℕ = get_or r j 0 in
           let later : List ℕ = drop (j + 1) r in
           let t : List ℕ = zeros (n - 1 - j) ++ zeros n in
           let size : length r ≡ 2 * n = vector-size K (2 * n) r hr in
-          let front : length (take j r) ≡ length above = vector-size K j (take j r) (take-vector K (2 * n) j r hr (omega (arith, stuck.inside))) ∙ sym above-size in
-          let low : a < K.order = All-get_or (λ b. b < K.order) r j 0 (omega (arith, size, stuck.inside)) (vector-scalars K (2 * n) r hr) in
-          ap₂ (dot K) (sym (take-append-drop j r) ∙ ap (λ s. take j r ++ s) (drop_more r j 0 (omega (arith, size, stuck.inside)))) (append_assoc above (1 ∷ zeros (n - 1 - j)) (zeros n))
+          let front : length (take j r) ≡ length above =
+          vector-size K j (take j r) (take-vector K (2 * n) j r hr (omega (arith, stuck.inside)))
+          ∙ sym above-size in
+          let low : a < K.order = All-get_or (λ b. b < K.order) r j 0 (omega (arith, size, stuck.inside))
+          (vector-scalars K (2 * n) r hr) in
+          ap₂ (dot K) (sym (take-append-drop j r)
+          ∙ ap (λ s. take j r ++ s) (drop_more r j 0 (omega (arith, size, stuck.inside))))
+          (append_assoc above (1 ∷ zeros (n - 1 - j)) (zeros n))
           ∙ dot-append K h (take j r) above (a ∷ later) (1 ∷ t) front
           ∙ ap (K.add (dot K (take j r) above))
-          (ap₂ K.add (h.mul_one a low) (ap (dot K later) (sym (zeros-append (n - 1 - j) n)) ∙ dot-zeros K h ((n - 1 - j) + n) later) ∙ h.add_zero a low)
+          (ap₂ K.add (h.mul_one a low) (ap (dot K later) (sym (zeros-append (n - 1 - j) n))
+          ∙ dot-zeros K h ((n - 1 - j) + n) later) ∙ h.add_zero a low)
 
-      each-row : (i : ℕ) → i < n → (i < j) ⊎ (j ≤ i) → dot K (get_or M i []) ((above ++ 1 ∷ zeros (n - 1 - j)) ++ zeros n) ≡ 0
+      each-row : (i : ℕ) → i < n → (i < j) ⊎ (j ≤ i)
+          → dot K (get_or M i []) ((above ++ 1 ∷ zeros (n - 1 - j)) ++ zeros n) ≡ 0
       unfolding above
       each-row i l (inl low) =
           let r : List ℕ = get_or M i [] in
@@ -233,7 +278,13 @@ module _ (K : Ops) (h : IsField K) where
           ∙ ap (λ t. K.add t a)
           (ap (λ t. dot K t above) (units-at j 0 i M stuck.so_far.units in_M ∙ ap (unit j) (omega arith))
           ∙ unit-dot j i above above-vector
-          ∙ get_or-map (λ row. K.neg (get_or row j 0)) (take j M) i [] 0 (omega (arith, length-take-le j M (omega (arith, in_M)), stuck.inside, matrix-size K n (2 * n) M stuck-rows))
+          ∙ get_or-map (λ row. K.neg (get_or row j 0)) (take j M) i [] 0
+          (omega (
+            arith,
+            length-take-le j M (omega (arith, in_M)),
+            stuck.inside,
+            matrix-size K n (2 * n) M stuck-rows,
+          ))
           ∙ ap (λ s. K.neg (get_or s j 0)) (get_or-take j M i [] low))
           ∙ neg_add K h a
       each-row i l (inr high) =
@@ -245,7 +296,8 @@ module _ (K : Ops) (h : IsField K) where
           ∙ stuck.zero (i - j) [] (omega (arith, length-drop j M)) in
           row-at r (row-vector K n (2 * n) M i stuck-rows l)
           ∙ ap₂ K.add
-          (ap (λ t. dot K t above) (units-at j 0 i M stuck.so_far.units in_M ∙ unit-past j (0 + i) (omega arith)) ∙ zeros-dot K h j above)
+          (ap (λ t. dot K t above) (units-at j 0 i M stuck.so_far.units in_M ∙ unit-past j (0 + i) (omega arith))
+          ∙ zeros-dot K h j above)
           none
           ∙ h.add_zero 0 (zero_below K h)
 
@@ -254,7 +306,9 @@ module _ (K : Ops) (h : IsField K) where
       stuck-kernel =
           let v : List ℕ = above ++ 1 ∷ zeros (n - 1 - j) in
           let size : j + suc (n - 1 - j) ≡ n = omega (arith, stuck.inside) in
-          let hv : Vector K n v = subst (λ k. Vector K k v) size (append-vector K j (suc (n - 1 - j)) above (1 ∷ zeros (n - 1 - j)) above-vector (one_below K h, zeros-vector K h (n - 1 - j))) in
+          let hv : Vector K n v = subst (λ k. Vector K k v) size
+          (append-vector K j (suc (n - 1 - j)) above (1 ∷ zeros (n - 1 - j)) above-vector
+          (one_below K h, zeros-vector K h (n - 1 - j))) in
           let one : get_or v j 0 ≡ 1 =
           ap (λ k. get_or v k 0) (sym above-size ∙ omega arith) ∙ get_or-append-add above (1 ∷ zeros (n - 1 - j)) 0 0 in
           let before : List (List ℕ) = beside A (identity n) in
@@ -268,7 +322,8 @@ module _ (K : Ops) (h : IsField K) where
                 ∙ sym (joined-image_of v (zeros n) hv (zeros-vector K h n))
                 ∙ kills-image_of K before (v ++ zeros n) n (matrix-size K n (n + n) before joined)
                 (stuck.so_far.back (v ++ zeros n)
-                (each-kills K M (v ++ zeros n) (λ i l. each-row i (omega (arith, matrix-size K n (2 * n) M stuck-rows)) (cases_lt i j))));
+                (each-kills K M (v ++ zeros n) (λ i l. each-row i (omega (arith, matrix-size K n (2 * n) M stuck-rows))
+                (cases_lt i j))));
           }
 
     -- a matrix with a vector in its kernel has no inverse

@@ -1,5 +1,7 @@
 -- The loops of an inversion, and what its steps make together.
-use Rattle.std.proofs.Common.{◌≡◌, ◌≢◌, ℕ, zero, suc, ◌+◌, ◌-◌, ◌*◌, ◌<◌, List, [], ◌∷◌, ◌++◌, length, map, take, drop, get_or, refl, sym, ap, ap₂, ◌∙◌, subst, subst₂, arith, append_assoc, length-append, length-drop}
+use Rattle.std.proofs.Common.{◌≡◌, ◌≢◌, ℕ, zero, suc, ◌+◌, ◌-◌, ◌*◌, ◌<◌, List, [], ◌∷◌, ◌++◌, length, map, take, drop}
+use Rattle.std.proofs.Common.{get_or, refl, sym, ap, ap₂, ◌∙◌, subst, subst₂, arith, append_assoc, length-append}
+use Rattle.std.proofs.Common.{length-drop}
 use Rattle.std.proofs.lemmas.List.{take_at, drop-drop, drop-take, map_more, get_or-map, length-map, length-take-le}
 use Rattle.std.proofs.lemmas.List.Elements.{All-get_or}
 use Rattle.std.specs.List.{refill}
@@ -13,7 +15,8 @@ use Rattle.dense_blocks.specs.declared.block.Block.{Block}
 use Rattle.dense_blocks.proofs.ScalarLaws.{one_below, zero_mul}
 use Rattle.dense_blocks.proofs.Shapes.{Matrix, to_matrix, from_matrix, from_vector}
 use Rattle.dense_blocks.proofs.MatrixLaws.{identity-matrix}
-use Rattle.dense_blocks.proofs.Cutting.{Sized, sized-size, sized-identity, cut-size, cut-row, first_rows, first_rows-next, identity-row}
+use Rattle.dense_blocks.proofs.Cutting.{Sized, sized-size, sized-identity, cut-size, cut-row, first_rows}
+use Rattle.dense_blocks.proofs.Cutting.{first_rows-next, identity-row}
 use Rattle.dense_blocks.proofs.BlockLaws.{block-matrix_at, is_block-scalars}
 use Rattle.dense_blocks.proofs.ClearingLaws.{cut-at, cut-scalars}
 use Rattle.dense_blocks.proofs.InverseLaws.{beside-matrix, cleared-inverse, stuck-kernel, kernel-no_inverse}
@@ -24,16 +27,19 @@ refilled items ws e = take_at ws (drop (length ws) items) (length items) e
 
 sized-cut : (m n : ℕ) (xs : List ℕ) → length xs ≡ m * n → Sized m n (cut m n xs)
 sized-cut zero n xs e = tt
-sized-cut (suc m) n xs e = (length-take-le n xs (omega arith), sized-cut m n (drop n xs) (omega (arith, length-drop n xs)))
+sized-cut (suc m) n xs e =
+    (length-take-le n xs (omega arith), sized-cut m n (drop n xs) (omega (arith, length-drop n xs)))
 
 sized-beside : (m k n : ℕ) (A B : List (List ℕ)) → Sized m k A → Sized m n B → Sized m (k + n) (beside A B)
 sized-beside zero k n [] B ha hb = tt
 sized-beside zero k n (a ∷ A) B ha hb = absurd ha
 sized-beside (suc m) k n [] B ha hb = absurd ha
 sized-beside (suc m) k n (a ∷ A) [] ha hb = absurd hb
-sized-beside (suc m) k n (a ∷ A) (b ∷ B) ha hb = (length-append a b ∙ ap₂ (λ x y. x + y) ha.0 hb.0, sized-beside m k n A B ha.1 hb.1)
+sized-beside (suc m) k n (a ∷ A) (b ∷ B) ha hb =
+    (length-append a b ∙ ap₂ (λ x y. x + y) ha.0 hb.0, sized-beside m k n A B ha.1 hb.1)
 
-beside-row : (m k n i : ℕ) (A B : List (List ℕ)) → Sized m k A → Sized m n B → i < m → get_or (beside A B) i [] ≡ get_or A i [] ++ get_or B i []
+beside-row : (m k n i : ℕ) (A B : List (List ℕ)) → Sized m k A → Sized m n B → i < m → get_or (beside A B) i []
+    ≡ get_or A i [] ++ get_or B i []
 beside-row zero k n i A B ha hb l = absurd (omega arith)
 beside-row (suc m) k n i [] B ha hb l = absurd ha
 beside-row (suc m) k n i (a ∷ A) [] ha hb l = absurd hb
@@ -44,7 +50,8 @@ sized-right : (m k n : ℕ) (M : List (List ℕ)) → Sized m (k + n) M → Size
 sized-right zero k n [] h = tt
 sized-right zero k n (r ∷ M) h = absurd h
 sized-right (suc m) k n [] h = absurd h
-sized-right (suc m) k n (r ∷ M) h = let size : length r ≡ k + n = h.0 in (length-drop k r ∙ omega arith, sized-right m k n M h.1)
+sized-right (suc m) k n (r ∷ M) h = let size : length r ≡ k + n = h.0 in
+    (length-drop k r ∙ omega arith, sized-right m k n M h.1)
 
 -- the rows of a block, each with that of the identity behind it
 sized-block : (a : Block) → a.rows ≡ a.cols → Sized a.rows a.rows (matrix_of a)
@@ -56,14 +63,17 @@ sized-joined a square =
     subst (λ k. Sized a.rows k (beside (matrix_of a) (identity a.rows))) double
     (sized-beside a.rows a.rows a.rows (matrix_of a) (identity a.rows) (sized-block a square) (sized-identity a.rows))
 
-pub joined-next : (a : Block) (i : ℕ) (xs row x1 x2 x3 x4 : List ℕ) → i < a.rows → a.rows ≡ a.cols → xs ≡ first_rows i (beside (matrix_of a) (identity a.rows))
-    → row ≡ get_or (matrix_of a) i [] → x1 ≡ xs ++ row → x2 ≡ x1 ++ zeros i → x3 ≡ x2 ++ 1 ∷ [] → x4 ≡ x3 ++ zeros (a.rows - 1 - i)
+pub joined-next : (a : Block) (i : ℕ) (xs row x1 x2 x3 x4 : List ℕ) → i < a.rows → a.rows ≡ a.cols
+    → xs ≡ first_rows i (beside (matrix_of a) (identity a.rows))
+    → row ≡ get_or (matrix_of a) i [] → x1 ≡ xs ++ row → x2 ≡ x1 ++ zeros i → x3 ≡ x2 ++ 1 ∷ []
+    → x4 ≡ x3 ++ zeros (a.rows - 1 - i)
     → x4 ≡ first_rows (i + 1) (beside (matrix_of a) (identity a.rows))
 joined-next a i xs row x1 x2 x3 x4 l square now is_row e1 e2 e3 e4 =
     let n : ℕ = a.rows in
     let J : List (List ℕ) = beside (matrix_of a) (identity n) in
     let unit_row : List ℕ = zeros i ++ 1 ∷ zeros (n - 1 - i) in
-    let pushed : x4 ≡ (((xs ++ row) ++ zeros i) ++ 1 ∷ []) ++ zeros (n - 1 - i) = e4 ∙ ap (λ t. t ++ zeros (n - 1 - i)) (e3 ∙ ap (λ t. t ++ 1 ∷ []) (e2 ∙ ap (λ t. t ++ zeros i) e1)) in
+    let pushed : x4 ≡ (((xs ++ row) ++ zeros i) ++ 1 ∷ []) ++ zeros (n - 1 - i) = e4
+    ∙ ap (λ t. t ++ zeros (n - 1 - i)) (e3 ∙ ap (λ t. t ++ 1 ∷ []) (e2 ∙ ap (λ t. t ++ zeros i) e1)) in
     pushed
     ∙ append_assoc ((xs ++ row) ++ zeros i) (1 ∷ []) (zeros (n - 1 - i))
     ∙ append_assoc (xs ++ row) (zeros i) (1 ∷ zeros (n - 1 - i))
@@ -77,7 +87,8 @@ joined-next a i xs row x1 x2 x3 x4 l square now is_row e1 e2 e3 e4 =
 pub sized-half : (n : ℕ) (rows : List ℕ) → length rows ≡ n * (2 * n) → Sized n n (map (drop n) (cut n (2 * n) rows))
 sized-half n rows e =
     let double : 2 * n ≡ n + n = omega arith in
-    sized-right n n n (cut n (2 * n) rows) (subst (λ k. Sized n k (cut n (2 * n) rows)) double (sized-cut n (2 * n) rows e))
+    sized-right n n n (cut n (2 * n) rows)
+    (subst (λ k. Sized n k (cut n (2 * n) rows)) double (sized-cut n (2 * n) rows e))
 
 pub half-next : (n i : ℕ) (rows xs more : List ℕ) → i < n → xs ≡ first_rows i (map (drop n) (cut n (2 * n) rows))
     → more ≡ xs ++ take ((i * (2 * n) + n + n) - (i * (2 * n) + n)) (drop (i * (2 * n) + n) rows)
@@ -98,33 +109,39 @@ half-next n i rows xs more l now is_more =
 
 -- one more entry of the vector in the kernel
 pub undoing-next : (K : Ops) (n j i : ℕ) (rows v more : List ℕ) (x : ℕ) → i < n → j < 2 * n
-    → v ≡ map (λ row. K.neg (get_or row j 0)) (take i (cut n (2 * n) rows)) → x ≡ K.neg (get_or rows (i * (2 * n) + j) 0) → more ≡ v ++ x ∷ []
+    → v ≡ map (λ row. K.neg (get_or row j 0)) (take i (cut n (2 * n) rows))
+    → x ≡ K.neg (get_or rows (i * (2 * n) + j) 0) → more ≡ v ++ x ∷ []
     → more ≡ map (λ row. K.neg (get_or row j 0)) (take (i + 1) (cut n (2 * n) rows))
 undoing-next K n j i rows v more x li lj now is_x is_more =
     is_more
     ∙ ap₂ (λ t y. t ++ y ∷ []) now (is_x ∙ ap K.neg (sym (cut-at n (2 * n) i j rows li lj)))
-    ∙ sym (map_more (λ row. K.neg (get_or row j 0)) (cut n (2 * n) rows) i [] (omega (arith, li, cut-size n (2 * n) rows)))
+    ∙ sym (map_more (λ row. K.neg (get_or row j 0)) (cut n (2 * n) rows) i []
+    (omega (arith, li, cut-size n (2 * n) rows)))
 
 module _ (K : Ops) (h : IsField K) (a : Block) (square : a.rows ≡ a.cols) (scalars : AllScalars K a.entries) where
   own : Matrix K a.rows a.rows (matrix_of a)
   own = block-matrix_at K a a.rows a.rows refl (sym square) scalars
 
-  pub joined-scalars : (start : List ℕ) → length start ≡ a.rows * (2 * a.rows) → cut a.rows (2 * a.rows) start ≡ beside (matrix_of a) (identity a.rows) → AllScalars K start
+  pub joined-scalars : (start : List ℕ) → length start ≡ a.rows * (2 * a.rows) → cut a.rows (2 * a.rows) start
+      ≡ beside (matrix_of a) (identity a.rows) → AllScalars K start
   joined-scalars start full is =
       let n : ℕ = a.rows in
       let double : n + n ≡ 2 * n = omega arith in
       cut-scalars K n (2 * n) start full
       (subst (Matrix K n (2 * n)) (sym is)
-      (subst (λ k. Matrix K n k (beside (matrix_of a) (identity n))) double (beside-matrix K n n n (matrix_of a) (identity n) own (identity-matrix K h n))))
+      (subst (λ k. Matrix K n k (beside (matrix_of a) (identity n))) double
+      (beside-matrix K n n n (matrix_of a) (identity n) own (identity-matrix K h n))))
 
-  pub block-inverse : (b : Block) (start rows shown : List ℕ) → cut a.rows (2 * a.rows) start ≡ beside (matrix_of a) (identity a.rows)
+  pub block-inverse : (b : Block) (start rows shown : List ℕ) → cut a.rows (2 * a.rows) start ≡ beside (matrix_of a)
+      (identity a.rows)
       → HasUnitColumns K a.rows a.rows (cut a.rows (2 * a.rows) start) (cut a.rows (2 * a.rows) rows) → shown ≡ rows
       → IsBlock b a.rows a.rows (map (drop a.rows) (cut a.rows (2 * a.rows) shown)) → IsInverseBlock K a b
   block-inverse b start rows shown is cleared is_shown block =
       let n : ℕ = a.rows in
       let B : List (List ℕ) = map (drop n) (cut n (2 * n) rows) in
       let inverse : IsInverse K n (matrix_of a) B =
-      cleared-inverse K h n (matrix_of a) own (cut n (2 * n) rows) (subst (λ J. HasUnitColumns K n n J (cut n (2 * n) rows)) is cleared) in
+      cleared-inverse K h n (matrix_of a) own (cut n (2 * n) rows)
+      (subst (λ J. HasUnitColumns K n n J (cut n (2 * n) rows)) is cleared) in
       let has : IsBlock b n n B = subst (λ t. IsBlock b n n (map (drop n) (cut n (2 * n) t))) is_shown block in
       record {
         rows_are = has.rows_are;
@@ -133,7 +150,8 @@ module _ (K : Ops) (h : IsField K) (a : Block) (square : a.rows ≡ a.cols) (sca
         inverse = subst (IsInverse K n (matrix_of a)) (sym has.matrix_is) inverse;
       }
 
-  pub block-kernel : (j : ℕ) (start rows shown v : List ℕ) → cut a.rows (2 * a.rows) start ≡ beside (matrix_of a) (identity a.rows)
+  pub block-kernel : (j : ℕ) (start rows shown v : List ℕ) → cut a.rows (2 * a.rows) start ≡ beside (matrix_of a)
+      (identity a.rows)
       → HasNoPivot K a.rows j (cut a.rows (2 * a.rows) start) (cut a.rows (2 * a.rows) rows) → shown ≡ rows
       → v ≡ undoing K a.rows j (cut a.rows (2 * a.rows) shown)
       → InKernel K a.rows (matrix_of a) v × ((B : List (List ℕ)) → IsInverse K a.rows (matrix_of a) B → ⊥)
@@ -141,22 +159,27 @@ module _ (K : Ops) (h : IsField K) (a : Block) (square : a.rows ≡ a.cols) (sca
       let n : ℕ = a.rows in
       let kernel : InKernel K n (matrix_of a) v =
       subst (InKernel K n (matrix_of a)) (sym (is_v ∙ ap (λ t. undoing K n j (cut n (2 * n) t)) is_shown))
-      (stuck-kernel K h n (matrix_of a) own j (cut n (2 * n) rows) (subst (λ J. HasNoPivot K n j J (cut n (2 * n) rows)) is stuck)) in
+      (stuck-kernel K h n (matrix_of a) own j (cut n (2 * n) rows)
+      (subst (λ J. HasNoPivot K n j J (cut n (2 * n) rows)) is stuck)) in
       (kernel, λ B inverse. kernel-no_inverse K h n (matrix_of a) own v B kernel inverse)
 
 -- a block of one entry
-module _ (K : Ops) (h : IsField K) (a : Block) (one : a.rows ≡ 1) (square : a.rows ≡ a.cols) (scalars : AllScalars K a.entries) where
+module _ (K : Ops) (h : IsField K) (a : Block) (one : a.rows ≡ 1) (square : a.rows ≡ a.cols)
+    (scalars : AllScalars K a.entries) where
   one-matrix : matrix_of a ≡ (get_or a.entries 0 0 ∷ []) ∷ []
-  one-matrix = ap₂ (λ m n. cut m n a.entries) one (sym square ∙ one) ∙ ap (λ r. r ∷ []) (single a.entries (a.full ∙ ap₂ (λ m n. m * n) one (sym square ∙ one)))
+  one-matrix = ap₂ (λ m n. cut m n a.entries) one (sym square ∙ one)
+      ∙ ap (λ r. r ∷ []) (single a.entries (a.full ∙ ap₂ (λ m n. m * n) one (sym square ∙ one)))
     where
       single : (xs : List ℕ) → length xs ≡ 1 → take 1 xs ≡ get_or xs 0 0 ∷ []
       single [] e = absurd (omega arith)
       single (x ∷ xs) e = refl
 
   pub one-scalar : get_or a.entries 0 0 < K.order
-  one-scalar = All-get_or (λ x. x < K.order) a.entries 0 0 (omega (arith, a.full ∙ ap₂ (λ m n. m * n) one (sym square ∙ one))) scalars
+  one-scalar = All-get_or (λ x. x < K.order) a.entries 0 0
+      (omega (arith, a.full ∙ ap₂ (λ m n. m * n) one (sym square ∙ one))) scalars
 
-  pub one-inverse : (b : Block) (y : ℕ) → get_or a.entries 0 0 ≢ 0 → y ≡ K.inv (get_or a.entries 0 0) → IsBlock b 1 1 (cut 1 1 (y ∷ [])) → IsInverseBlock K a b
+  pub one-inverse : (b : Block) (y : ℕ) → get_or a.entries 0 0 ≢ 0 → y ≡ K.inv (get_or a.entries 0 0)
+      → IsBlock b 1 1 (cut 1 1 (y ∷ [])) → IsInverseBlock K a b
   one-inverse b y not is_y has =
       let x : ℕ = get_or a.entries 0 0 in
       let B : List (List ℕ) = (y ∷ []) ∷ [] in
@@ -171,10 +194,12 @@ module _ (K : Ops) (h : IsField K) (a : Block) (one : a.rows ≡ 1) (square : a.
         rows_are = has.rows_are ∙ sym one;
         columns_are = has.columns_are ∙ sym one ∙ square;
         scalars = is_block-scalars K b 1 1 B ((low, tt), tt) has;
-        inverse = subst (λ n. IsInverse K n (matrix_of a) (matrix_of b)) (sym one) (subst₂ (IsInverse K 1) (sym one-matrix) (sym has.matrix_is) inverse);
+        inverse = subst (λ n. IsInverse K n (matrix_of a) (matrix_of b)) (sym one)
+            (subst₂ (IsInverse K 1) (sym one-matrix) (sym has.matrix_is) inverse);
       }
 
-  pub one-kernel : (v : List ℕ) → get_or a.entries 0 0 ≡ 0 → v ≡ 1 ∷ [] → InKernel K a.rows (matrix_of a) v × ((B : List (List ℕ)) → IsInverse K a.rows (matrix_of a) B → ⊥)
+  pub one-kernel : (v : List ℕ) → get_or a.entries 0 0 ≡ 0 → v ≡ 1 ∷ [] → InKernel K a.rows (matrix_of a) v
+      × ((B : List (List ℕ)) → IsInverse K a.rows (matrix_of a) B → ⊥)
   one-kernel v none is_v =
       let x : ℕ = get_or a.entries 0 0 in
       let at_one : InKernel K 1 ((x ∷ []) ∷ []) (1 ∷ []) = record {
@@ -183,5 +208,8 @@ module _ (K : Ops) (h : IsField K) (a : Block) (one : a.rows ≡ 1) (square : a.
         zero = ap (λ t. t ∷ []) (h.add_zero (K.mul x 1) (h.mul_below x 1) ∙ ap (λ t. K.mul t 1) none ∙ zero_mul K h 1);
       } in
       let kernel : InKernel K a.rows (matrix_of a) v =
-      subst (λ n. InKernel K n (matrix_of a) v) (sym one) (subst₂ (InKernel K 1) (sym one-matrix) (sym is_v) at_one) in
-      (kernel, λ B inverse. kernel-no_inverse K h a.rows (matrix_of a) (block-matrix_at K a a.rows a.rows refl (sym square) scalars) v B kernel inverse)
+      subst (λ n. InKernel K n (matrix_of a) v) (sym one) (subst₂ (InKernel K 1) (sym one-matrix) (sym is_v) at_one) in (
+        kernel,
+        λ B inverse. kernel-no_inverse K h a.rows (matrix_of a)
+            (block-matrix_at K a a.rows a.rows refl (sym square) scalars) v B kernel inverse,
+      )

@@ -1,5 +1,6 @@
 -- What earlier vectors and earlier coordinates give, under reductions.
-use Rattle.std.proofs.Common.{◌≡◌, ◌≢◌, ℕ, zero, suc, ◌<◌, ◌≤◌, List, [], ◌∷◌, take, get_or, All, refl, sym, ap, ap₂, ◌∙◌, subst, arith}
+use Rattle.std.proofs.Common.{◌≡◌, ◌≢◌, ℕ, zero, suc, ◌<◌, ◌≤◌, List, [], ◌∷◌, take, get_or, All, refl, sym, ap, ap₂}
+use Rattle.std.proofs.Common.{◌∙◌, subst, arith}
 use Rattle.std.proofs.lemmas.List.{take-map}
 use Rattle.std.proofs.lemmas.List.Elements.{All-head, All-tail}
 use Rattle.dense_blocks.specs.Field.{Ops, IsField}
@@ -8,11 +9,14 @@ use Rattle.dense_blocks.specs.Elimination.{IsPivot, pivot_multiple, pivot_remain
 use Rattle.dense_blocks.specs.declared.solving.Pivot.{Pivot}
 use Rattle.dense_blocks.proofs.ScalarLaws.{add_mul, neg_of_sum, mul_neg}
 use Rattle.dense_blocks.proofs.Shapes.{Vector, Matrix, to_vector, vector-size}
-use Rattle.dense_blocks.proofs.VectorLaws.{multiple-vector, plus-cross, zeros-plus-zeros, multiple-plus, multiple-add, multiple-mul, multiple-zeros, combination-vector, dot-zeros, dot-plus, dot-multiple}
+use Rattle.dense_blocks.proofs.VectorLaws.{multiple-vector, plus-cross, zeros-plus-zeros, multiple-plus, multiple-add}
+use Rattle.dense_blocks.proofs.VectorLaws.{multiple-mul, multiple-zeros, combination-vector, dot-zeros, dot-plus}
+use Rattle.dense_blocks.proofs.VectorLaws.{dot-multiple}
 use Rattle.dense_blocks.proofs.RowSteps.{multiple-at}
 use Rattle.dense_blocks.proofs.Reductions.{cleared-vector, cleared-zeros}
 
-pub plus-at : (K : Ops) (n i : ℕ) (u v : List ℕ) → Vector K n u → Vector K n v → i < n → get_or (plus K u v) i 0 ≡ K.add (get_or u i 0) (get_or v i 0)
+pub plus-at : (K : Ops) (n i : ℕ) (u v : List ℕ) → Vector K n u → Vector K n v → i < n → get_or (plus K u v) i 0
+    ≡ K.add (get_or u i 0) (get_or v i 0)
 plus-at K zero i u v hu hv l = absurd (omega arith)
 plus-at K (suc n) i [] v hu hv l = absurd hu
 plus-at K (suc n) i (a ∷ u) [] hu hv l = absurd hv
@@ -33,24 +37,31 @@ take-vector K (suc n) (suc i) (a ∷ u) hu l = (hu.0, take-vector K n i u hu.1 (
 
 module _ (K : Ops) (h : IsField K) where
   -- reductions are linear
-  part-plus : (n : ℕ) (p : Pivot) (u v : List ℕ) → IsPivot K n p → Vector K n u → Vector K n v → pivot_multiple K p (plus K u v) ≡ K.add (pivot_multiple K p u) (pivot_multiple K p v)
+  part-plus : (n : ℕ) (p : Pivot) (u v : List ℕ) → IsPivot K n p → Vector K n u → Vector K n v
+      → pivot_multiple K p (plus K u v) ≡ K.add (pivot_multiple K p u) (pivot_multiple K p v)
   part-plus n p u v fit hu hv =
-      ap (λ t. K.mul t p.inverse) (plus-at K n p.place u v hu hv fit.place) ∙ add_mul K h (get_or u p.place 0) (get_or v p.place 0) p.inverse
+      ap (λ t. K.mul t p.inverse) (plus-at K n p.place u v hu hv fit.place)
+      ∙ add_mul K h (get_or u p.place 0) (get_or v p.place 0) p.inverse
 
-  cleared-plus : (n : ℕ) (p : Pivot) (u v : List ℕ) → IsPivot K n p → Vector K n u → Vector K n v → pivot_remainder K p (plus K u v) ≡ plus K (pivot_remainder K p u) (pivot_remainder K p v)
+  cleared-plus : (n : ℕ) (p : Pivot) (u v : List ℕ) → IsPivot K n p → Vector K n u → Vector K n v
+      → pivot_remainder K p (plus K u v) ≡ plus K (pivot_remainder K p u) (pivot_remainder K p v)
   cleared-plus n p u v fit hu hv =
       let row : List ℕ = p.row.items in
       ap (plus K (plus K u v))
-      (ap (λ t. multiple K t row) (ap K.neg (part-plus n p u v fit hu hv) ∙ neg_of_sum K h (pivot_multiple K p u) (pivot_multiple K p v))
+      (ap (λ t. multiple K t row) (ap K.neg (part-plus n p u v fit hu hv)
+      ∙ neg_of_sum K h (pivot_multiple K p u) (pivot_multiple K p v))
       ∙ multiple-add K h (K.neg (pivot_multiple K p u)) (K.neg (pivot_multiple K p v)) row)
-      ∙ plus-cross K h u v (multiple K (K.neg (pivot_multiple K p u)) row) (multiple K (K.neg (pivot_multiple K p v)) row)
+      ∙ plus-cross K h u v (multiple K (K.neg (pivot_multiple K p u)) row)
+      (multiple K (K.neg (pivot_multiple K p v)) row)
 
-  part-multiple : (n k : ℕ) (p : Pivot) (u : List ℕ) → IsPivot K n p → Vector K n u → pivot_multiple K p (multiple K k u) ≡ K.mul k (pivot_multiple K p u)
+  part-multiple : (n k : ℕ) (p : Pivot) (u : List ℕ) → IsPivot K n p → Vector K n u
+      → pivot_multiple K p (multiple K k u) ≡ K.mul k (pivot_multiple K p u)
   part-multiple n k p u fit hu =
       ap (λ t. K.mul t p.inverse) (sym (multiple-at K k p.place u (omega (arith, fit.place, vector-size K n u hu))))
       ∙ h.mul_assoc k (get_or u p.place 0) p.inverse
 
-  cleared-multiple : (n k : ℕ) (p : Pivot) (u : List ℕ) → IsPivot K n p → Vector K n u → pivot_remainder K p (multiple K k u) ≡ multiple K k (pivot_remainder K p u)
+  cleared-multiple : (n k : ℕ) (p : Pivot) (u : List ℕ) → IsPivot K n p → Vector K n u
+      → pivot_remainder K p (multiple K k u) ≡ multiple K k (pivot_remainder K p u)
   cleared-multiple n k p u fit hu =
       let row : List ℕ = p.row.items in
       ap (plus K (multiple K k u))
@@ -65,25 +76,31 @@ module _ (K : Ops) (h : IsField K) where
   reduced-plus n (p ∷ ps) u v fit hu hv =
       let first : IsPivot K n p = All-head (IsPivot K n) p ps fit in
       ap (reduced K ps) (cleared-plus n p u v first hu hv)
-      ∙ reduced-plus n ps (pivot_remainder K p u) (pivot_remainder K p v) (All-tail (IsPivot K n) p ps fit) (cleared-vector K h n p u first hu) (cleared-vector K h n p v first hv)
+      ∙ reduced-plus n ps (pivot_remainder K p u) (pivot_remainder K p v) (All-tail (IsPivot K n) p ps fit)
+      (cleared-vector K h n p u first hu) (cleared-vector K h n p v first hv)
 
-  reduced-multiple : (n k : ℕ) (ps : List Pivot) (u : List ℕ) → All (IsPivot K n) ps → Vector K n u → reduced K ps (multiple K k u) ≡ multiple K k (reduced K ps u)
+  reduced-multiple : (n k : ℕ) (ps : List Pivot) (u : List ℕ) → All (IsPivot K n) ps → Vector K n u
+      → reduced K ps (multiple K k u) ≡ multiple K k (reduced K ps u)
   unfolding reduced
   reduced-multiple n k [] u fit hu = refl
   reduced-multiple n k (p ∷ ps) u fit hu =
       let first : IsPivot K n p = All-head (IsPivot K n) p ps fit in
       ap (reduced K ps) (cleared-multiple n k p u first hu)
-      ∙ reduced-multiple n k ps (pivot_remainder K p u) (All-tail (IsPivot K n) p ps fit) (cleared-vector K h n p u first hu)
+      ∙ reduced-multiple n k ps (pivot_remainder K p u) (All-tail (IsPivot K n) p ps fit)
+      (cleared-vector K h n p u first hu)
 
   reduced-zeros : (n : ℕ) (ps : List Pivot) → All (IsPivot K n) ps → reduced K ps (zeros n) ≡ zeros n
   unfolding reduced
   reduced-zeros n [] fit = refl
   reduced-zeros n (p ∷ ps) fit =
-      ap (reduced K ps) (cleared-zeros K h n p (All-head (IsPivot K n) p ps fit)) ∙ reduced-zeros n ps (All-tail (IsPivot K n) p ps fit)
+      ap (reduced K ps) (cleared-zeros K h n p (All-head (IsPivot K n) p ps fit))
+      ∙ reduced-zeros n ps (All-tail (IsPivot K n) p ps fit)
 
   -- a combination of vectors that are reduced to zero is reduced to zero
-  pub reduced-combination : (m n k : ℕ) (ps : List Pivot) (by : List ℕ) (vs : List (List ℕ)) → All (IsPivot K n) ps → Matrix K m n vs
-      → ((j : ℕ) → j < k → reduced K ps (get_or vs j []) ≡ zeros n) → k ≤ m → reduced K ps (combination K n by (take k vs)) ≡ zeros n
+  pub reduced-combination : (m n k : ℕ) (ps : List Pivot) (by : List ℕ) (vs : List (List ℕ)) → All (IsPivot K n) ps
+      → Matrix K m n vs
+      → ((j : ℕ) → j < k → reduced K ps (get_or vs j []) ≡ zeros n) → k ≤ m
+      → reduced K ps (combination K n by (take k vs)) ≡ zeros n
   reduced-combination m n k ps [] vs fit hv z l = reduced-zeros n ps fit
   reduced-combination m n zero ps (c ∷ by) vs fit hv z l = reduced-zeros n ps fit
   reduced-combination m n (suc k) ps (c ∷ by) [] fit hv z l = reduced-zeros n ps fit
@@ -106,10 +123,12 @@ module _ (K : Ops) (h : IsField K) where
   pub record Given (by : List ℕ) (i : ℕ) (u : List ℕ) : Type 0 where
     pub is : dot K by (take i u) ≡ get_or u i 0
 
-  given-plus : (n i : ℕ) (by u v : List ℕ) → i < n → Vector K n u → Vector K n v → Given by i u → Given by i v → Given by i (plus K u v)
+  given-plus : (n i : ℕ) (by u v : List ℕ) → i < n → Vector K n u → Vector K n v → Given by i u → Given by i v
+      → Given by i (plus K u v)
   given-plus n i by u v l hu hv gu gv = record {
     is = ap (dot K by) (take-plus K i u v)
-        ∙ dot-plus K h i by (take i u) (take i v) (take-vector K n i u hu (omega arith)) (take-vector K n i v hv (omega arith))
+        ∙ dot-plus K h i by (take i u) (take i v) (take-vector K n i u hu (omega arith))
+        (take-vector K n i v hv (omega arith))
         ∙ ap₂ K.add gu.is gv.is
         ∙ sym (plus-at K n i u v hu hv l);
   }
@@ -122,7 +141,8 @@ module _ (K : Ops) (h : IsField K) where
         ∙ multiple-at K k i u (omega (arith, vector-size K n u hu));
   }
 
-  pub given-reduced : (n i : ℕ) (by : List ℕ) (ps : List Pivot) (u : List ℕ) → i < n → All (IsPivot K n) ps → All (λ p. Given by i p.row.items) ps → Vector K n u
+  pub given-reduced : (n i : ℕ) (by : List ℕ) (ps : List Pivot) (u : List ℕ) → i < n → All (IsPivot K n) ps
+      → All (λ p. Given by i p.row.items) ps → Vector K n u
       → Given by i u → Given by i (reduced K ps u)
   unfolding reduced
   given-reduced n i by [] u l fit rows hu gu = gu
@@ -131,11 +151,14 @@ module _ (K : Ops) (h : IsField K) where
       let row : List ℕ = p.row.items in
       let k : ℕ = K.neg (pivot_multiple K p u) in
       let row_vector : Vector K n row = to_vector K n row first.row in
-      given-reduced n i by ps (pivot_remainder K p u) l (All-tail (IsPivot K n) p ps fit) (All-tail (λ q. Given by i q.row.items) p ps rows) (cleared-vector K h n p u first hu)
+      given-reduced n i by ps (pivot_remainder K p u) l (All-tail (IsPivot K n) p ps fit)
+      (All-tail (λ q. Given by i q.row.items) p ps rows) (cleared-vector K h n p u first hu)
       (given-plus n i by u (multiple K k row) l hu (multiple-vector K h n k row row_vector) gu
       (given-multiple n i k by row l row_vector (All-head (λ q. Given by i q.row.items) p ps rows)))
 
   -- and a vector has its first entry that is not 0 elsewhere
-  pub given-not_first : (i place : ℕ) (by u : List ℕ) → take place u ≡ zeros place → get_or u place 0 ≢ 0 → Given by i u → place ≢ i
+  pub given-not_first : (i place : ℕ) (by u : List ℕ) → take place u ≡ zeros place → get_or u place 0 ≢ 0 → Given by i u
+      → place ≢ i
   given-not_first i place by u first not_zero gu e =
-      not_zero (sym (subst (λ t. dot K by (take t u) ≡ get_or u t 0) (sym e) gu.is) ∙ ap (dot K by) first ∙ dot-zeros K h place by)
+      not_zero (sym (subst (λ t. dot K by (take t u) ≡ get_or u t 0) (sym e) gu.is) ∙ ap (dot K by) first
+      ∙ dot-zeros K h place by)

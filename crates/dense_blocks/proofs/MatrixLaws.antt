@@ -3,17 +3,27 @@
 use Rattle.std.proofs.Common.{◌≡◌, ℕ, zero, suc, ◌<◌, List, [], ◌∷◌, ◌++◌, map, get_or, refl, sym, ap, ap₂, ◌∙◌, arith}
 use Rattle.dense_blocks.specs.Field.{Ops, IsField}
 use Rattle.dense_blocks.specs.Vectors.{zeros, plus, negative, multiple, dot, combination}
-use Rattle.dense_blocks.specs.Matrices.{image_of, product, identity, zero_matrix, matrix_sum, matrix_negative, IsInverse}
+use Rattle.dense_blocks.specs.Matrices.{image_of, product, identity, zero_matrix, matrix_sum, matrix_negative}
+use Rattle.dense_blocks.specs.Matrices.{IsInverse}
 use Rattle.dense_blocks.proofs.ScalarLaws.{zero_below, one_below, zero_add, mul_zero, zero_mul, one_mul}
 use Rattle.dense_blocks.proofs.Shapes.{Vector, Matrix, to_matrix}
-use Rattle.dense_blocks.proofs.VectorLaws.{zeros-vector, plus-vector, negative-vector, multiple-vector, combination-vector, plus-assoc, plus-comm, plus-cross, zeros-plus, plus-zeros, zeros-plus-zeros, negative-plus, negative-of-plus, negative-zeros, negative-negative, multiple-plus, multiple-negative, multiple-zeros, multiple-zero, multiple-one, dot-below, dot-plus, plus-dot, dot-multiple, dot-negative, negative-dot, dot-zeros, zeros-dot, vector-ext, combination-plus, combination-negative, combination-zeros, combination-combination, combination-dot}
+use Rattle.dense_blocks.proofs.VectorLaws.{zeros-vector, plus-vector, negative-vector, multiple-vector}
+use Rattle.dense_blocks.proofs.VectorLaws.{combination-vector, plus-assoc, plus-comm, plus-cross, zeros-plus}
+use Rattle.dense_blocks.proofs.VectorLaws.{plus-zeros, zeros-plus-zeros, negative-plus, negative-of-plus}
+use Rattle.dense_blocks.proofs.VectorLaws.{negative-zeros, negative-negative, multiple-plus, multiple-negative}
+use Rattle.dense_blocks.proofs.VectorLaws.{multiple-zeros, multiple-zero, multiple-one, dot-below, dot-plus, plus-dot}
+use Rattle.dense_blocks.proofs.VectorLaws.{dot-multiple, dot-negative, negative-dot, dot-zeros, zeros-dot, vector-ext}
+use Rattle.dense_blocks.proofs.VectorLaws.{combination-plus, combination-negative, combination-zeros}
+use Rattle.dense_blocks.proofs.VectorLaws.{combination-combination, combination-dot}
 
 -- lists of rows, of whatever shape
-pub image_of-append : (K : Ops) (A B : List (List ℕ)) (v : List ℕ) → image_of K (A ++ B) v ≡ image_of K A v ++ image_of K B v
+pub image_of-append : (K : Ops) (A B : List (List ℕ)) (v : List ℕ) → image_of K (A ++ B) v ≡ image_of K A v
+    ++ image_of K B v
 image_of-append K [] B v = refl
 image_of-append K (r ∷ A) B v = ap (λ t. dot K r v ∷ t) (image_of-append K A B v)
 
-pub product-append : (K : Ops) (n : ℕ) (A B C : List (List ℕ)) → product K n (A ++ B) C ≡ product K n A C ++ product K n B C
+pub product-append : (K : Ops) (n : ℕ) (A B C : List (List ℕ)) → product K n (A ++ B) C ≡ product K n A C
+    ++ product K n B C
 product-append K n [] B C = refl
 product-append K n (r ∷ A) B C = ap (λ t. combination K n r C ∷ t) (product-append K n A B C)
 
@@ -62,12 +72,14 @@ module _ (K : Ops) (F : IsField K) where
   identity-matrix zero = tt
   identity-matrix (suc n) = ((one_below K F, zeros-vector K F n), shifted-matrix n n (identity n) (identity-matrix n))
 
-  pub matrix_sum-matrix : (m n : ℕ) (A B : List (List ℕ)) → Matrix K m n A → Matrix K m n B → Matrix K m n (matrix_sum K A B)
+  pub matrix_sum-matrix : (m n : ℕ) (A B : List (List ℕ)) → Matrix K m n A → Matrix K m n B
+      → Matrix K m n (matrix_sum K A B)
   matrix_sum-matrix zero n [] B ha hb = tt
   matrix_sum-matrix zero n (a ∷ A) B ha hb = absurd ha
   matrix_sum-matrix (suc m) n [] B ha hb = absurd ha
   matrix_sum-matrix (suc m) n (a ∷ A) [] ha hb = absurd hb
-  matrix_sum-matrix (suc m) n (a ∷ A) (b ∷ B) ha hb = (plus-vector K F n a b ha.0 hb.0, matrix_sum-matrix m n A B ha.1 hb.1)
+  matrix_sum-matrix (suc m) n (a ∷ A) (b ∷ B) ha hb =
+      (plus-vector K F n a b ha.0 hb.0, matrix_sum-matrix m n A B ha.1 hb.1)
 
   pub matrix_negative-matrix : (m n : ℕ) (A : List (List ℕ)) → Matrix K m n A → Matrix K m n (matrix_negative K A)
   matrix_negative-matrix zero n [] h = tt
@@ -75,7 +87,8 @@ module _ (K : Ops) (F : IsField K) where
   matrix_negative-matrix (suc m) n [] h = absurd h
   matrix_negative-matrix (suc m) n (r ∷ A) h = (negative-vector K F n r h.0, matrix_negative-matrix m n A h.1)
 
-  pub product-matrix : (l m n : ℕ) (A B : List (List ℕ)) → Matrix K l m A → Matrix K m n B → Matrix K l n (product K n A B)
+  pub product-matrix : (l m n : ℕ) (A B : List (List ℕ)) → Matrix K l m A → Matrix K m n B
+      → Matrix K l n (product K n A B)
   product-matrix zero m n [] B ha hb = tt
   product-matrix zero m n (r ∷ A) B ha hb = absurd ha
   product-matrix (suc l) m n [] B ha hb = absurd ha
@@ -109,25 +122,30 @@ module _ (K : Ops) (F : IsField K) where
   pub matrix_sum-zero_matrix : (m n : ℕ) (A : List (List ℕ)) → Matrix K m n A → matrix_sum K A (zero_matrix m n) ≡ A
   matrix_sum-zero_matrix m n A h = matrix_sum-comm A (zero_matrix m n) ∙ zero_matrix-sum m n A h
 
-  pub matrix_negative-sum : (m n : ℕ) (A : List (List ℕ)) → Matrix K m n A → matrix_sum K (matrix_negative K A) A ≡ zero_matrix m n
+  pub matrix_negative-sum : (m n : ℕ) (A : List (List ℕ)) → Matrix K m n A → matrix_sum K (matrix_negative K A) A
+      ≡ zero_matrix m n
   matrix_negative-sum zero n [] h = refl
   matrix_negative-sum zero n (r ∷ A) h = absurd h
   matrix_negative-sum (suc m) n [] h = absurd h
   matrix_negative-sum (suc m) n (r ∷ A) h = ap₂ ◌∷◌ (negative-plus K F n r h.0) (matrix_negative-sum m n A h.1)
 
-  pub matrix_sum-negative : (m n : ℕ) (A : List (List ℕ)) → Matrix K m n A → matrix_sum K A (matrix_negative K A) ≡ zero_matrix m n
+  pub matrix_sum-negative : (m n : ℕ) (A : List (List ℕ)) → Matrix K m n A → matrix_sum K A (matrix_negative K A)
+      ≡ zero_matrix m n
   matrix_sum-negative m n A h = matrix_sum-comm A (matrix_negative K A) ∙ matrix_negative-sum m n A h
 
-  pub matrix_negative-of-sum : (A B : List (List ℕ)) → matrix_negative K (matrix_sum K A B) ≡ matrix_sum K (matrix_negative K A) (matrix_negative K B)
+  pub matrix_negative-of-sum : (A B : List (List ℕ)) → matrix_negative K (matrix_sum K A B)
+      ≡ matrix_sum K (matrix_negative K A) (matrix_negative K B)
   matrix_negative-of-sum [] B = refl
   matrix_negative-of-sum (a ∷ A) [] = refl
   matrix_negative-of-sum (a ∷ A) (b ∷ B) = ap₂ ◌∷◌ (negative-of-plus K F a b) (matrix_negative-of-sum A B)
 
-  pub matrix_negative-negative : (m n : ℕ) (A : List (List ℕ)) → Matrix K m n A → matrix_negative K (matrix_negative K A) ≡ A
+  pub matrix_negative-negative : (m n : ℕ) (A : List (List ℕ)) → Matrix K m n A
+      → matrix_negative K (matrix_negative K A) ≡ A
   matrix_negative-negative zero n [] h = refl
   matrix_negative-negative zero n (r ∷ A) h = absurd h
   matrix_negative-negative (suc m) n [] h = absurd h
-  matrix_negative-negative (suc m) n (r ∷ A) h = ap₂ ◌∷◌ (negative-negative K F n r h.0) (matrix_negative-negative m n A h.1)
+  matrix_negative-negative (suc m) n (r ∷ A) h = ap₂ ◌∷◌ (negative-negative K F n r h.0)
+      (matrix_negative-negative m n A h.1)
 
   pub matrix_negative-zero_matrix : (m n : ℕ) → matrix_negative K (zero_matrix m n) ≡ zero_matrix m n
   matrix_negative-zero_matrix zero n = refl
@@ -139,7 +157,8 @@ module _ (K : Ops) (F : IsField K) where
   image_of-plus n [] u v hu hv = refl
   image_of-plus n (r ∷ A) u v hu hv = ap₂ ◌∷◌ (dot-plus K F n r u v hu hv) (image_of-plus n A u v hu hv)
 
-  pub image_of-multiple : (k : ℕ) (A : List (List ℕ)) (v : List ℕ) → image_of K A (multiple K k v) ≡ multiple K k (image_of K A v)
+  pub image_of-multiple : (k : ℕ) (A : List (List ℕ)) (v : List ℕ) → image_of K A (multiple K k v)
+      ≡ multiple K k (image_of K A v)
   image_of-multiple k [] v = refl
   image_of-multiple k (r ∷ A) v = ap₂ ◌∷◌ (dot-multiple K F k r v) (image_of-multiple k A v)
 
@@ -157,13 +176,15 @@ module _ (K : Ops) (F : IsField K) where
   image_of-nil m n A h = image_of-zeros 0 m n A h
 
   -- a matrix carries a combination to the combination of what it gives
-  pub image_of-combination : (l m n : ℕ) (A : List (List ℕ)) (cs : List ℕ) (vs : List (List ℕ)) → Matrix K m n A → Matrix K l n vs
+  pub image_of-combination : (l m n : ℕ) (A : List (List ℕ)) (cs : List ℕ) (vs : List (List ℕ)) → Matrix K m n A
+      → Matrix K l n vs
       → image_of K A (combination K n cs vs) ≡ combination K m cs (map (image_of K A) vs)
   image_of-combination l m n A [] vs h hv = image_of-zeros n m n A h
   image_of-combination l m n A (c ∷ cs) [] h hv = image_of-zeros n m n A h
   image_of-combination zero m n A (c ∷ cs) (v ∷ vs) h hv = absurd hv
   image_of-combination (suc l) m n A (c ∷ cs) (v ∷ vs) h hv =
-      image_of-plus n A (multiple K c v) (combination K n cs vs) (multiple-vector K F n c v hv.0) (combination-vector K F l n cs vs hv.1)
+      image_of-plus n A (multiple K c v) (combination K n cs vs) (multiple-vector K F n c v hv.0)
+      (combination-vector K F l n cs vs hv.1)
       ∙ ap₂ (plus K) (image_of-multiple c A v) (image_of-combination l m n A cs vs h hv.1)
 
   -- and in the matrix
@@ -172,9 +193,11 @@ module _ (K : Ops) (F : IsField K) where
   matrix_sum-image_of m n [] B v ha hb = refl
   matrix_sum-image_of zero n (a ∷ A) B v ha hb = absurd ha
   matrix_sum-image_of (suc m) n (a ∷ A) [] v ha hb = absurd hb
-  matrix_sum-image_of (suc m) n (a ∷ A) (b ∷ B) v ha hb = ap₂ ◌∷◌ (plus-dot K F n a b v ha.0 hb.0) (matrix_sum-image_of m n A B v ha.1 hb.1)
+  matrix_sum-image_of (suc m) n (a ∷ A) (b ∷ B) v ha hb = ap₂ ◌∷◌ (plus-dot K F n a b v ha.0 hb.0)
+      (matrix_sum-image_of m n A B v ha.1 hb.1)
 
-  pub matrix_negative-image_of : (A : List (List ℕ)) (v : List ℕ) → image_of K (matrix_negative K A) v ≡ negative K (image_of K A v)
+  pub matrix_negative-image_of : (A : List (List ℕ)) (v : List ℕ) → image_of K (matrix_negative K A) v
+      ≡ negative K (image_of K A v)
   matrix_negative-image_of [] v = refl
   matrix_negative-image_of (r ∷ A) v = ap₂ ◌∷◌ (negative-dot K F r v) (matrix_negative-image_of A v)
 
@@ -182,10 +205,12 @@ module _ (K : Ops) (F : IsField K) where
   zero_matrix-image_of zero n v = refl
   zero_matrix-image_of (suc m) n v = ap₂ ◌∷◌ (zeros-dot K F n v) (zero_matrix-image_of m n v)
 
-  shifted-image_of : (A : List (List ℕ)) (a : ℕ) (v : List ℕ) → image_of K (map (λ row. 0 ∷ row) A) (a ∷ v) ≡ image_of K A v
+  shifted-image_of : (A : List (List ℕ)) (a : ℕ) (v : List ℕ) → image_of K (map (λ row. 0 ∷ row) A) (a ∷ v)
+      ≡ image_of K A v
   shifted-image_of [] a v = refl
   shifted-image_of (r ∷ A) a v =
-      ap₂ ◌∷◌ (ap (λ t. K.add t (dot K r v)) (zero_mul K F a) ∙ zero_add K F (dot K r v) (dot-below K F r v)) (shifted-image_of A a v)
+      ap₂ ◌∷◌ (ap (λ t. K.add t (dot K r v)) (zero_mul K F a) ∙ zero_add K F (dot K r v) (dot-below K F r v))
+      (shifted-image_of A a v)
 
   pub identity-image_of : (n : ℕ) (v : List ℕ) → Vector K n v → image_of K (identity n) v ≡ v
   identity-image_of zero [] h = refl
@@ -247,12 +272,14 @@ module _ (K : Ops) (F : IsField K) where
   combination-zero_matrix (suc m) n (c ∷ cs) =
       ap₂ (plus K) (multiple-zeros K F c n) (combination-zero_matrix m n cs) ∙ zeros-plus-zeros K F n
 
-  combination-shifted : (n : ℕ) (cs : List ℕ) (A : List (List ℕ)) → combination K (suc n) cs (map (λ row. 0 ∷ row) A) ≡ 0 ∷ combination K n cs A
+  combination-shifted : (n : ℕ) (cs : List ℕ) (A : List (List ℕ)) → combination K (suc n) cs (map (λ row. 0 ∷ row) A)
+      ≡ 0 ∷ combination K n cs A
   combination-shifted n [] A = refl
   combination-shifted n (c ∷ cs) [] = refl
   combination-shifted n (c ∷ cs) (a ∷ A) =
       ap (plus K (K.mul c 0 ∷ multiple K c a)) (combination-shifted n cs A)
-      ∙ ap (λ t. t ∷ plus K (multiple K c a) (combination K n cs A)) (ap (λ t. K.add t 0) (mul_zero K F c) ∙ F.add_zero 0 (zero_below K F))
+      ∙ ap (λ t. t ∷ plus K (multiple K c a) (combination K n cs A)) (ap (λ t. K.add t 0) (mul_zero K F c)
+      ∙ F.add_zero 0 (zero_below K F))
 
   -- a vector is the combination of the unit vectors by its coordinates
   pub combination-identity : (n : ℕ) (v : List ℕ) → Vector K n v → combination K n v (identity n) ≡ v
@@ -283,7 +310,8 @@ module _ (K : Ops) (F : IsField K) where
   shifted-product m n [] b B h hb = refl
   shifted-product m n (r ∷ A) b B h hb =
       ap₂ ◌∷◌
-      (ap (λ t. plus K t (combination K n r B)) (multiple-zero K F n b h) ∙ zeros-plus K F n (combination K n r B) (combination-vector K F m n r B hb))
+      (ap (λ t. plus K t (combination K n r B)) (multiple-zero K F n b h) ∙ zeros-plus K F n (combination K n r B)
+      (combination-vector K F m n r B hb))
       (shifted-product m n A b B h hb)
 
   pub identity-product : (m n : ℕ) (A : List (List ℕ)) → Matrix K m n A → product K n (identity m) A ≡ A
@@ -299,16 +327,19 @@ module _ (K : Ops) (F : IsField K) where
   pub combination-unit_row : (m n i : ℕ) (A : List (List ℕ)) → Matrix K m n A → i < m
       → combination K n (get_or (identity m) i []) A ≡ get_or A i []
   combination-unit_row m n i A h l =
-      sym (product-row K m m n i (identity m) A (identity-matrix m) l) ∙ ap (λ t. get_or t i []) (identity-product m n A h)
+      sym (product-row K m m n i (identity m) A (identity-matrix m) l)
+      ∙ ap (λ t. get_or t i []) (identity-product m n A h)
 
   -- zero factors
-  pub product-zero_matrix : (l m n : ℕ) (A : List (List ℕ)) → Matrix K l m A → product K n A (zero_matrix m n) ≡ zero_matrix l n
+  pub product-zero_matrix : (l m n : ℕ) (A : List (List ℕ)) → Matrix K l m A → product K n A (zero_matrix m n)
+      ≡ zero_matrix l n
   product-zero_matrix zero m n [] h = refl
   product-zero_matrix zero m n (r ∷ A) h = absurd h
   product-zero_matrix (suc l) m n [] h = absurd h
   product-zero_matrix (suc l) m n (r ∷ A) h = ap₂ ◌∷◌ (combination-zero_matrix m n r) (product-zero_matrix l m n A h.1)
 
-  pub zero_matrix-product : (l m n : ℕ) (B : List (List ℕ)) → Matrix K m n B → product K n (zero_matrix l m) B ≡ zero_matrix l n
+  pub zero_matrix-product : (l m n : ℕ) (B : List (List ℕ)) → Matrix K m n B → product K n (zero_matrix l m) B
+      ≡ zero_matrix l n
   zero_matrix-product zero m n B h = refl
   zero_matrix-product (suc l) m n B h = ap₂ ◌∷◌ (combination-zeros K F m m n B h) (zero_matrix-product l m n B h)
 
@@ -316,7 +347,8 @@ module _ (K : Ops) (F : IsField K) where
   pub product-matrix_sum : (m n : ℕ) (A B C : List (List ℕ)) → Matrix K m n B → Matrix K m n C
       → product K n A (matrix_sum K B C) ≡ matrix_sum K (product K n A B) (product K n A C)
   product-matrix_sum m n [] B C hb hc = refl
-  product-matrix_sum m n (r ∷ A) B C hb hc = ap₂ ◌∷◌ (combination-matrix_sum m n r B C hb hc) (product-matrix_sum m n A B C hb hc)
+  product-matrix_sum m n (r ∷ A) B C hb hc = ap₂ ◌∷◌ (combination-matrix_sum m n r B C hb hc)
+      (product-matrix_sum m n A B C hb hc)
 
   pub matrix_sum-product : (l m n : ℕ) (A B C : List (List ℕ)) → Matrix K l m A → Matrix K l m B
       → product K n (matrix_sum K A B) C ≡ matrix_sum K (product K n A C) (product K n B C)
@@ -327,11 +359,13 @@ module _ (K : Ops) (F : IsField K) where
       ap₂ ◌∷◌ (combination-plus K F m n a b C ha.0 hb.0) (matrix_sum-product l m n A B C ha.1 hb.1)
 
   -- signs come out of a product
-  pub product-matrix_negative : (n : ℕ) (A B : List (List ℕ)) → product K n A (matrix_negative K B) ≡ matrix_negative K (product K n A B)
+  pub product-matrix_negative : (n : ℕ) (A B : List (List ℕ)) → product K n A (matrix_negative K B)
+      ≡ matrix_negative K (product K n A B)
   product-matrix_negative n [] B = refl
   product-matrix_negative n (r ∷ A) B = ap₂ ◌∷◌ (combination-matrix_negative n r B) (product-matrix_negative n A B)
 
-  pub matrix_negative-product : (n : ℕ) (A B : List (List ℕ)) → product K n (matrix_negative K A) B ≡ matrix_negative K (product K n A B)
+  pub matrix_negative-product : (n : ℕ) (A B : List (List ℕ)) → product K n (matrix_negative K A) B
+      ≡ matrix_negative K (product K n A B)
   matrix_negative-product n [] B = refl
   matrix_negative-product n (r ∷ A) B = ap₂ ◌∷◌ (combination-negative K F n r B) (matrix_negative-product n A B)
 
@@ -348,8 +382,10 @@ module _ (K : Ops) (F : IsField K) where
 
   pub inverse-image_of : (n : ℕ) (A B : List (List ℕ)) (v : List ℕ) → Matrix K n n A → IsInverse K n A B → Vector K n v
       → image_of K B (image_of K A v) ≡ v
-  inverse-image_of n A B v ha h hv = sym (product-image_of n n B A v ha) ∙ ap (λ t. image_of K t v) h.left ∙ identity-image_of n v hv
+  inverse-image_of n A B v ha h hv = sym (product-image_of n n B A v ha) ∙ ap (λ t. image_of K t v) h.left
+      ∙ identity-image_of n v hv
 
   pub image_of-inverse : (n : ℕ) (A B : List (List ℕ)) (v : List ℕ) → IsInverse K n A B → Vector K n v
       → image_of K A (image_of K B v) ≡ v
-  image_of-inverse n A B v h hv = sym (product-image_of n n A B v (to_matrix K n n B h.shape)) ∙ ap (λ t. image_of K t v) h.right ∙ identity-image_of n v hv
+  image_of-inverse n A B v h hv = sym (product-image_of n n A B v (to_matrix K n n B h.shape))
+      ∙ ap (λ t. image_of K t v) h.right ∙ identity-image_of n v hv

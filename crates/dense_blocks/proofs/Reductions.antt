@@ -1,5 +1,6 @@
 -- Vectors reduced by pivots, and what a reduction takes off.
-use Rattle.std.proofs.Common.{◌≡◌, ℕ, zero, suc, ◌<◌, ◌≤◌, List, [], ◌∷◌, ◌++◌, length, take, get_or, set, All, refl, sym, ap, ◌∙◌, arith}
+use Rattle.std.proofs.Common.{◌≡◌, ℕ, zero, suc, ◌<◌, ◌≤◌, List, [], ◌∷◌, ◌++◌, length, take, get_or, set, All, refl}
+use Rattle.std.proofs.Common.{sym, ap, ◌∙◌, arith}
 use Rattle.std.proofs.lemmas.List.Elements.{All-head, All-tail, All-get_or}
 use Rattle.dense_blocks.specs.Field.{Ops, IsField}
 use Rattle.dense_blocks.specs.Vectors.{zeros, plus, negative, multiple, dot, combination}
@@ -7,33 +8,41 @@ use Rattle.dense_blocks.specs.Elimination.{IsPivot, rows, pivot_multiple, pivot_
 use Rattle.dense_blocks.specs.declared.solving.Pivot.{Pivot}
 use Rattle.dense_blocks.proofs.ScalarLaws.{neg_zero, zero_mul, add_mul}
 use Rattle.dense_blocks.proofs.Shapes.{Vector, Matrix, to_vector}
-use Rattle.dense_blocks.proofs.VectorLaws.{plus-vector, multiple-vector, zeros-plus, plus-zeros, zeros-plus-zeros, plus-left-comm, plus-comm, plus-assoc, plus-negative, multiple-zero, multiple-neg, multiple-neg_one, multiple-add}
+use Rattle.dense_blocks.proofs.VectorLaws.{plus-vector, multiple-vector, zeros-plus, plus-zeros, zeros-plus-zeros}
+use Rattle.dense_blocks.proofs.VectorLaws.{plus-left-comm, plus-comm, plus-assoc, plus-negative, multiple-zero}
+use Rattle.dense_blocks.proofs.VectorLaws.{multiple-neg, multiple-neg_one, multiple-add}
 
 -- the coefficients beyond the vectors change nothing
-pub combination-take : (K : Ops) (n k : ℕ) (cs : List ℕ) (vs : List (List ℕ)) → length cs ≤ k → combination K n cs (take k vs) ≡ combination K n cs vs
+pub combination-take : (K : Ops) (n k : ℕ) (cs : List ℕ) (vs : List (List ℕ)) → length cs ≤ k
+    → combination K n cs (take k vs) ≡ combination K n cs vs
 combination-take K n k [] vs l = refl
 combination-take K n zero (c ∷ cs) vs l = absurd (omega arith)
 combination-take K n (suc k) (c ∷ cs) [] l = refl
-combination-take K n (suc k) (c ∷ cs) (v ∷ vs) l = ap (plus K (multiple K c v)) (combination-take K n k cs vs (omega arith))
+combination-take K n (suc k) (c ∷ cs) (v ∷ vs) l =
+    ap (plus K (multiple K c v)) (combination-take K n k cs vs (omega arith))
 
 module _ (K : Ops) (h : IsField K) where
-  pub cleared-vector : (n : ℕ) (p : Pivot) (u : List ℕ) → IsPivot K n p → Vector K n u → Vector K n (pivot_remainder K p u)
+  pub cleared-vector : (n : ℕ) (p : Pivot) (u : List ℕ) → IsPivot K n p → Vector K n u
+      → Vector K n (pivot_remainder K p u)
   cleared-vector n p u fit hu =
       plus-vector K h n u (multiple K (K.neg (pivot_multiple K p u)) p.row.items) hu
       (multiple-vector K h n (K.neg (pivot_multiple K p u)) p.row.items (to_vector K n p.row.items fit.row))
 
-  pub reduced-vector : (n : ℕ) (ps : List Pivot) (u : List ℕ) → All (IsPivot K n) ps → Vector K n u → Vector K n (reduced K ps u)
+  pub reduced-vector : (n : ℕ) (ps : List Pivot) (u : List ℕ) → All (IsPivot K n) ps → Vector K n u
+      → Vector K n (reduced K ps u)
   unfolding reduced
   reduced-vector n [] u fit hu = hu
   reduced-vector n (p ∷ ps) u fit hu =
-      reduced-vector n ps (pivot_remainder K p u) (All-tail (IsPivot K n) p ps fit) (cleared-vector n p u (All-head (IsPivot K n) p ps fit) hu)
+      reduced-vector n ps (pivot_remainder K p u) (All-tail (IsPivot K n) p ps fit)
+      (cleared-vector n p u (All-head (IsPivot K n) p ps fit) hu)
 
   pub parts-vector : (ps : List Pivot) (u : List ℕ) → Vector K (length ps) (parts K ps u)
   unfolding parts
   parts-vector [] u = tt
   parts-vector (p ∷ ps) u = (h.mul_below (get_or u p.place 0) p.inverse, parts-vector ps (pivot_remainder K p u))
 
-  pub reduced-push : (ps : List Pivot) (q : Pivot) (u : List ℕ) → reduced K (ps ++ q ∷ []) u ≡ pivot_remainder K q (reduced K ps u)
+  pub reduced-push : (ps : List Pivot) (q : Pivot) (u : List ℕ) → reduced K (ps ++ q ∷ []) u ≡ pivot_remainder K q
+      (reduced K ps u)
   unfolding reduced
   reduced-push [] q u = refl
   reduced-push (p ∷ ps) q u = reduced-push ps q (pivot_remainder K p u)
@@ -75,7 +84,8 @@ module _ (K : Ops) (h : IsField K) where
   cleared-row n p fit =
       let row : List ℕ = p.row.items in
       let row_vector : Vector K n row = to_vector K n row fit.row in
-      let low : get_or row p.place 0 < K.order = All-get_or (λ a. a < K.order) row p.place 0 (omega (arith, fit.place, fit.row.size)) fit.row.scalars in
+      let low : get_or row p.place 0 < K.order = All-get_or (λ a. a < K.order) row p.place 0
+      (omega (arith, fit.place, fit.row.size)) fit.row.scalars in
       ap (λ t. plus K row (multiple K (K.neg (K.mul (get_or row p.place 0) t)) row)) fit.inverse_is
       ∙ ap (λ t. plus K row (multiple K (K.neg t) row)) (h.mul_inv (get_or row p.place 0) low fit.not_zero)
       ∙ ap (plus K row) (multiple-neg_one K h n row row_vector)
@@ -97,7 +107,8 @@ module _ (K : Ops) (h : IsField K) where
 
   -- a combination, changed in one coefficient
   pub combination-set : (n : ℕ) (c : List ℕ) (vs : List (List ℕ)) (i a : ℕ) → i < length c → length c ≡ length vs
-      → combination K n (set c i (K.add (get_or c i 0) a)) vs ≡ plus K (combination K n c vs) (multiple K a (get_or vs i []))
+      → combination K n (set c i (K.add (get_or c i 0) a)) vs ≡ plus K (combination K n c vs)
+      (multiple K a (get_or vs i []))
   combination-set n [] vs i a l e = absurd (omega arith)
   combination-set n (x ∷ c) [] i a l e = absurd (omega arith)
   combination-set n (x ∷ c) (v ∷ vs) zero a l e =

@@ -1,5 +1,6 @@
 -- Rows that a loop changes entry by entry.
-use Rattle.std.proofs.Common.{◌≡◌, ℕ, zero, suc, ◌+◌, ◌<◌, List, [], ◌∷◌, ◌++◌, length, take, get_or, set, replicate, refl, sym, ap, ap₂, ◌∙◌, arith, add-one}
+use Rattle.std.proofs.Common.{◌≡◌, ℕ, zero, suc, ◌+◌, ◌<◌, List, [], ◌∷◌, ◌++◌, length, take, get_or, set, replicate}
+use Rattle.std.proofs.Common.{refl, sym, ap, ap₂, ◌∙◌, arith, add-one}
 use Rattle.std.proofs.lemmas.List.{length-map, take_more}
 use Rattle.dense_blocks.specs.Field.{Ops, IsField}
 use Rattle.dense_blocks.specs.Vectors.{zeros, plus, multiple, dot}
@@ -18,14 +19,16 @@ pub changed-none : (w u : List ℕ) → changed 0 w u ≡ u
 unfolding changed
 changed-none w u = refl
 
-changed-suc : (i : ℕ) (w u : List ℕ) (x : ℕ) → length w ≡ length u → i < length u → x ≡ get_or w i 0 → set (changed i w u) i x ≡ changed (suc i) w u
+changed-suc : (i : ℕ) (w u : List ℕ) (x : ℕ) → length w ≡ length u → i < length u → x ≡ get_or w i 0
+    → set (changed i w u) i x ≡ changed (suc i) w u
 unfolding changed
 changed-suc i w [] x e l h = absurd (omega arith)
 changed-suc i [] (b ∷ u) x e l h = absurd (omega arith)
 changed-suc zero (a ∷ w) (b ∷ u) x e l h = ap (λ t. t ∷ u) h
 changed-suc (suc i) (a ∷ w) (b ∷ u) x e l h = ap (λ t. a ∷ t) (changed-suc i w u x (omega arith) (omega arith) h)
 
-pub changed-next : (i : ℕ) (w u : List ℕ) (x : ℕ) → length w ≡ length u → i < length u → x ≡ get_or w i 0 → set (changed i w u) i x ≡ changed (i + 1) w u
+pub changed-next : (i : ℕ) (w u : List ℕ) (x : ℕ) → length w ≡ length u → i < length u → x ≡ get_or w i 0
+    → set (changed i w u) i x ≡ changed (i + 1) w u
 changed-next i w u x e l h = changed-suc i w u x e l h ∙ ap (λ t. changed t w u) (sym (add-one i))
 
 pub changed-all : (w u : List ℕ) → length w ≡ length u → changed (length u) w u ≡ w
@@ -68,7 +71,8 @@ add_scaled-next K k i target u v a b e l now is_a is_b =
     let size : length w ≡ length u = length-plus K u (multiple K k v) (length-map v (K.mul k) ∙ e) in
     let at : a ≡ get_or u i 0 = is_a ∙ ap (λ t. get_or t i 0) now ∙ changed-at i w u in
     ap (λ t. set t i (K.add a (K.mul k b))) now
-    ∙ changed-next i w u (K.add a (K.mul k b)) size l (ap₂ (λ x y. K.add x (K.mul k y)) at is_b ∙ plus-multiple-at K k i u v e l)
+    ∙ changed-next i w u (K.add a (K.mul k b)) size l (ap₂ (λ x y. K.add x (K.mul k y)) at is_b
+    ∙ plus-multiple-at K k i u v e l)
 
 pub add_scaled-all : (K : Ops) (k i : ℕ) (target u v : List ℕ) → length v ≡ length u → i ≡ length u
     → target ≡ changed i (plus K u (multiple K k v)) u → target ≡ plus K u (multiple K k v)
@@ -78,13 +82,15 @@ add_scaled-all K k i target u v e l now =
 
 -- one more entry of k times v
 pub scale-next : (K : Ops) (k i : ℕ) (target v : List ℕ) (a : ℕ) → i < length v
-    → target ≡ changed i (multiple K k v) v → a ≡ get_or target i 0 → set target i (K.mul k a) ≡ changed (i + 1) (multiple K k v) v
+    → target ≡ changed i (multiple K k v) v → a ≡ get_or target i 0 → set target i (K.mul k a)
+    ≡ changed (i + 1) (multiple K k v) v
 scale-next K k i target v a l now is_a =
     let at : a ≡ get_or v i 0 = is_a ∙ ap (λ t. get_or t i 0) now ∙ changed-at i (multiple K k v) v in
     ap (λ t. set t i (K.mul k a)) now
     ∙ changed-next i (multiple K k v) v (K.mul k a) (length-map v (K.mul k)) l (ap (K.mul k) at ∙ multiple-at K k i v l)
 
-pub scale-all : (K : Ops) (k i : ℕ) (target v : List ℕ) → i ≡ length v → target ≡ changed i (multiple K k v) v → target ≡ multiple K k v
+pub scale-all : (K : Ops) (k i : ℕ) (target v : List ℕ) → i ≡ length v → target ≡ changed i (multiple K k v) v
+    → target ≡ multiple K k v
 scale-all K k i target v l now =
     now ∙ ap (λ t. changed t (multiple K k v) v) l ∙ changed-all (multiple K k v) v (length-map v (K.mul k))
 
@@ -97,7 +103,8 @@ zeros-push zero = refl
 zeros-push (suc n) = ap (λ t. 0 ∷ t) (zeros-push n)
 
 -- one more entry that is 0
-pub zeros-next : (i a : ℕ) (v : List ℕ) → i < length v → take i v ≡ zeros i → a ≡ get_or v i 0 → a ≡ 0 → take (i + 1) v ≡ zeros (i + 1)
+pub zeros-next : (i a : ℕ) (v : List ℕ) → i < length v → take i v ≡ zeros i → a ≡ get_or v i 0 → a ≡ 0
+    → take (i + 1) v ≡ zeros (i + 1)
 zeros-next i a v l e is_a none =
     take_more v i 0 l ∙ ap₂ (λ x y. x ++ y ∷ []) e (sym is_a ∙ none) ∙ zeros-push i ∙ ap zeros (sym (add-one i))
 
@@ -130,8 +137,10 @@ module _ (K : Ops) (h : IsField K) where
   unfolding dot_from
   dot_from-start u v = zero_add K h (dot K u v) (dot-below K h u v)
 
-  pub dot_from-next : (i total a b : ℕ) (u v : List ℕ) → length u ≡ length v → i < length u → a ≡ get_or u i 0 → b ≡ get_or v i 0
-      → K.add total (dot_from K i u v) ≡ dot K u v → K.add (K.add total (K.mul a b)) (dot_from K (i + 1) u v) ≡ dot K u v
+  pub dot_from-next : (i total a b : ℕ) (u v : List ℕ) → length u ≡ length v → i < length u → a ≡ get_or u i 0
+      → b ≡ get_or v i 0
+      → K.add total (dot_from K i u v) ≡ dot K u v → K.add (K.add total (K.mul a b)) (dot_from K (i + 1) u v)
+      ≡ dot K u v
   dot_from-next i total a b u v e l is_a is_b now =
       h.add_assoc total (K.mul a b) (dot_from K (i + 1) u v)
       ∙ ap (K.add total)
@@ -140,6 +149,7 @@ module _ (K : Ops) (h : IsField K) where
       ∙ sym (dot_from-suc K i u v e l))
       ∙ now
 
-  pub dot_from-all : (i total : ℕ) (u v : List ℕ) → i ≡ length u → total < K.order → K.add total (dot_from K i u v) ≡ dot K u v → total ≡ dot K u v
+  pub dot_from-all : (i total : ℕ) (u v : List ℕ) → i ≡ length u → total < K.order → K.add total (dot_from K i u v)
+      ≡ dot K u v → total ≡ dot K u v
   dot_from-all i total u v e l now =
       sym (h.add_zero total l) ∙ ap (K.add total) (sym (dot_from-end K u v) ∙ ap (λ t. dot_from K t u v) (sym e)) ∙ now

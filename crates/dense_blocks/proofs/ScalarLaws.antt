@@ -21,7 +21,8 @@ module _ (K : Ops) (F : IsField K) where
   add_left_comm a b c = sym (F.add_assoc a b c) ∙ ap (λ t. K.add t c) (F.add_comm a b) ∙ F.add_assoc b a c
 
   pub add_cross : (a b c d : ℕ) → K.add (K.add a b) (K.add c d) ≡ K.add (K.add a c) (K.add b d)
-  add_cross a b c d = F.add_assoc a b (K.add c d) ∙ ap (K.add a) (add_left_comm b c d) ∙ sym (F.add_assoc a c (K.add b d))
+  add_cross a b c d = F.add_assoc a b (K.add c d) ∙ ap (K.add a) (add_left_comm b c d)
+      ∙ sym (F.add_assoc a c (K.add b d))
 
   pub add_neg_add : (a b : ℕ) → b < K.order → K.add (K.neg a) (K.add a b) ≡ b
   add_neg_add a b h = sym (F.add_assoc (K.neg a) a b) ∙ ap (λ t. K.add t b) (neg_add a) ∙ zero_add b h
@@ -35,12 +36,14 @@ module _ (K : Ops) (F : IsField K) where
 
   pub neg_of_sum : (a b : ℕ) → K.neg (K.add a b) ≡ K.add (K.neg a) (K.neg b)
   neg_of_sum a b =
-      add_cancel (K.add a b) (K.neg (K.add a b)) (K.add (K.neg a) (K.neg b)) (F.neg_below (K.add a b)) (F.add_below (K.neg a) (K.neg b))
+      add_cancel (K.add a b) (K.neg (K.add a b)) (K.add (K.neg a) (K.neg b)) (F.neg_below (K.add a b))
+      (F.add_below (K.neg a) (K.neg b))
       (F.add_neg (K.add a b)
       ∙ sym (add_cross a b (K.neg a) (K.neg b) ∙ ap₂ K.add (F.add_neg a) (F.add_neg b) ∙ F.add_zero 0 zero_below))
 
   pub neg_neg : (a : ℕ) → a < K.order → K.neg (K.neg a) ≡ a
-  neg_neg a h = add_cancel (K.neg a) (K.neg (K.neg a)) a (F.neg_below (K.neg a)) h (F.add_neg (K.neg a) ∙ sym (neg_add a))
+  neg_neg a h = add_cancel (K.neg a) (K.neg (K.neg a)) a (F.neg_below (K.neg a)) h (F.add_neg (K.neg a)
+      ∙ sym (neg_add a))
 
   pub neg_cancel : (a b : ℕ) → a < K.order → b < K.order → K.neg a ≡ K.neg b → a ≡ b
   neg_cancel a b ha hb e = sym (neg_neg a ha) ∙ ap K.neg e ∙ neg_neg b hb

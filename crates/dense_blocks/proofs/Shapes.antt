@@ -1,5 +1,6 @@
 -- Vectors and matrices as proofs recurse on them, and the way to and from IsVector and IsMatrix.
-use Rattle.std.proofs.Common.{◌≡◌, ℕ, zero, suc, ◌+◌, ◌<◌, List, [], ◌∷◌, ◌++◌, length, get_or, All, refl, sym, ap, subst, zero-add, suc-add, arith, suc-le-suc}
+use Rattle.std.proofs.Common.{◌≡◌, ℕ, zero, suc, ◌+◌, ◌<◌, List, [], ◌∷◌, ◌++◌, length, get_or, All, refl, sym, ap}
+use Rattle.std.proofs.Common.{subst, zero-add, suc-add, arith, suc-le-suc}
 use Rattle.std.specs.Coded.{le_prop}
 use Rattle.dense_blocks.specs.Field.{Ops}
 use Rattle.dense_blocks.specs.Vectors.{IsVector}
@@ -23,7 +24,8 @@ pub vector_of : (K : Ops) (n : ℕ) (v : List ℕ) → length v ≡ n → All (�
 vector_of K zero [] e h = tt
 vector_of K zero (a ∷ v) e h = absurd (omega arith)
 vector_of K (suc n) [] e h = absurd (omega arith)
-vector_of K (suc n) (a ∷ v) e h = (h 0 0 (omega arith), vector_of K n v (omega arith) (λ k d l. h (suc k) d (suc-le-suc l)))
+vector_of K (suc n) (a ∷ v) e h =
+    (h 0 0 (omega arith), vector_of K n v (omega arith) (λ k d l. h (suc k) d (suc-le-suc l)))
 
 pub to_vector : (K : Ops) (n : ℕ) (v : List ℕ) → IsVector K n v → Vector K n v
 to_vector K n v h = vector_of K n v h.size h.scalars
@@ -96,9 +98,11 @@ matrix-prop K (suc m) n (r ∷ A) = hlevel (vector-prop K n r, matrix-prop K m n
 
 -- the row at i
 pub row-vector : (K : Ops) (m n : ℕ) (A : List (List ℕ)) (i : ℕ) → Matrix K m n A → i < m → Vector K n (get_or A i [])
-row-vector K m n A i h l = to_vector K n (get_or A i []) (matrix-rows K m n A h i [] (subst (λ k. i < k) (sym (matrix-size K m n A h)) l))
+row-vector K m n A i h l =
+    to_vector K n (get_or A i []) (matrix-rows K m n A h i [] (subst (λ k. i < k) (sym (matrix-size K m n A h)) l))
 
-pub append-matrix : (K : Ops) (k m n : ℕ) (A B : List (List ℕ)) → Matrix K k n A → Matrix K m n B → Matrix K (k + m) n (A ++ B)
+pub append-matrix : (K : Ops) (k m n : ℕ) (A B : List (List ℕ)) → Matrix K k n A → Matrix K m n B
+    → Matrix K (k + m) n (A ++ B)
 append-matrix K zero m n [] B ha hb = subst (λ l. Matrix K l n B) (sym (zero-add m)) hb
 append-matrix K zero m n (r ∷ A) B ha hb = absurd ha
 append-matrix K (suc k) m n [] B ha hb = absurd ha

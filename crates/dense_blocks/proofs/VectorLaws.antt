@@ -1,9 +1,12 @@
 -- Laws of vectors: shapes, the commutative group, scaling, the product of two vectors, combinations.
 -- A law is named by its left side, the outermost word first.
-use Rattle.std.proofs.Common.{◌≡◌, ℕ, zero, suc, ◌+◌, ◌<◌, List, [], ◌∷◌, ◌++◌, map, length, refl, sym, ap, ap₂, ◌∙◌, zero-add, suc-add, append_assoc, arith}
+use Rattle.std.proofs.Common.{◌≡◌, ℕ, zero, suc, ◌+◌, ◌<◌, List, [], ◌∷◌, ◌++◌, map, length, refl, sym, ap, ap₂, ◌∙◌}
+use Rattle.std.proofs.Common.{zero-add, suc-add, append_assoc, arith}
 use Rattle.dense_blocks.specs.Field.{Ops, IsField}
 use Rattle.dense_blocks.specs.Vectors.{zeros, plus, negative, multiple, dot, combination}
-use Rattle.dense_blocks.proofs.ScalarLaws.{zero_below, one_below, zero_add, neg_add, neg_zero, neg_neg, neg_of_sum, add_cross, mul_zero, zero_mul, one_mul, add_mul, neg_mul, mul_neg, mul_left_comm}
+use Rattle.dense_blocks.proofs.ScalarLaws.{zero_below, one_below, zero_add, neg_add, neg_zero, neg_neg, neg_of_sum}
+use Rattle.dense_blocks.proofs.ScalarLaws.{add_cross, mul_zero, zero_mul, one_mul, add_mul, neg_mul, mul_neg}
+use Rattle.dense_blocks.proofs.ScalarLaws.{mul_left_comm}
 use Rattle.dense_blocks.proofs.Shapes.{Vector, Matrix}
 
 -- sums of whatever length
@@ -22,7 +25,8 @@ pub combination-nil : (K : Ops) (n : ℕ) (cs : List ℕ) → combination K n cs
 combination-nil K n [] = refl
 combination-nil K n (c ∷ cs) = refl
 
-pub plus-append : (K : Ops) (u v u' v' : List ℕ) → length u ≡ length v → plus K (u ++ u') (v ++ v') ≡ plus K u v ++ plus K u' v'
+pub plus-append : (K : Ops) (u v u' v' : List ℕ) → length u ≡ length v → plus K (u ++ u') (v ++ v') ≡ plus K u v
+    ++ plus K u' v'
 plus-append K [] [] u' v' e = refl
 plus-append K [] (b ∷ v) u' v' e = absurd (omega arith)
 plus-append K (a ∷ u) [] u' v' e = absurd (omega arith)
@@ -73,12 +77,14 @@ module _ (K : Ops) (F : IsField K) where
   multiple-vector (suc n) k [] h = absurd h
   multiple-vector (suc n) k (a ∷ v) h = (F.mul_below k a, multiple-vector n k v h.1)
 
-  pub combination-vector : (m n : ℕ) (cs : List ℕ) (vs : List (List ℕ)) → Matrix K m n vs → Vector K n (combination K n cs vs)
+  pub combination-vector : (m n : ℕ) (cs : List ℕ) (vs : List (List ℕ)) → Matrix K m n vs
+      → Vector K n (combination K n cs vs)
   combination-vector m n [] vs h = zeros-vector n
   combination-vector m n (c ∷ cs) [] h = zeros-vector n
   combination-vector zero n (c ∷ cs) (v ∷ vs) h = absurd h
   combination-vector (suc m) n (c ∷ cs) (v ∷ vs) h =
-      plus-vector n (multiple K c v) (combination K n cs vs) (multiple-vector n c v h.0) (combination-vector m n cs vs h.1)
+      plus-vector n (multiple K c v) (combination K n cs vs) (multiple-vector n c v h.0)
+      (combination-vector m n cs vs h.1)
 
   -- the commutative group of vectors
   pub plus-assoc : (u v w : List ℕ) → plus K (plus K u v) w ≡ plus K u (plus K v w)
@@ -118,13 +124,15 @@ module _ (K : Ops) (F : IsField K) where
   plus-left-comm u v w = sym (plus-assoc u v w) ∙ ap (λ t. plus K t w) (plus-comm u v) ∙ plus-assoc v u w
 
   pub plus-cross : (s t u v : List ℕ) → plus K (plus K s t) (plus K u v) ≡ plus K (plus K s u) (plus K t v)
-  plus-cross s t u v = plus-assoc s t (plus K u v) ∙ ap (plus K s) (plus-left-comm t u v) ∙ sym (plus-assoc s u (plus K t v))
+  plus-cross s t u v = plus-assoc s t (plus K u v) ∙ ap (plus K s) (plus-left-comm t u v)
+      ∙ sym (plus-assoc s u (plus K t v))
 
   pub negative-plus-plus : (n : ℕ) (u v : List ℕ) → Vector K n u → Vector K n v → plus K (negative K u) (plus K u v) ≡ v
   negative-plus-plus n u v hu hv =
       sym (plus-assoc (negative K u) u v) ∙ ap (λ t. plus K t v) (negative-plus n u hu) ∙ zeros-plus n v hv
 
-  pub plus-cancel : (n : ℕ) (u v w : List ℕ) → Vector K n u → Vector K n v → Vector K n w → plus K u v ≡ plus K u w → v ≡ w
+  pub plus-cancel : (n : ℕ) (u v w : List ℕ) → Vector K n u → Vector K n v → Vector K n w → plus K u v ≡ plus K u w
+      → v ≡ w
   plus-cancel n u v w hu hv hw e =
       sym (negative-plus-plus n u v hu hv) ∙ ap (plus K (negative K u)) e ∙ negative-plus-plus n u w hu hw
 
@@ -144,12 +152,15 @@ module _ (K : Ops) (F : IsField K) where
   negative-negative (suc n) (a ∷ v) h = ap₂ ◌∷◌ (neg_neg K F a h.0) (negative-negative n v h.1)
 
   pub negative-unique : (n : ℕ) (u v : List ℕ) → Vector K n u → Vector K n v → plus K u v ≡ zeros n → v ≡ negative K u
-  negative-unique n u v hu hv e = plus-cancel n u v (negative K u) hu hv (negative-vector n u hu) (e ∙ sym (plus-negative n u hu))
+  negative-unique n u v hu hv e = plus-cancel n u v (negative K u) hu hv (negative-vector n u hu)
+      (e ∙ sym (plus-negative n u hu))
 
   -- two vectors whose difference is zero are the same
-  pub same-by-difference : (n : ℕ) (u v : List ℕ) → Vector K n u → Vector K n v → plus K u (negative K v) ≡ zeros n → u ≡ v
+  pub same-by-difference : (n : ℕ) (u v : List ℕ) → Vector K n u → Vector K n v → plus K u (negative K v) ≡ zeros n
+      → u ≡ v
   same-by-difference n u v hu hv e =
-      sym (negative-negative n u hu) ∙ ap (negative K) (sym (negative-unique n u (negative K v) hu (negative-vector n v hv) e))
+      sym (negative-negative n u hu)
+      ∙ ap (negative K) (sym (negative-unique n u (negative K v) hu (negative-vector n v hv) e))
       ∙ negative-negative n v hv
 
   -- u is w less v where u plus v is w
@@ -211,7 +222,8 @@ module _ (K : Ops) (F : IsField K) where
   dot-comm (a ∷ u) [] = refl
   dot-comm (a ∷ u) (b ∷ v) = ap₂ K.add (F.mul_comm a b) (dot-comm u v)
 
-  pub dot-plus : (n : ℕ) (r u v : List ℕ) → Vector K n u → Vector K n v → dot K r (plus K u v) ≡ K.add (dot K r u) (dot K r v)
+  pub dot-plus : (n : ℕ) (r u v : List ℕ) → Vector K n u → Vector K n v → dot K r (plus K u v)
+      ≡ K.add (dot K r u) (dot K r v)
   dot-plus n [] u v hu hv = sym (F.add_zero 0 (zero_below K F))
   dot-plus zero (c ∷ r) [] [] hu hv = sym (F.add_zero 0 (zero_below K F))
   dot-plus zero (c ∷ r) [] (b ∷ v) hu hv = absurd hv
@@ -222,7 +234,8 @@ module _ (K : Ops) (F : IsField K) where
       ap₂ K.add (F.mul_add c a b) (dot-plus n r u v hu.1 hv.1)
       ∙ add_cross K F (K.mul c a) (K.mul c b) (dot K r u) (dot K r v)
 
-  pub plus-dot : (n : ℕ) (u v r : List ℕ) → Vector K n u → Vector K n v → dot K (plus K u v) r ≡ K.add (dot K u r) (dot K v r)
+  pub plus-dot : (n : ℕ) (u v r : List ℕ) → Vector K n u → Vector K n v → dot K (plus K u v) r
+      ≡ K.add (dot K u r) (dot K v r)
   plus-dot n u v r hu hv =
       dot-comm (plus K u v) r ∙ dot-plus n r u v hu hv ∙ ap₂ K.add (dot-comm r u) (dot-comm r v)
 
@@ -238,7 +251,8 @@ module _ (K : Ops) (F : IsField K) where
   pub dot-negative : (u v : List ℕ) → dot K u (negative K v) ≡ K.neg (dot K u v)
   dot-negative [] v = sym (neg_zero K F)
   dot-negative (a ∷ u) [] = sym (neg_zero K F)
-  dot-negative (a ∷ u) (b ∷ v) = ap₂ K.add (mul_neg K F a b) (dot-negative u v) ∙ sym (neg_of_sum K F (K.mul a b) (dot K u v))
+  dot-negative (a ∷ u) (b ∷ v) = ap₂ K.add (mul_neg K F a b) (dot-negative u v)
+      ∙ sym (neg_of_sum K F (K.mul a b) (dot K u v))
 
   pub negative-dot : (u v : List ℕ) → dot K (negative K u) v ≡ K.neg (dot K u v)
   negative-dot u v = dot-comm (negative K u) v ∙ dot-negative v u ∙ ap K.neg (dot-comm v u)
@@ -251,15 +265,18 @@ module _ (K : Ops) (F : IsField K) where
   pub zeros-dot : (n : ℕ) (v : List ℕ) → dot K (zeros n) v ≡ 0
   zeros-dot n v = dot-comm (zeros n) v ∙ dot-zeros n v
 
-  pub dot-append : (u v u' v' : List ℕ) → length u ≡ length v → dot K (u ++ u') (v ++ v') ≡ K.add (dot K u v) (dot K u' v')
+  pub dot-append : (u v u' v' : List ℕ) → length u ≡ length v → dot K (u ++ u') (v ++ v')
+      ≡ K.add (dot K u v) (dot K u' v')
   dot-append [] [] u' v' e = sym (zero_add K F (dot K u' v') (dot-below u' v'))
   dot-append [] (b ∷ v) u' v' e = absurd (omega arith)
   dot-append (a ∷ u) [] u' v' e = absurd (omega arith)
   dot-append (a ∷ u) (b ∷ v) u' v' e =
-      ap (K.add (K.mul a b)) (dot-append u v u' v' (omega arith)) ∙ sym (F.add_assoc (K.mul a b) (dot K u v) (dot K u' v'))
+      ap (K.add (K.mul a b)) (dot-append u v u' v' (omega arith))
+      ∙ sym (F.add_assoc (K.mul a b) (dot K u v) (dot K u' v'))
 
   -- vectors that act alike are one
-  pub vector-ext : (n : ℕ) (u v : List ℕ) → Vector K n u → Vector K n v → ((w : List ℕ) → Vector K n w → dot K u w ≡ dot K v w) → u ≡ v
+  pub vector-ext : (n : ℕ) (u v : List ℕ) → Vector K n u → Vector K n v
+      → ((w : List ℕ) → Vector K n w → dot K u w ≡ dot K v w) → u ≡ v
   vector-ext zero [] [] hu hv e = refl
   vector-ext zero [] (b ∷ v) hu hv e = absurd hv
   vector-ext zero (a ∷ u) v hu hv e = absurd hu
@@ -289,17 +306,21 @@ module _ (K : Ops) (F : IsField K) where
       ap₂ (plus K) (multiple-add c d v) (combination-plus m n cs ds vs hc.1 hd.1)
       ∙ plus-cross (multiple K c v) (multiple K d v) (combination K n cs vs) (combination K n ds vs)
 
-  pub combination-multiple : (n k : ℕ) (cs : List ℕ) (vs : List (List ℕ)) → combination K n (multiple K k cs) vs ≡ multiple K k (combination K n cs vs)
+  pub combination-multiple : (n k : ℕ) (cs : List ℕ) (vs : List (List ℕ)) → combination K n (multiple K k cs) vs
+      ≡ multiple K k (combination K n cs vs)
   combination-multiple n k [] vs = sym (multiple-zeros k n)
   combination-multiple n k (c ∷ cs) [] = sym (multiple-zeros k n)
   combination-multiple n k (c ∷ cs) (v ∷ vs) =
-      ap₂ (plus K) (multiple-mul k c v) (combination-multiple n k cs vs) ∙ sym (multiple-plus k (multiple K c v) (combination K n cs vs))
+      ap₂ (plus K) (multiple-mul k c v) (combination-multiple n k cs vs)
+      ∙ sym (multiple-plus k (multiple K c v) (combination K n cs vs))
 
-  pub combination-negative : (n : ℕ) (cs : List ℕ) (vs : List (List ℕ)) → combination K n (negative K cs) vs ≡ negative K (combination K n cs vs)
+  pub combination-negative : (n : ℕ) (cs : List ℕ) (vs : List (List ℕ)) → combination K n (negative K cs) vs
+      ≡ negative K (combination K n cs vs)
   combination-negative n [] vs = sym (negative-zeros n)
   combination-negative n (c ∷ cs) [] = sym (negative-zeros n)
   combination-negative n (c ∷ cs) (v ∷ vs) =
-      ap₂ (plus K) (multiple-neg c v) (combination-negative n cs vs) ∙ sym (negative-of-plus (multiple K c v) (combination K n cs vs))
+      ap₂ (plus K) (multiple-neg c v) (combination-negative n cs vs)
+      ∙ sym (negative-of-plus (multiple K c v) (combination K n cs vs))
 
   pub combination-zeros : (k m n : ℕ) (vs : List (List ℕ)) → Matrix K m n vs → combination K n (zeros k) vs ≡ zeros n
   combination-zeros zero m n vs h = refl
@@ -321,10 +342,12 @@ module _ (K : Ops) (F : IsField K) where
   pub combination-one : (n c : ℕ) (v : List ℕ) → Vector K n v → combination K n (c ∷ []) (v ∷ []) ≡ multiple K c v
   combination-one n c v h = plus-zeros n (multiple K c v) (multiple-vector n c v h)
 
-  pub combination-push : (n : ℕ) (cs : List ℕ) (vs : List (List ℕ)) (c : ℕ) (v : List ℕ) → length cs ≡ length vs → Vector K n v
+  pub combination-push : (n : ℕ) (cs : List ℕ) (vs : List (List ℕ)) (c : ℕ) (v : List ℕ) → length cs ≡ length vs
+      → Vector K n v
       → combination K n (cs ++ c ∷ []) (vs ++ v ∷ []) ≡ plus K (combination K n cs vs) (multiple K c v)
   combination-push n cs vs c v e h =
-      combination-append 1 n cs (c ∷ []) vs (v ∷ []) e (h, tt) ∙ ap (plus K (combination K n cs vs)) (combination-one n c v h)
+      combination-append 1 n cs (c ∷ []) vs (v ∷ []) e (h, tt)
+      ∙ ap (plus K (combination K n cs vs)) (combination-one n c v h)
 
   -- a combination of combinations is one combination
   pub combination-combination : (l m n : ℕ) (cs : List ℕ) (ds vs : List (List ℕ)) → Matrix K l m ds → Matrix K m n vs
@@ -333,7 +356,8 @@ module _ (K : Ops) (F : IsField K) where
   combination-combination l m n (c ∷ cs) [] vs hd hv = combination-zeros m m n vs hv
   combination-combination zero m n (c ∷ cs) (d ∷ ds) vs hd hv = absurd hd
   combination-combination (suc l) m n (c ∷ cs) (d ∷ ds) vs hd hv =
-      combination-plus m n (multiple K c d) (combination K m cs ds) vs (multiple-vector m c d hd.0) (combination-vector l m cs ds hd.1)
+      combination-plus m n (multiple K c d) (combination K m cs ds) vs (multiple-vector m c d hd.0)
+      (combination-vector l m cs ds hd.1)
       ∙ ap₂ (plus K) (combination-multiple n c d vs) (combination-combination l m n cs ds vs hd.1 hv)
 
   -- the functional of a combination: the combination of the functionals
@@ -343,7 +367,8 @@ module _ (K : Ops) (F : IsField K) where
   combination-dot m n (c ∷ cs) [] w h = zeros-dot n w
   combination-dot zero n (c ∷ cs) (v ∷ vs) w h = absurd h
   combination-dot (suc m) n (c ∷ cs) (v ∷ vs) w h =
-      plus-dot n (multiple K c v) (combination K n cs vs) w (multiple-vector n c v h.0) (combination-vector m n cs vs h.1)
+      plus-dot n (multiple K c v) (combination K n cs vs) w (multiple-vector n c v h.0)
+      (combination-vector m n cs vs h.1)
       ∙ ap₂ K.add (multiple-dot c v w) (combination-dot m n cs vs w h.1)
 
   pub dot-combination : (m n : ℕ) (w cs : List ℕ) (vs : List (List ℕ)) → Matrix K m n vs
@@ -352,11 +377,13 @@ module _ (K : Ops) (F : IsField K) where
   dot-combination m n w (c ∷ cs) [] h = dot-zeros n w
   dot-combination zero n w (c ∷ cs) (v ∷ vs) h = absurd h
   dot-combination (suc m) n w (c ∷ cs) (v ∷ vs) h =
-      dot-plus n w (multiple K c v) (combination K n cs vs) (multiple-vector n c v h.0) (combination-vector m n cs vs h.1)
+      dot-plus n w (multiple K c v) (combination K n cs vs) (multiple-vector n c v h.0)
+      (combination-vector m n cs vs h.1)
       ∙ ap₂ K.add (dot-multiple c w v) (dot-combination m n w cs vs h.1)
 
   -- coefficients 0, .., 0, 1, 0, .., 0 pick a member
-  pub combination-unit : (l m n : ℕ) (vs ws : List (List ℕ)) (v : List ℕ) → Matrix K l n vs → Vector K n v → Matrix K m n ws
+  pub combination-unit : (l m n : ℕ) (vs ws : List (List ℕ)) (v : List ℕ) → Matrix K l n vs → Vector K n v
+      → Matrix K m n ws
       → combination K n (zeros (length vs) ++ 1 ∷ zeros m) (vs ++ v ∷ ws) ≡ v
   combination-unit l m n vs ws v hs hv hw =
       combination-append (suc m) n (zeros (length vs)) (1 ∷ zeros m) vs (v ∷ ws) (zeros-size (length vs)) (hv, hw)

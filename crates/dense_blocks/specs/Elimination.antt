@@ -49,8 +49,10 @@ pub record Eliminates (K : Ops) (n : ℕ) (vectors : List (List ℕ)) (count : �
   pub not_earlier : (k : ℕ) (d : Pivot) → k < length ps → IsDependent K n vectors (slice_index_or ps k d).source → ⊥
   pub zero : (j : ℕ) → j < count → reduced K ps (slice_index_or vectors j []) ≡ zeros n
 
--- the functional p gives k times one coordinate of each vector once that is reduced; other coordinates it reads only at places of pivots
+-- the functional p gives k times one coordinate of each vector once that is reduced; other coordinates it reads only at
+-- places of pivots
 pub record PullsBack (K : Ops) (n : ℕ) (ps : List Pivot) (place k : ℕ) (p : List ℕ) : Type 0 where
   pub functional : IsVector K n p
   pub gives : (u : List ℕ) → IsVector K n u → dot K p u ≡ K.mul k (slice_index (reduced K ps u) place)
-  pub elsewhere : (i : ℕ) → i ≢ place → ((j : ℕ) (d : Pivot) → j < length ps → (slice_index_or ps j d).place ≢ i) → slice_index p i ≡ 0
+  pub elsewhere : (i : ℕ) → i ≢ place → ((j : ℕ) (d : Pivot) → j < length ps → (slice_index_or ps j d).place ≢ i)
+      → slice_index p i ≡ 0

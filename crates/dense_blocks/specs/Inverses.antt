@@ -24,4 +24,5 @@ pub record InKernel (K : Ops) (n : ℕ) (A : List (List ℕ)) (v : List ℕ) : T
 -- the inverse of a square block; where there is none, a vector in the kernel
 abbrev pub Inverts : Ops → Block → Inverse → Type 0
 Inverts K a (Both b) = IsInverseBlock K a b
-Inverts K a (Singular v) = InKernel K a.rows (matrix_of a) v.items × ((B : List (List ℕ)) → IsInverse K a.rows (matrix_of a) B → ⊥)
+Inverts K a (Singular v) = InKernel K a.rows (matrix_of a) v.items
+    × ((B : List (List ℕ)) → IsInverse K a.rows (matrix_of a) B → ⊥)

@@ -6,10 +6,12 @@ use Rattle.dense_blocks.specs.Solving.{Combines, Separates}
 
 -- two leading combinations of the same columns that give the same vector are equal
 abbrev pub OneLeadingCombination : Type 0
-OneLeadingCombination = (K : Ops) → IsField K → (columns : List (List ℕ)) (v c d : List ℕ) → All (IsVector K (length v)) columns
+OneLeadingCombination = (K : Ops) → IsField K → (columns : List (List ℕ)) (v c d : List ℕ)
+    → All (IsVector K (length v)) columns
     → Combines K columns v c → Combines K columns v d → c ≡ d
 
 -- two leading functionals that separate the same vector from the same columns are equal
 abbrev pub OneLeadingFunctional : Type 0
-OneLeadingFunctional = (K : Ops) → IsField K → (columns : List (List ℕ)) (v p q : List ℕ) → All (IsVector K (length v)) columns → AllScalars K v
+OneLeadingFunctional = (K : Ops) → IsField K → (columns : List (List ℕ)) (v p q : List ℕ)
+    → All (IsVector K (length v)) columns → AllScalars K v
     → Separates K columns v p → Separates K columns v q → p ≡ q

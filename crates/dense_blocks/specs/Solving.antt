@@ -24,7 +24,8 @@ pub record IsDependentCoordinate (K : Ops) (columns : List (List ℕ)) (v : List
   pub of_columns : All (λ column. dot K by (take i column) ≡ slice_index column i) columns
   pub of_v : dot K by (take i v) ≡ slice_index v i
 
--- one scalar c for each column, and v is the combination of the columns by them; columns that earlier ones give are left out
+-- one scalar c for each column, and v is the combination of the columns by them; columns that earlier ones give are
+-- left out
 pub record Combines (K : Ops) (columns : List (List ℕ)) (v c : List ℕ) : Type 0 where
   pub coefficients : IsVector K (length columns) c
   pub gives : combination K (length v) c columns ≡ v

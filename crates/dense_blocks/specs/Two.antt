@@ -9,7 +9,8 @@ abbrev pub two : Ops
 two = record { order = 2; add = λ a b. (a + b) % 2; neg = λ a. a % 2; mul = λ a b. (a * b) % 2; inv = λ a. a % 2 }
 
 mod_mul_assoc : (q a b c : ℕ) → ((a * b) % q * c) % q ≡ (a * ((b * c) % q)) % q
-mod_mul_assoc q a b c = rw (mul-mod_first (a * b) c q, mul-mod_second a (b * c) q) (ap (λ (n : ℕ). n % q) (mul_assoc a b c))
+mod_mul_assoc q a b c = rw (mul-mod_first (a * b) c q, mul-mod_second a (b * c) q)
+    (ap (λ (n : ℕ). n % q) (mul_assoc a b c))
 
 mod_mul_add : (q a b c : ℕ) → (a * ((b + c) % q)) % q ≡ ((a * b) % q + (a * c) % q) % q
 mod_mul_add q a b c =

@@ -46,8 +46,8 @@ fn clear_column<F: Scalars>(f: &F, size: usize, column: usize, rows: &mut [u8]) 
     true
 }
 
-/// Makes the entry of the pivot in the column another than 0, where it is 0 by adding a row below; says whether that could
-/// be done.
+/// Makes the entry of the pivot in the column another than 0, where it is 0 by adding a row below; says whether that
+/// could be done.
 fn raise<F: Scalars>(f: &F, column: usize, count: usize, pivot: &mut [u8], below: &[u8]) -> bool
     requires column { column < length pivot.old }
     requires full { length below.now ≡ count * length pivot.old }

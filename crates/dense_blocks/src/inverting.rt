@@ -12,11 +12,12 @@ use crate::inverse::Inverse;
 use crate::scalars::Scalars;
 use std::alloc::{AllocError as NoMemory, Global};
 
-/// The inverse of a square block, or, exactly where there is none, a vector that is not zero and that the block sends to zero.
+/// The inverse of a square block, or, exactly where there is none, a vector that is not zero and that the block sends
+/// to zero.
 ///
-/// By elimination on the rows of the block beside those of the identity (Gauss and Jordan). For a block of n rows it takes at
-/// most 2n³ products of scalars, as many sums, n inverses and, beside the result, 2n² bytes; up to two rows it takes no memory
-/// but for the result, and of one row only the inverse of the entry. The only error is want of memory.
+/// By elimination on the rows of the block beside those of the identity (Gauss and Jordan). For a block of n rows it
+/// takes at most 2n³ products of scalars, as many sums, n inverses and, beside the result, 2n² bytes; up to two rows it
+/// takes no memory but for the result, and of one row only the inverse of the entry. The only error is want of memory.
 pub fn invert<F: Scalars>(alloc: Global, f: &F, a: &Block) -> Result<Inverse, NoMemory>
     requires square { a.now.rows ≡ a.now.cols }
     requires scalars { AllScalars (F.ops f.now) a.now.entries }
@@ -91,8 +92,8 @@ fn right_half(alloc: Global, size: u32, rows: &[u8]) -> Result<Block, NoMemory>
     })
 }
 
-/// The vector that rows whose first columns are those of the identity send to zero, where the next column has no entry to
-/// eliminate with.
+/// The vector that rows whose first columns are those of the identity send to zero, where the next column has no entry
+/// to eliminate with.
 fn kernel_vector<F: Scalars>(
     alloc: Global,
     f: &F,

@@ -184,9 +184,9 @@ impl Elimination {
 
 /// Writes `v` as a combination of the columns, or gives a functional that is 0 on each of them and 1 on `v`.
 ///
-/// Each column has as many coordinates as `v`. The combination has the coefficient 0 at each column that is a combination
-/// of earlier ones, and the functional at each coordinate that, in the columns and `v`, is one combination of earlier ones.
-/// The only error is want of memory.
+/// Each column has as many coordinates as `v`. The combination has the coefficient 0 at each column that is a
+/// combination of earlier ones, and the functional at each coordinate that, in the columns and `v`, is one combination
+/// of earlier ones. The only error is want of memory.
 pub fn solve<F: Scalars>(
     alloc: Global,
     f: &F,

@@ -1,5 +1,6 @@
 -- The faces at a cell: those to it and those from it.
-use Rattle.std.proofs.Common.{◌≡◌, ℕ, ◌<◌, Bool, true, false, ◌||◌, ◌&&◌, nat_eq, List, [], ◌∷◌, length, get_or, All, refl, sym, ap, ap₂, ◌∙◌, arith}
+use Rattle.std.proofs.Common.{◌≡◌, ℕ, ◌<◌, Bool, true, false, ◌||◌, ◌&&◌, nat_eq, List, [], ◌∷◌, length, get_or, All}
+use Rattle.std.proofs.Common.{refl, sym, ap, ap₂, ◌∙◌, arith}
 use Rattle.std.specs.List.{list_any}
 use Rattle.std.proofs.lemmas.Bool.{eqb-true, eq-eqb, and_from}
 use Rattle.std.proofs.lemmas.List.Folds.{list_any_at}
@@ -46,12 +47,14 @@ any-second : (a : ℕ) (x : Bool) (qs : List ℕ) → list_any (λ q. x && nat_e
 any-second a true [] = refl
 any-second a false [] = refl
 any-second a x (q ∷ qs) =
-    ap₂ (λ b rest. (x && b) || rest) (eqb-sym q a) (any-second a x qs) ∙ spread_left (nat_eq a q) (list_any (nat_eq a) qs) x
+    ap₂ (λ b rest. (x && b) || rest) (eqb-sym q a) (any-second a x qs)
+    ∙ spread_left (nat_eq a q) (list_any (nat_eq a) qs) x
 
 -- s is in the list below t just where s is a face of t
 list_any-faces_of : (c : CellComplex) → IsComplex c → (s t : ℕ) → list_any (nat_eq s) (faces_of c t) ≡ is_face c s t
 list_any-faces_of c h s t =
-    any-filter_same (nat_eq s) (λ q. is_face c q t) (is_face c s t) (λ k e. ap (λ q. is_face c q t) (sym (eqb-true s k e))) (all_cells c)
+    any-filter_same (nat_eq s) (λ q. is_face c q t) (is_face c s t)
+    (λ k e. ap (λ q. is_face c q t) (sym (eqb-true s k e))) (all_cells c)
     ∙ by (is_face c s t) refl
   where
     by : (b : Bool) → is_face c s t ≡ b → (b && list_any (nat_eq s) (all_cells c)) ≡ b
@@ -62,17 +65,22 @@ list_any-faces_of c h s t =
     by false e = refl
 
 -- a face of the complex is one
-own-face : (c : CellComplex) (k : ℕ) (d : Face) → k < length c.faces → is_face c (get_or c.faces k d).s (get_or c.faces k d).t ≡ true
+own-face : (c : CellComplex) (k : ℕ) (d : Face) → k < length c.faces
+    → is_face c (get_or c.faces k d).s (get_or c.faces k d).t ≡ true
 own-face c k d l =
     let f : Face = get_or c.faces k d in
-    list_any_at (joins f.s f.t) c.faces k d l (and_from (nat_eq f.s f.s) (nat_eq f.t f.t) (eq-eqb f.s f.s refl) (eq-eqb f.t f.t refl))
+    list_any_at (joins f.s f.t) c.faces k d l (and_from (nat_eq f.s f.s) (nat_eq f.t f.t) (eq-eqb f.s f.s refl)
+    (eq-eqb f.t f.t refl))
 
 -- what is above or below a cell is what has it as an end
-pub ends-at : (c : CellComplex) → IsComplex c → (s : ℕ) → All (λ f. (is_from (faces_of c s) s f || is_to (cofaces_of c s) s f) ≡ is_end s f) c.faces
+pub ends-at : (c : CellComplex) → IsComplex c → (s : ℕ)
+    → All (λ f. (is_from (faces_of c s) s f || is_to (cofaces_of c s) s f) ≡ is_end s f) c.faces
 ends-at c h s k d l =
     ap₂ (λ x y. x || y)
-    (any-first f.s (nat_eq s f.t) (faces_of c s) ∙ ap (λ b. b && nat_eq s f.t) (list_any-faces_of c h f.s s) ∙ below (nat_eq s f.t) refl)
-    (any-second f.t (nat_eq s f.s) (cofaces_of c s) ∙ ap (λ b. nat_eq s f.s && b) (list_any-cofaces_of c h s f.t) ∙ above (nat_eq s f.s) refl)
+    (any-first f.s (nat_eq s f.t) (faces_of c s) ∙ ap (λ b. b && nat_eq s f.t) (list_any-faces_of c h f.s s)
+    ∙ below (nat_eq s f.t) refl)
+    (any-second f.t (nat_eq s f.s) (cofaces_of c s) ∙ ap (λ b. nat_eq s f.s && b) (list_any-cofaces_of c h s f.t)
+    ∙ above (nat_eq s f.s) refl)
     ∙ or-swap (nat_eq s f.t) (nat_eq s f.s)
   where
     f : Face

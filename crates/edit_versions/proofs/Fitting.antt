@@ -1,5 +1,7 @@
 -- What a set keeps: stalks of at most 16, and matrices of scalars from stalk to stalk.
-use Rattle.std.proofs.Common.{◌≡◌, ℕ, zero, suc, ◌+◌, ◌*◌, ◌<◌, ◌≤◌, Bool, true, false, not, cond, ◌||◌, nat_eq, nat_lt, List, [], ◌∷◌, length, map, set, slice_get, slice_index, None, Some, All, refl, sym, ap, ◌∙◌, subst, subst₂, arith}
+use Rattle.std.proofs.Common.{◌≡◌, ℕ, zero, suc, ◌+◌, ◌*◌, ◌<◌, ◌≤◌, Bool, true, false, not, cond, ◌||◌, nat_eq, nat_lt}
+use Rattle.std.proofs.Common.{List, [], ◌∷◌, length, map, set, slice_get, slice_index, None, Some, All, refl, sym, ap}
+use Rattle.std.proofs.Common.{◌∙◌, subst, subst₂, arith}
 use Rattle.std.specs.List.{list_all, AllZip}
 use Rattle.std.proofs.lemmas.Bool.{ltb-true, ltb-false, eqb-true, eqb-false, and_parts}
 use Rattle.std.proofs.lemmas.List.{length-set, get_or-set_other}
@@ -16,7 +18,8 @@ use Rattle.sheaf_words.specs.declared.editing.Set.{Set}
 use Rattle.sheaf_words.specs.declared.editing.Set.TheVariants.{Stalk, Restrict}
 use Rattle.sheaf_words.specs.declared.editing.Cause.TheVariants.{NoCell, NoFace, StalkLimit, Shape, Entry}
 use Rattle.edit_versions.specs.declared.work.Work.{Work}
-use Rattle.edit_versions.specs.Edits.{WrittenMatrix, written_matrix, SheafLists, with_replacements, is_end, zero_at, matrix_between, with_set, set_fault, unless, sets_made}
+use Rattle.edit_versions.specs.Edits.{WrittenMatrix, written_matrix, SheafLists, with_replacements, is_end, zero_at}
+use Rattle.edit_versions.specs.Edits.{matrix_between, with_set, set_fault, unless, sets_made}
 use Rattle.edit_versions.specs.Works.{IsWork, TakesSet}
 
 -- a matrix of scalars that goes from the stalk of the face's cell s to that of its cell t
@@ -25,7 +28,8 @@ pub record FitsFace (K : Ops) (stalks : List ℕ) (f : Face) (m : WrittenMatrix)
   pub rows : m.rows ≡ slice_index stalks f.t
   pub scalars : AllScalars K m.entries
 
-to-zip : (K : Ops) (stalks : List ℕ) (fs : List Face) (bs : List Block) → HaveShapes stalks fs bs → All (λ b. AllScalars K b.entries) bs
+to-zip : (K : Ops) (stalks : List ℕ) (fs : List Face) (bs : List Block) → HaveShapes stalks fs bs
+    → All (λ b. AllScalars K b.entries) bs
     → AllZip (FitsFace K stalks) fs (map written_matrix bs)
 to-zip K stalks [] [] shapes scalars = _
 to-zip K stalks [] (b ∷ bs) shapes scalars = absurd (omega (arith, shapes.count))
@@ -45,7 +49,8 @@ to-zip K stalks (f ∷ fs) (b ∷ bs) shapes scalars = (
       (All-tail (λ b. AllScalars K b.entries) b bs scalars),
 )
 
-from-zip : (K : Ops) (stalks : List ℕ) (fs : List Face) (bs : List Block) → AllZip (FitsFace K stalks) fs (map written_matrix bs) → AreBlocks K fs stalks bs
+from-zip : (K : Ops) (stalks : List ℕ) (fs : List Face) (bs : List Block)
+    → AllZip (FitsFace K stalks) fs (map written_matrix bs) → AreBlocks K fs stalks bs
 from-zip K stalks [] [] h = record {
   shapes = record { count = refl; cols = λ p f b e g. cc; rows = λ p f b e g. cc };
   scalars = All-nil (λ b. AllScalars K b.entries);
@@ -59,16 +64,22 @@ from-zip K stalks (f ∷ fs) (b ∷ bs) h =
       scalars = All-cons (λ b. AllScalars K b.entries) b bs h.0.scalars rest.scalars;
     }
   where
-    cols : HaveShapes stalks fs bs → (p : ℕ) (g : Face) (d : Block) → slice_get (f ∷ fs) p ≡ Some g → slice_get (b ∷ bs) p ≡ Some d → d.cols ≡ slice_index stalks g.s
-    cols rest zero g d e i = ap (λ x. x.cols) (sym (some-same b d i)) ∙ h.0.cols ∙ ap (λ x. slice_index stalks x.s) (some-same f g e)
+    cols : HaveShapes stalks fs bs → (p : ℕ) (g : Face) (d : Block) → slice_get (f ∷ fs) p ≡ Some g
+        → slice_get (b ∷ bs) p ≡ Some d → d.cols ≡ slice_index stalks g.s
+    cols rest zero g d e i = ap (λ x. x.cols) (sym (some-same b d i)) ∙ h.0.cols
+        ∙ ap (λ x. slice_index stalks x.s) (some-same f g e)
     cols rest (suc p) g d e i = rest.cols p g d e i
 
-    rows : HaveShapes stalks fs bs → (p : ℕ) (g : Face) (d : Block) → slice_get (f ∷ fs) p ≡ Some g → slice_get (b ∷ bs) p ≡ Some d → d.rows ≡ slice_index stalks g.t
-    rows rest zero g d e i = ap (λ x. x.rows) (sym (some-same b d i)) ∙ h.0.rows ∙ ap (λ x. slice_index stalks x.t) (some-same f g e)
+    rows : HaveShapes stalks fs bs → (p : ℕ) (g : Face) (d : Block) → slice_get (f ∷ fs) p ≡ Some g
+        → slice_get (b ∷ bs) p ≡ Some d → d.rows ≡ slice_index stalks g.t
+    rows rest zero g d e i = ap (λ x. x.rows) (sym (some-same b d i)) ∙ h.0.rows
+        ∙ ap (λ x. slice_index stalks x.t) (some-same f g e)
     rows rest (suc p) g d e i = rest.rows p g d e i
 
-zip-replaced : (R S : Face → WrittenMatrix → Type 0) (p : Face → Bool) (make : Face → WrittenMatrix) (fs : List Face) (ms : List WrittenMatrix)
-    → ((f : Face) (m : WrittenMatrix) → R f m → S f (cond (p f) (make f) m)) → AllZip R fs ms → AllZip S fs (with_replacements p make fs ms)
+zip-replaced : (R S : Face → WrittenMatrix → Type 0) (p : Face → Bool) (make : Face → WrittenMatrix) (fs : List Face)
+    (ms : List WrittenMatrix)
+    → ((f : Face) (m : WrittenMatrix) → R f m → S f (cond (p f) (make f) m)) → AllZip R fs ms
+    → AllZip S fs (with_replacements p make fs ms)
 zip-replaced R S p make [] [] step h = h
 zip-replaced R S p make [] (m ∷ ms) step h = absurd h
 zip-replaced R S p make (f ∷ fs) [] step h = absurd h
@@ -84,7 +95,8 @@ all-below K (x ∷ xs) e =
     let p = and_parts (nat_lt x K.order) (list_all (λ a. nat_lt a K.order) xs) e in
     All-cons (λ a. a < K.order) x xs (ltb-true x K.order p.0) (all-below K xs p.1)
 
-stalk-low : (K : Ops) (c : CellComplex) (stalks : List ℕ) (i s n : ℕ) → set_fault K c stalks i (Stalk s n) ≡ None → n ≤ 16
+stalk-low : (K : Ops) (c : CellComplex) (stalks : List ℕ) (i s n : ℕ) → set_fault K c stalks i (Stalk s n) ≡ None → n
+    ≤ 16
 stalk-low K c stalks i s n e = ltb-false 16 n (by (nat_lt s (length c.dims)) (nat_lt 16 n) e)
   where
     by : (a b : Bool) → cond (not a) (Some (NoCell i)) (cond b (Some (StalkLimit i)) None) ≡ None → b ≡ false
@@ -92,22 +104,27 @@ stalk-low K c stalks i s n e = ltb-false 16 n (by (nat_lt s (length c.dims)) (na
     by true false h = refl
     by false b h = cc
 
-entries-scalars : (K : Ops) (c : CellComplex) (stalks : List ℕ) (i s t : ℕ) (entries : List ℕ) → set_fault K c stalks i (Restrict s t entries) ≡ None → AllScalars K entries
+entries-scalars : (K : Ops) (c : CellComplex) (stalks : List ℕ) (i s t : ℕ) (entries : List ℕ)
+    → set_fault K c stalks i (Restrict s t entries) ≡ None → AllScalars K entries
 entries-scalars K c stalks i s t entries e =
     all-below K entries
-    (by (is_face c s t) (nat_eq (length entries) (slice_index stalks t * slice_index stalks s)) (list_all (λ a. nat_lt a K.order) entries) e)
+    (by (is_face c s t) (nat_eq (length entries) (slice_index stalks t * slice_index stalks s))
+    (list_all (λ a. nat_lt a K.order) entries) e)
   where
-    by : (a b d : Bool) → cond (not a) (Some (NoFace i)) (cond (not b) (Some (Shape i)) (cond (not d) (Some (Entry i)) None)) ≡ None → d ≡ true
+    by : (a b d : Bool) → cond (not a) (Some (NoFace i))
+        (cond (not b) (Some (Shape i)) (cond (not d) (Some (Entry i)) None)) ≡ None → d ≡ true
     by true true true h = refl
     by true true false h = cc
     by true false d h = cc
     by false b d h = cc
 
-fits-after-stalk : (K : Ops) → 0 < K.order → (stalks : List ℕ) (s n : ℕ) (f : Face) (m : WrittenMatrix) → FitsFace K stalks f m
+fits-after-stalk : (K : Ops) → 0 < K.order → (stalks : List ℕ) (s n : ℕ) (f : Face) (m : WrittenMatrix)
+    → FitsFace K stalks f m
     → FitsFace K (set stalks s n) f (cond (is_end s f) (zero_at (set stalks s n) f) m)
 fits-after-stalk K l stalks s n f m h = by (nat_eq s f.s) (nat_eq s f.t) (eqb-false s f.s) (eqb-false s f.t)
   where
-    by : (a b : Bool) → (a ≡ false → s ≡ f.s → ⊥) → (b ≡ false → s ≡ f.t → ⊥) → FitsFace K (set stalks s n) f (cond (a || b) (zero_at (set stalks s n) f) m)
+    by : (a b : Bool) → (a ≡ false → s ≡ f.s → ⊥) → (b ≡ false → s ≡ f.t → ⊥)
+        → FitsFace K (set stalks s n) f (cond (a || b) (zero_at (set stalks s n) f) m)
     by true b x y = record { cols = refl; rows = refl; scalars = zeros-scalars K l _ }
     by false true x y = record { cols = refl; rows = refl; scalars = zeros-scalars K l _ }
     by false false x y = record {
@@ -116,33 +133,45 @@ fits-after-stalk K l stalks s n f m h = by (nat_eq s f.s) (nat_eq s f.t) (eqb-fa
       scalars = h.scalars;
     }
 
-fits-after-restriction : (K : Ops) (stalks : List ℕ) (s t : ℕ) (entries : List ℕ) → AllScalars K entries → (f : Face) (m : WrittenMatrix) → FitsFace K stalks f m
+fits-after-restriction : (K : Ops) (stalks : List ℕ) (s t : ℕ) (entries : List ℕ) → AllScalars K entries
+    → (f : Face) (m : WrittenMatrix) → FitsFace K stalks f m
     → FitsFace K stalks f (cond (joins s t f) (matrix_between stalks s t entries) m)
 fits-after-restriction K stalks s t entries scalars f m h = by (joins s t f) refl
   where
     by : (b : Bool) → joins s t f ≡ b → FitsFace K stalks f (cond b (matrix_between stalks s t entries) m)
     by true e =
         let p = and_parts (nat_eq s f.s) (nat_eq t f.t) e in
-        record { cols = ap (slice_index stalks) (eqb-true s f.s p.0); rows = ap (slice_index stalks) (eqb-true t f.t p.1); scalars = scalars }
+        record {
+          cols = ap (slice_index stalks) (eqb-true s f.s p.0);
+          rows =
+              ap (slice_index stalks) (eqb-true t f.t p.1);
+          scalars = scalars;
+        }
     by false e = h
 
 -- a set without a fault keeps all that the work promises
-pub takes-work : (K : Ops) → 0 < K.order → (c : CellComplex) (i : ℕ) (x : Set) (old new : Work) → set_fault K c old.stalks.items i x ≡ None
+pub takes-work : (K : Ops) → 0 < K.order → (c : CellComplex) (i : ℕ) (x : Set) (old new : Work)
+    → set_fault K c old.stalks.items i x ≡ None
     → TakesSet c x old new → IsWork K c old → IsWork K c new
 takes-work K l c i (Stalk s n) old new e h w =
     let stalks : new.stalks.items ≡ set old.stalks.items s n = ap (λ lists. lists.stalks) h.lists in
-    let fits = zip-replaced (FitsFace K old.stalks.items) (FitsFace K (set old.stalks.items s n)) (is_end s) (zero_at (set old.stalks.items s n)) c.faces (map written_matrix old.blocks.items)
-    (fits-after-stalk K l old.stalks.items s n) (to-zip K old.stalks.items c.faces old.blocks.items w.blocks_fit.shapes w.blocks_fit.scalars) in
+    let fits = zip-replaced (FitsFace K old.stalks.items) (FitsFace K (set old.stalks.items s n)) (is_end s)
+    (zero_at (set old.stalks.items s n)) c.faces (map written_matrix old.blocks.items)
+    (fits-after-stalk K l old.stalks.items s n) (to-zip K old.stalks.items c.faces old.blocks.items w.blocks_fit.shapes
+    w.blocks_fit.scalars) in
     record {
       one_each = ap length stalks ∙ length-set old.stalks.items s n ∙ w.one_each;
-      low = subst (All (λ size. size ≤ 16)) (sym stalks) (All-set (λ size. size ≤ 16) old.stalks.items s n (stalk-low K c old.stalks.items i s n e) w.low);
+      low = subst (All (λ size. size ≤ 16)) (sym stalks)
+          (All-set (λ size. size ≤ 16) old.stalks.items s n (stalk-low K c old.stalks.items i s n e) w.low);
       blocks_fit =
           from-zip K new.stalks.items c.faces new.blocks.items
-          (subst₂ (λ xs ms. AllZip (FitsFace K xs) c.faces ms) (sym stalks) (sym (ap (λ lists. lists.matrices) h.lists)) fits);
+          (subst₂ (λ xs ms. AllZip (FitsFace K xs) c.faces ms) (sym stalks) (sym (ap (λ lists. lists.matrices) h.lists))
+          fits);
     }
 takes-work K l c i (Restrict s t entries) old new e h w =
     let stalks : new.stalks.items ≡ old.stalks.items = ap (λ lists. lists.stalks) h.lists in
-    let fits = zip-replaced (FitsFace K old.stalks.items) (FitsFace K old.stalks.items) (joins s t) (λ f. matrix_between old.stalks.items s t entries) c.faces (map written_matrix old.blocks.items)
+    let fits = zip-replaced (FitsFace K old.stalks.items) (FitsFace K old.stalks.items) (joins s t)
+    (λ f. matrix_between old.stalks.items s t entries) c.faces (map written_matrix old.blocks.items)
     (fits-after-restriction K old.stalks.items s t entries (entries-scalars K c old.stalks.items i s t entries e))
     (to-zip K old.stalks.items c.faces old.blocks.items w.blocks_fit.shapes w.blocks_fit.scalars) in
     record {
@@ -150,11 +179,14 @@ takes-work K l c i (Restrict s t entries) old new e h w =
       low = subst (All (λ size. size ≤ 16)) (sym stalks) w.low;
       blocks_fit =
           from-zip K new.stalks.items c.faces new.blocks.items
-          (subst₂ (λ xs ms. AllZip (FitsFace K xs) c.faces ms) (sym stalks) (sym (ap (λ lists. lists.matrices) h.lists)) fits);
+          (subst₂ (λ xs ms. AllZip (FitsFace K xs) c.faces ms) (sym stalks) (sym (ap (λ lists. lists.matrices) h.lists))
+          fits);
     }
 
 -- one set without a fault, and the rest
-pub sets_made-next : (K : Ops) (c : CellComplex) (l next : SheafLists) (i : ℕ) (x : Set) (xs : List Set) → set_fault K c l.stalks i x ≡ None
+pub sets_made-next : (K : Ops) (c : CellComplex) (l next : SheafLists) (i : ℕ) (x : Set) (xs : List Set)
+    → set_fault K c l.stalks i x ≡ None
     → next ≡ with_set c l x → sets_made K c next (i + 1) xs ≡ sets_made K c l i (x ∷ xs)
 sets_made-next K c l next i x xs e h =
-    ap (λ lists. sets_made K c lists (i + 1) xs) h ∙ ap (λ o. unless o (sets_made K c (with_set c l x) (i + 1) xs)) (sym e)
+    ap (λ lists. sets_made K c lists (i + 1) xs) h ∙ ap (λ o. unless o (sets_made K c (with_set c l x) (i + 1) xs))
+    (sym e)

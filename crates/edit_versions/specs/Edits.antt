@@ -1,5 +1,6 @@
 -- Edits on plain lists: why a set is refused, and what it makes.
-use Rattle.std.specs.Prelude.{ℕ, ◌+◌, ◌*◌, Bool, List, [], ◌∷◌, Option, None, Some, Result, Ok, Err, length, map, slice_index, slice_set, nat_lt, not, ◌==◌, ◌||◌, if◌then◌else◌}
+use Rattle.std.specs.Prelude.{ℕ, ◌+◌, ◌*◌, Bool, List, [], ◌∷◌, Option, None, Some, Result, Ok, Err, length, map}
+use Rattle.std.specs.Prelude.{slice_index, slice_set, nat_lt, not, ◌==◌, ◌||◌, if◌then◌else◌}
 use Rattle.std.specs.List.{list_all}
 use Rattle.cell_complex.specs.declared.face.Face.{Face}
 use Rattle.cell_complex.specs.Complexes.{CellComplex, joins, is_face}
@@ -28,8 +29,8 @@ pub record SheafLists : Type 0 where
 abbrev pub sheaf_lists : List ℕ → List Block → SheafLists
 sheaf_lists stalks blocks = record { stalks = stalks; matrices = map written_matrix blocks }
 
--- the first of these: a stalk of no cell, a stalk above 16; a restriction of no face, of the wrong number of entries under
--- these stalks, with an entry that is no scalar
+-- the first of these: a stalk of no cell, a stalk above 16; a restriction of no face, of the wrong number of entries
+-- under these stalks, with an entry that is no scalar
 abbrev pub set_fault : Ops → CellComplex → List ℕ → ℕ → Set → Option Cause
 set_fault K c stalks i (Stalk s n) =
     if not (nat_lt s (length c.dims)) then Some (NoCell i)
@@ -43,7 +44,12 @@ set_fault K c stalks i (Restrict s t entries) =
 
 -- the matrix with these entries from the stalk of s to that of t
 abbrev pub matrix_between : List ℕ → ℕ → ℕ → List ℕ → WrittenMatrix
-matrix_between stalks s t entries = record { rows = slice_index stalks t; cols = slice_index stalks s; entries = entries }
+matrix_between stalks s t entries = record {
+  rows = slice_index stalks t;
+  cols = slice_index stalks s;
+  entries =
+      entries;
+}
 
 -- the zero matrix from the stalk of s to that of t
 abbrev pub zero_between : List ℕ → ℕ → ℕ → WrittenMatrix
@@ -54,7 +60,8 @@ abbrev pub zero_at : List ℕ → Face → WrittenMatrix
 zero_at stalks f = zero_between stalks f.s f.t
 
 -- at each face that passes the test the matrix made for it, at each other face the one that was there
-abbrev pub with_replacements : (Face → Bool) → (Face → WrittenMatrix) → List Face → List WrittenMatrix → List WrittenMatrix
+abbrev pub with_replacements : (Face → Bool) → (Face → WrittenMatrix) → List Face → List WrittenMatrix
+    → List WrittenMatrix
 with_replacements p make [] ms = []
 with_replacements p make (f ∷ fs) [] = []
 with_replacements p make (f ∷ fs) (m ∷ ms) = (if p f then make f else m) ∷ with_replacements p make fs ms

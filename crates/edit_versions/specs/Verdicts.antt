@@ -27,15 +27,18 @@ pub record IsSquareVerdict (K : Ops) (c : CellComplex) (matrices : List WrittenM
 
 -- the verdict on what all sets make: too large a total, else that on the restrictions
 abbrev pub IsListVerdict : Ops → CellComplex → Verdict → SheafLists → Type 0
-IsListVerdict K c v l = MatchBool (nat_lt 4096 (sum l.stalks)) (v ≡ Refused TotalLimit) (IsSquareVerdict K c l.matrices v)
+IsListVerdict K c v l = MatchBool (nat_lt 4096 (sum l.stalks)) (v ≡ Refused TotalLimit)
+    (IsSquareVerdict K c l.matrices v)
 
 -- the verdict on an edit of a sheaf over the field of K: the first set at fault, else that on what all sets make
 abbrev pub IsVerdict : {F : Type 0} → Ops → SheafData F → List Set → Verdict → Type 0
 IsVerdict K sheaf sets v =
-    MatchResult (sets_made K sheaf.complex (sheaf_lists sheaf.stalks sheaf.blocks) 0 sets) (IsListVerdict K sheaf.complex v) (λ cause. v ≡ Refused cause)
+    MatchResult (sets_made K sheaf.complex (sheaf_lists sheaf.stalks sheaf.blocks) 0 sets)
+    (IsListVerdict K sheaf.complex v) (λ cause. v ≡ Refused cause)
 
 -- the edited sheaf: what all sets make, over the same complex and field
 pub record IsEdited {F : Type 0} (K : Ops) (old : SheafData F) (sets : List Set) (new : SheafData F) : Type 0 where
   pub complex : new.complex ≡ old.complex
   pub field : new.field ≡ old.field
-  pub lists : sets_made K old.complex (sheaf_lists old.stalks old.blocks) 0 sets ≡ Ok (sheaf_lists new.stalks new.blocks)
+  pub lists : sets_made K old.complex (sheaf_lists old.stalks old.blocks) 0 sets
+      ≡ Ok (sheaf_lists new.stalks new.blocks)

@@ -9,13 +9,15 @@ use Rattle.sheaf_data.specs.Sheaves.{AreBlocks}
 use Rattle.sheaf_data.specs.Refusals.{AreSameElsewhere}
 use Rattle.sheaf_words.specs.declared.editing.Set.{Set}
 use Rattle.edit_versions.specs.declared.work.Work.{Work}
-use Rattle.edit_versions.specs.Edits.{WrittenMatrix, SheafLists, written_matrix, sheaf_lists, with_replacements, with_set}
+use Rattle.edit_versions.specs.Edits.{WrittenMatrix, SheafLists, written_matrix, sheaf_lists, with_replacements}
+use Rattle.edit_versions.specs.Edits.{with_set}
 
 -- what the work stands for
 abbrev pub work_lists : Work → SheafLists
 work_lists w = sheaf_lists w.stalks.items w.blocks.items
 
--- a stalk of at most 16 for each cell, and a matrix of scalars for each face, from stalk to stalk; nothing is said of the total
+-- a stalk of at most 16 for each cell, and a matrix of scalars for each face, from stalk to stalk; nothing is said of
+-- the total
 pub record IsWork (K : Ops) (c : CellComplex) (w : Work) : Type 0 where
   pub one_each : length w.stalks.items ≡ length c.dims
   pub low : All (λ size. size ≤ 16) w.stalks.items
@@ -26,10 +28,12 @@ pub record IsTouched (c : CellComplex) (start : List Block) (w : Work) : Type 0 
   pub faces : All (λ p. p < length c.faces) w.touched.items
   pub others : AreSameElsewhere w.touched.items start w.blocks.items
 
--- the stalks stay, at each face that passes the test stands the matrix made for it, and what was said of touched faces still holds
+-- the stalks stay, at each face that passes the test stands the matrix made for it, and what was said of touched faces
+-- still holds
 pub record Puts (c : CellComplex) (p : Face → Bool) (make : Face → WrittenMatrix) (old new : Work) : Type 0 where
   pub stalks : new.stalks.items ≡ old.stalks.items
-  pub matrices : map written_matrix new.blocks.items ≡ with_replacements p make c.faces (map written_matrix old.blocks.items)
+  pub matrices : map written_matrix new.blocks.items ≡ with_replacements p make c.faces
+      (map written_matrix old.blocks.items)
   pub touched : (start : List Block) → IsTouched c start old → IsTouched c start new
 
 -- the work after one set more

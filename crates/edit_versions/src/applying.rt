@@ -18,16 +18,16 @@ use std::alloc::Global;
 /// Makes the edit, or refuses it by the verdict on it.
 ///
 /// The sets are taken in order. The size of a stalk makes every block at that cell the zero block, also where the size
-/// stays; the entries of a restriction replace its block. All memory is taken before the first change. An edit of one face
-/// costs the copy of the stalks and the blocks, and the squares at that face.
+/// stays; the entries of a restriction replace its block. All memory is taken before the first change. An edit of one
+/// face costs the copy of the stalks and the blocks, and the squares at that face.
 ///
 /// # Errors
 ///
-/// `Refused` with the cause, and `NoMemory`; the sheaf is then as it was. The first set that is at fault decides, with its
-/// place from 0 on: `NoCell` for a stalk of no cell, `NoFace` for a restriction of no face; `StalkLimit` for a size above
-/// 16; `Shape` where the entries are not as many as the sizes so far ask for; `Entry` for an entry that is no scalar. After all
-/// sets: `TotalLimit` where the sizes add up to more than 4,096, else `Square` with the first pair of cells, in
-/// order, whose square does not commute.
+/// `Refused` with the cause, and `NoMemory`; the sheaf is then as it was. The first set that is at fault decides, with
+/// its place from 0 on: `NoCell` for a stalk of no cell, `NoFace` for a restriction of no face; `StalkLimit` for a size
+/// above 16; `Shape` where the entries are not as many as the sizes so far ask for; `Entry` for an entry that is no
+/// scalar. After all sets: `TotalLimit` where the sizes add up to more than 4,096, else `Square` with the first pair of
+/// cells, in order, whose square does not commute.
 pub fn apply<F: Scalars>(alloc: Global, sheaf: &mut Sheaf<F>, edit: &Edit) -> Result<(), EditFault>
     requires { length edit.now.sets ≤ 1000000000 }
     ensures told { (v : Verdict) → IsVerdict (F.ops sheaf.old.field) sheaf.old edit.now.sets v → Tells result v }

@@ -1,7 +1,8 @@
 -- The orders of the table.
 use Rattle.std.proofs.Common.{◌≡◌, ℕ, sym, ap, ◌∙◌, subst, ◌↔◌, ◌==◌, if◌then◌else◌, IsSome, Some, Contains, refl, lit<}
 use Rattle.field_table.specs.declared.field.Field.{Field}
-use Rattle.field_table.specs.declared.field.Field.TheVariants.{Two, Three, Five, Seven, Eleven, Thirteen, Seventeen, Nineteen, TwentyThree, TwentyNine, ThirtyOne}
+use Rattle.field_table.specs.declared.field.Field.TheVariants.{Two, Three, Five, Seven, Eleven, Thirteen, Seventeen}
+use Rattle.field_table.specs.declared.field.Field.TheVariants.{Nineteen, TwentyThree, TwentyNine, ThirtyOne}
 use Rattle.field_table.specs.Table.{order_of, orders}
 
 -- the order of a field stands among the orders
@@ -26,7 +27,8 @@ known_at f order e = (λ _. subst (Contains orders) (sym e) (contains_order f), 
 field_at : ℕ → Field
 field_at order =
     if order == 2 then Two else if order == 3 then Three else if order == 5 then Five else if order == 7 then Seven
-    else if order == 11 then Eleven else if order == 13 then Thirteen else if order == 17 then Seventeen else if order == 19 then Nineteen
+    else if order == 11 then Eleven else if order == 13 then Thirteen else if order == 17 then
+    Seventeen else if order == 19 then Nineteen
     else if order == 23 then TwentyThree else if order == 29 then TwentyNine else ThirtyOne
 
 field_at-order_of : (f : Field) → field_at (order_of f) ≡ f

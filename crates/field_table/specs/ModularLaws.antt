@@ -1,5 +1,6 @@
 -- Whole numbers modulo q are a field where each of 1, 2, .. up to q - 1 has an inverse.
-use Rattle.std.proofs.Common.{◌≡◌, ◌≢◌, ℕ, zero, suc, ◌+◌, ◌-◌, ◌*◌, ◌%◌, ◌<◌, ◌≤◌, Bool, true, false, Some, length, get_or, find, unwrap_or, cond, refl, sym, ap, subst, ◌∙◌, add-zero, arith}
+use Rattle.std.proofs.Common.{◌≡◌, ◌≢◌, ℕ, zero, suc, ◌+◌, ◌-◌, ◌*◌, ◌%◌, ◌<◌, ◌≤◌, Bool, true, false, Some, length}
+use Rattle.std.proofs.Common.{get_or, find, unwrap_or, cond, refl, sym, ap, subst, ◌∙◌, add-zero, arith}
 use Rattle.std.specs.Prelude.{◌==◌}
 use Rattle.std.specs.List.{range_with_len, list_all}
 use Rattle.std.proofs.lemmas.Bool.{eqb-true}
@@ -7,7 +8,8 @@ use Rattle.std.proofs.lemmas.List.Elements.{All-get_or}
 use Rattle.std.proofs.lemmas.List.FromFn.{length-range_with_len, get_or-range_with_len}
 use Rattle.std.proofs.lemmas.List.Sums.{AllPass-from_list_all}
 use Rattle.std.proofs.lemmas.Nat.{mod_below, mul-mod_first, mul-mod_second}
-use Rattle.std.proofs.Math.Nat.{mul_assoc, mul_comm, mul-add, mul-one, add_assoc, add_comm, add-mod, add-mod-mod, mod-add-mod, mod-eq_of_lt, mod_self}
+use Rattle.std.proofs.Math.Nat.{mul_assoc, mul_comm, mul-add, mul-one, add_assoc, add_comm, add-mod, add-mod-mod}
+use Rattle.std.proofs.Math.Nat.{mod-add-mod, mod-eq_of_lt, mod_self}
 use Rattle.dense_blocks.specs.Field.{IsField}
 use Rattle.field_table.specs.Modular.{inverse, modulo}
 

@@ -2,7 +2,8 @@
 use Rattle.std.specs.Prelude.{ℕ, List, [], ◌∷◌}
 use Rattle.dense_blocks.specs.Field.{Ops}
 use Rattle.field_table.specs.declared.field.Field.{Field}
-use Rattle.field_table.specs.declared.field.Field.TheVariants.{Two, Three, Five, Seven, Eleven, Thirteen, Seventeen, Nineteen, TwentyThree, TwentyNine, ThirtyOne}
+use Rattle.field_table.specs.declared.field.Field.TheVariants.{Two, Three, Five, Seven, Eleven, Thirteen, Seventeen}
+use Rattle.field_table.specs.declared.field.Field.TheVariants.{Nineteen, TwentyThree, TwentyNine, ThirtyOne}
 use Rattle.field_table.specs.Modular.{modulo}
 
 -- the orders of the table

@@ -2,7 +2,8 @@
 use Rattle.std.proofs.Common.{refl, lit≤}
 use Rattle.dense_blocks.specs.Field.{IsField}
 use Rattle.field_table.specs.declared.field.Field.{Field}
-use Rattle.field_table.specs.declared.field.Field.TheVariants.{Two, Three, Five, Seven, Eleven, Thirteen, Seventeen, Nineteen, TwentyThree, TwentyNine, ThirtyOne}
+use Rattle.field_table.specs.declared.field.Field.TheVariants.{Two, Three, Five, Seven, Eleven, Thirteen, Seventeen}
+use Rattle.field_table.specs.declared.field.Field.TheVariants.{Nineteen, TwentyThree, TwentyNine, ThirtyOne}
 use Rattle.field_table.specs.Modular.{inverse}
 use Rattle.field_table.specs.Table.{ops_of}
 use Rattle.field_table.specs.ModularLaws.{modulo_is_field}

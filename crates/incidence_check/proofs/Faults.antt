@@ -1,19 +1,26 @@
 -- Where there is no fault, and what that says.
-use Rattle.std.proofs.Common.{◌≡◌, ℕ, ◌+◌, ◌<◌, Bool, true, false, cond, not, ◌&&◌, ◌||◌, ◌⊎◌, ⊎_elim, inl, inr, nat_eq, List, [], ◌∷◌, ◌++◌, length, slice_index, slice_get, take, get_or, filter, None, Some, All, Result, Ok, Err, IsOk, ◌↔◌, refl, sym, ap, ap₂, ◌∙◌, subst, arith}
+use Rattle.std.proofs.Common.{◌≡◌, ℕ, ◌+◌, ◌<◌, Bool, true, false, cond, not, ◌&&◌, ◌||◌, ◌⊎◌, ⊎_elim, inl, inr, nat_eq}
+use Rattle.std.proofs.Common.{List, [], ◌∷◌, ◌++◌, length, slice_index, slice_get, take, get_or, filter, None, Some}
+use Rattle.std.proofs.Common.{All, Result, Ok, Err, IsOk, ◌↔◌, refl, sym, ap, ap₂, ◌∙◌, subst, arith}
 use Rattle.std.specs.List.{list_any, filter_map, flat_map}
 use Rattle.std.proofs.lemmas.Bool.{true≢false, cond-false, eq-eqb, eqb-true, and_parts, or_parts, or_cases}
 use Rattle.std.proofs.lemmas.List.Elements.{All-head, filter_passes}
 use Rattle.std.proofs.lemmas.List.Folds.{list_any_more}
-use Rattle.cell_complex.specs.Complexes.{CellComplex, IsComplex, all_cells, is_face, sign, faces_of, cofaces_of, middles}
+use Rattle.cell_complex.specs.Complexes.{CellComplex, IsComplex, all_cells, is_face, sign, faces_of, cofaces_of}
+use Rattle.cell_complex.specs.Complexes.{middles}
 use Rattle.cell_complex.proofs.Callers.{AreIncident, incident_from_face, middles_by_cofaces, list_any-cofaces_of}
 use Rattle.incidence_check.specs.declared.incidence.Incidence.{Incidence}
 use Rattle.incidence_check.specs.declared.incidence.Incidence.TheVariants.{EdgeEnds, Signs}
-use Rattle.incidence_check.specs.Incidences.{are_opposite, are_opposite_pair, sign_product, HasOppositeEnds, HasOppositeMiddles, HasRegularIncidences, edge_fault, middles_fault, pair_fault, pair_faults, faults, AnswersFirst}
+use Rattle.incidence_check.specs.Incidences.{are_opposite, are_opposite_pair, sign_product, HasOppositeEnds}
+use Rattle.incidence_check.specs.Incidences.{HasOppositeMiddles, HasRegularIncidences, edge_fault, middles_fault}
+use Rattle.incidence_check.specs.Incidences.{pair_fault, pair_faults, faults, AnswersFirst}
 use Rattle.incidence_check.specs.Reach.{reaches}
-use Rattle.incidence_check.proofs.Firsts.{filter_map-none, none_from_filter_map, flat_map-none, none_from_flat_map, none_from_append}
+use Rattle.incidence_check.proofs.Firsts.{filter_map-none, none_from_filter_map, flat_map-none, none_from_flat_map}
+use Rattle.incidence_check.proofs.Firsts.{none_from_append}
 
 -- the ends of an edge
-ends_from_pair : (c : CellComplex) (t : ℕ) (xs : List ℕ) → faces_of c t ≡ xs → are_opposite_pair (λ s. sign c s t) xs ≡ true → HasOppositeEnds c t
+ends_from_pair : (c : CellComplex) (t : ℕ) (xs : List ℕ) → faces_of c t ≡ xs → are_opposite_pair (λ s. sign c s t) xs
+    ≡ true → HasOppositeEnds c t
 ends_from_pair c t [] is h = absurd (true≢false (sym h))
 ends_from_pair c t (a ∷ []) is h = absurd (true≢false (sym h))
 ends_from_pair c t (a ∷ b ∷ []) is h = record { first = a; second = b; ends = is; opposite = h }
@@ -21,7 +28,9 @@ ends_from_pair c t (a ∷ b ∷ d ∷ xs) is h = absurd (true≢false (sym h))
 
 edge_from_none : (c : CellComplex) (t : ℕ) → edge_fault c t ≡ None → slice_index c.dims t ≡ 1 → HasOppositeEnds c t
 edge_from_none c t h one =
-    ends_from_pair c t (faces_of c t) refl (by (nat_eq (slice_index c.dims t) 1) (are_opposite_pair (λ s. sign c s t) (faces_of c t)) h (eq-eqb (slice_index c.dims t) 1 one))
+    ends_from_pair c t (faces_of c t) refl
+    (by (nat_eq (slice_index c.dims t) 1) (are_opposite_pair (λ s. sign c s t) (faces_of c t)) h
+    (eq-eqb (slice_index c.dims t) 1 one))
   where
     by : (edge pair : Bool) → cond (edge && not pair) (Some (EdgeEnds t)) None ≡ None → edge ≡ true → pair ≡ true
     by true true h e = refl
@@ -31,36 +40,49 @@ edge_from_none c t h one =
 none_from_edge : (c : CellComplex) (t : ℕ) → (slice_index c.dims t ≡ 1 → HasOppositeEnds c t) → edge_fault c t ≡ None
 none_from_edge c t h =
     by (nat_eq (slice_index c.dims t) 1) (are_opposite_pair (λ s. sign c s t) (faces_of c t))
-    (λ e. let ends = h (eqb-true (slice_index c.dims t) 1 e) in ap (are_opposite_pair (λ s. sign c s t)) ends.ends ∙ ends.opposite)
+    (λ e. let ends = h (eqb-true (slice_index c.dims t) 1 e) in ap (are_opposite_pair (λ s. sign c s t)) ends.ends
+    ∙ ends.opposite)
   where
     by : (edge pair : Bool) → (edge ≡ true → pair ≡ true) → cond (edge && not pair) (Some (EdgeEnds t)) None ≡ None
     by true pair h = ap (λ b. cond (not b) (Some (EdgeEnds t)) None) (h refl)
     by false pair h = refl
 
 -- the all_cells between two all_cells
-middles_from_none : (c : CellComplex) (s u : ℕ) (xs : List ℕ) → middles c s u ≡ xs → middles_fault s u (λ t. sign_product c s t u) xs ≡ None
+middles_from_none : (c : CellComplex) (s u : ℕ) (xs : List ℕ) → middles c s u ≡ xs
+    → middles_fault s u (λ t. sign_product c s t u) xs ≡ None
     → (middles c s u ≡ []) ⊎ HasOppositeMiddles c s u
 middles_from_none c s u [] is h = inl is
 middles_from_none c s u (a ∷ []) is h = absurd (cc)
-middles_from_none c s u (a ∷ b ∷ []) is h = inr (record { first = a; second = b; middles = is; opposite = by (are_opposite (sign_product c s a u) (sign_product c s b u)) h })
+middles_from_none c s u (a ∷ b ∷ []) is h =
+    inr (record {
+      first = a;
+      second = b;
+      middles = is;
+      opposite =
+          by (are_opposite (sign_product c s a u) (sign_product c s b u)) h;
+    })
   where
     by : (o : Bool) → cond o None (Some (Signs s u)) ≡ None → o ≡ true
     by true h = refl
     by false h = absurd (cc)
 middles_from_none c s u (a ∷ b ∷ d ∷ xs) is h = absurd (cc)
 
-none_from_middles : (c : CellComplex) (s u : ℕ) → (middles c s u ≡ []) ⊎ HasOppositeMiddles c s u → pair_fault c s u ≡ None
+none_from_middles : (c : CellComplex) (s u : ℕ) → (middles c s u ≡ []) ⊎ HasOppositeMiddles c s u
+    → pair_fault c s u ≡ None
 none_from_middles c s u h =
     ⊎_elim (λ (e : middles c s u ≡ []). ap (middles_fault s u (λ t. sign_product c s t u)) e)
     (λ (m : HasOppositeMiddles c s u).
-    ap (middles_fault s u (λ t. sign_product c s t u)) m.middles ∙ ap (λ o. cond o None (Some (Signs s u))) m.opposite) h
+    ap (middles_fault s u (λ t. sign_product c s t u)) m.middles ∙ ap (λ o. cond o None (Some (Signs s u))) m.opposite)
+    h
 
 -- a cell between s and u puts u two dimensions above s
-middle_dims : (c : CellComplex) → IsComplex c → (s u : ℕ) (t : ℕ) (ts : List ℕ) → middles c s u ≡ t ∷ ts → slice_index c.dims u ≡ slice_index c.dims s + 2
+middle_dims : (c : CellComplex) → IsComplex c → (s u : ℕ) (t : ℕ) (ts : List ℕ) → middles c s u ≡ t ∷ ts
+    → slice_index c.dims u ≡ slice_index c.dims s + 2
 middle_dims c h s u t ts is =
     let passes : (is_face c s t && is_face c t u) ≡ true =
     All-head (λ t. (is_face c s t && is_face c t u) ≡ true) t ts
-    (subst (λ xs. All (λ t. (is_face c s t && is_face c t u) ≡ true) xs) is (filter_passes (λ t. is_face c s t && is_face c t u) (all_cells c))) in
+    (subst (λ xs. All (λ t. (is_face c s t && is_face c t u) ≡ true) xs) is
+    (filter_passes (λ t. is_face c s t && is_face c t u) (all_cells c))) in
     let p = and_parts (is_face c s t) (is_face c t u) passes in
     let low : AreIncident c.dims s t = incident_from_face c h s t p.0 in
     let high : AreIncident c.dims t u = incident_from_face c h t u p.1 in
@@ -72,10 +94,12 @@ regular_from_none c h =
     let n : ℕ = length c.dims in
     let parts = none_from_append (filter_map (edge_fault c) (all_cells c)) (flat_map (pair_faults c) (all_cells c)) h in
     record {
-      edges = λ t l one. edge_from_none c t (none_from_filter_map (edge_fault c) 0 n parts.0 t (omega arith) (omega arith)) one;
+      edges = λ t l one. edge_from_none c t (none_from_filter_map (edge_fault c) 0 n parts.0 t (omega arith)
+          (omega arith)) one;
       squares = λ s u l m two.
           middles_from_none c s u (middles c s u) refl
-          (none_from_filter_map (pair_fault c s) 0 n (none_from_flat_map (pair_faults c) 0 n parts.1 s (omega arith) (omega arith)) u (omega arith) (omega arith));
+          (none_from_filter_map (pair_fault c s) 0 n (none_from_flat_map (pair_faults c) 0 n parts.1 s (omega arith)
+          (omega arith)) u (omega arith) (omega arith));
     }
 
 pub none_from_regular : (c : CellComplex) → IsComplex c → HasRegularIncidences c → faults c ≡ []
@@ -83,14 +107,18 @@ none_from_regular c h r =
     let n : ℕ = length c.dims in
     ap₂ (λ xs ys. xs ++ ys)
     (filter_map-none (edge_fault c) 0 n (λ t l m. none_from_edge c t (r.edges t (omega arith))))
-    (flat_map-none (pair_faults c) 0 n (λ s l m. filter_map-none (pair_fault c s) 0 n (λ u p q. pair s u (omega arith) (omega arith) (middles c s u) refl)))
+    (flat_map-none (pair_faults c) 0 n
+    (λ s l m. filter_map-none (pair_fault c s) 0 n (λ u p q. pair s u (omega arith) (omega arith) (middles c s u)
+    refl)))
   where
-    pair : (s u : ℕ) → s < length c.dims → u < length c.dims → (ts : List ℕ) → middles c s u ≡ ts → pair_fault c s u ≡ None
+    pair : (s u : ℕ) → s < length c.dims → u < length c.dims → (ts : List ℕ) → middles c s u ≡ ts
+        → pair_fault c s u ≡ None
     pair s u l m [] is = none_from_middles c s u (inl is)
     pair s u l m (t ∷ ts) is = none_from_middles c s u (r.squares s u l m (middle_dims c h s u t ts is))
 
 -- the answer is ok just where the incidences are regular
-pub regular_iff : (c : CellComplex) → IsComplex c → (r : Result (Unit {0}) Incidence) → AnswersFirst (faults c) r → IsOk r ↔ HasRegularIncidences c
+pub regular_iff : (c : CellComplex) → IsComplex c → (r : Result (Unit {0}) Incidence) → AnswersFirst (faults c) r
+    → IsOk r ↔ HasRegularIncidences c
 regular_iff c h (Ok x) first = (λ _. regular_from_none c first, λ _. refl)
 regular_iff c h (Err e) first = (
   λ ok. absurd (true≢false (sym ok)),
@@ -113,7 +141,8 @@ none_unreached c s u h =
 pub reached-below : (c : CellComplex) → IsComplex c → (ts : List ℕ) (u : ℕ) → reaches c ts u ≡ true → u < length c.dims
 reached-below c h [] u e = absurd (true≢false (sym e))
 reached-below c h (t ∷ ts) u e =
-    ⊎_elim (λ (here : is_face c t u ≡ true). let i : AreIncident c.dims t u = incident_from_face c h t u here in i.t_is_cell)
+    ⊎_elim (λ (here : is_face c t u ≡ true). let i : AreIncident c.dims t u = incident_from_face c h t u here in
+    i.t_is_cell)
     (λ (later : reaches c ts u ≡ true). reached-below c h ts u later) (or_cases (is_face c t u) (reaches c ts u) e)
 
 -- one cell more

@@ -1,5 +1,6 @@
 -- Regular incidences.
-use Rattle.std.specs.Prelude.{◌≡◌, ℕ, ◌+◌, ◌<◌, Bool, true, false, IsTrue, not, List, [], ◌∷◌, ◌++◌, Option, None, Some, length, slice_index, slice_get, Result, MatchResult, ◌⊎◌, ◌==◌, ◌&&◌, if◌then◌else◌}
+use Rattle.std.specs.Prelude.{◌≡◌, ℕ, ◌+◌, ◌<◌, Bool, true, false, IsTrue, not, List, [], ◌∷◌, ◌++◌, Option, None, Some}
+use Rattle.std.specs.Prelude.{length, slice_index, slice_get, Result, MatchResult, ◌⊎◌, ◌==◌, ◌&&◌, if◌then◌else◌}
 use Rattle.std.specs.List.{filter_map, flat_map}
 use Rattle.std.specs.Option.{option_map, option_and_then}
 use Rattle.cell_complex.specs.declared.face.Sign.{Sign}
@@ -37,7 +38,8 @@ pub record HasOppositeMiddles (c : CellComplex) (s u : ℕ) : Type 0 where
   pub middles : middles c s u ≡ first ∷ second ∷ []
   pub opposite : IsTrue (are_opposite (sign_product c s first u) (sign_product c s second u))
 
--- each edge has two ends of opposite sign; between two all_cells two dimensions apart are no all_cells, or two whose signs cancel
+-- each edge has two ends of opposite sign; between two all_cells two dimensions apart are no all_cells, or two whose
+-- signs cancel
 pub record HasRegularIncidences (c : CellComplex) : Type 0 where
   pub edges : (t : ℕ) → t < length c.dims → slice_index c.dims t ≡ 1 → HasOppositeEnds c t
   pub squares : (s u : ℕ) → s < length c.dims → u < length c.dims → slice_index c.dims u ≡ slice_index c.dims s + 2
@@ -51,12 +53,14 @@ are_opposite_pair sign_at _ = false
 -- what is wrong with the cell t, where it is an edge
 abbrev pub edge_fault : CellComplex → ℕ → Option Incidence
 edge_fault c t =
-    if (slice_index c.dims t == 1) && not (are_opposite_pair (λ s. sign c s t) (faces_of c t)) then Some (EdgeEnds t) else None
+    if (slice_index c.dims t == 1) && not (are_opposite_pair (λ s. sign c s t) (faces_of c t)) then
+    Some (EdgeEnds t) else None
 
 -- what is wrong with these all_cells between s and u, with these products of signs
 abbrev pub middles_fault : ℕ → ℕ → (ℕ → Option Sign) → List ℕ → Option Incidence
 middles_fault s u product_at [] = None
-middles_fault s u product_at (a ∷ b ∷ []) = if are_opposite (product_at a) (product_at b) then None else Some (Signs s u)
+middles_fault s u product_at (a ∷ b ∷ []) = if are_opposite (product_at a) (product_at b) then
+    None else Some (Signs s u)
 middles_fault s u product_at ts = Some (Middles s u (length ts))
 
 -- what is wrong between s and u

@@ -7,9 +7,9 @@ use crate::reach::next_above;
 use crate::signs::{are_opposite, product};
 use cell_complex::Complex;
 
-/// Whether each edge has exactly two faces, of opposite sign, and between any two cells two dimensions apart are no cells,
-/// or two whose products of signs are opposite. Takes no memory. It looks only at pairs with a cell between, and costs
-/// about as much as there are chains of two faces.
+/// Whether each edge has exactly two faces, of opposite sign, and between any two cells two dimensions apart are no
+/// cells, or two whose products of signs are opposite. Takes no memory. It looks only at pairs with a cell between, and
+/// costs about as much as there are chains of two faces.
 ///
 /// # Errors
 ///

@@ -1,5 +1,5 @@
-//! Whether the incidences of a complex are regular: two ends of opposite sign at each edge, and signs that cancel between
-//! cells of codimension two.
+//! Whether the incidences of a complex are regular: two ends of opposite sign at each edge, and signs that cancel
+//! between cells of codimension two.
 #![tactic(auto)]
 
 mod checking;

@@ -1,5 +1,6 @@
 -- Bytes that are given and taken, and faults that are counted, in several calls.
-use Rattle.std.proofs.Common.{◌≡◌, ℕ, ◌-◌, ◌^◌, ◌<◌, ◌≤◌, ◌⊎◌, List, [], ◌++◌, length, Option, Some, None, refl, sym, ap, ◌∙◌, append_assoc, arith}
+use Rattle.std.proofs.Common.{◌≡◌, ℕ, ◌-◌, ◌^◌, ◌<◌, ◌≤◌, ◌⊎◌, List, [], ◌++◌, length, Option, Some, None, refl, sym}
+use Rattle.std.proofs.Common.{ap, ◌∙◌, append_assoc, arith}
 use Rattle.std.specs.Prelude.{IfSome}
 use Rattle.std.proofs.lemmas.List.{append-nil, length-append}
 use Rattle.std.specs.Io.KnownBytes.{prepend_known, append_known, IsAtEnd}
@@ -10,7 +11,8 @@ pub append_known-nil : (known : Option (List ℕ)) → append_known known [] ≡
 append_known-nil None = refl
 append_known-nil (Some xs) = ap Some (append-nil xs)
 
-pub append_known-then : (known : Option (List ℕ)) (xs ys : List ℕ) → append_known (append_known known xs) ys ≡ append_known known (xs ++ ys)
+pub append_known-then : (known : Option (List ℕ)) (xs ys : List ℕ) → append_known (append_known known xs) ys
+    ≡ append_known known (xs ++ ys)
 append_known-then None xs ys = refl
 append_known-then (Some known) xs ys = ap Some (append_assoc known xs ys)
 
@@ -18,7 +20,8 @@ pub prepend_known-nil : (known : Option (List ℕ)) → prepend_known [] known �
 prepend_known-nil None = refl
 prepend_known-nil (Some xs) = refl
 
-pub prepend_known-then : (known : Option (List ℕ)) (xs ys : List ℕ) → prepend_known xs (prepend_known ys known) ≡ prepend_known (xs ++ ys) known
+pub prepend_known-then : (known : Option (List ℕ)) (xs ys : List ℕ) → prepend_known xs (prepend_known ys known)
+    ≡ prepend_known (xs ++ ys) known
 prepend_known-then None xs ys = refl
 prepend_known-then (Some known) xs ys = ap Some (sym (append_assoc xs ys known))
 
@@ -27,15 +30,18 @@ pub took_none : (known : Option (List ℕ)) → Took known known []
 took_none known = sym (append_known-nil known)
 
 -- xs were taken, and then ys
-pub took_then : (old between new : Option (List ℕ)) (xs ys : List ℕ) → Took old between xs → Took between new ys → Took old new (xs ++ ys)
-took_then old between new xs ys first second = second ∙ ap (λ (known : Option (List ℕ)). append_known known ys) first ∙ append_known-then old xs ys
+pub took_then : (old between new : Option (List ℕ)) (xs ys : List ℕ) → Took old between xs → Took between new ys
+    → Took old new (xs ++ ys)
+took_then old between new xs ys first second = second ∙ ap (λ (known : Option (List ℕ)). append_known known ys) first
+    ∙ append_known-then old xs ys
 
 -- what was taken whole was taken as a front
 pub took_whole_front : (old new : Option (List ℕ)) (xs : List ℕ) → Took old new xs → TookPrefix old new xs
 took_whole_front old new xs took = record { front = xs; rest = []; split = sym (append-nil xs); took = took }
 
 -- a front of xs is one of xs ++ ys
-pub took_front_longer : (old new : Option (List ℕ)) (xs ys : List ℕ) → TookPrefix old new xs → TookPrefix old new (xs ++ ys)
+pub took_front_longer : (old new : Option (List ℕ)) (xs ys : List ℕ) → TookPrefix old new xs
+    → TookPrefix old new (xs ++ ys)
 took_front_longer old new xs ys first = record {
   front = first.front;
   rest = first.rest ++ ys;
@@ -44,7 +50,8 @@ took_front_longer old new xs ys first = record {
 }
 
 -- xs were taken, and then a front of ys
-pub took_front_then : (old between new : Option (List ℕ)) (xs ys : List ℕ) → Took old between xs → TookPrefix between new ys → TookPrefix old new (xs ++ ys)
+pub took_front_then : (old between new : Option (List ℕ)) (xs ys : List ℕ) → Took old between xs
+    → TookPrefix between new ys → TookPrefix old new (xs ++ ys)
 took_front_then old between new xs ys first second = record {
   front = xs ++ second.front;
   rest = second.rest;
@@ -60,11 +67,13 @@ pub gave_none : (known : Option (List ℕ)) → Gave known known []
 gave_none known = sym (prepend_known-nil known)
 
 -- xs were given, and then ys
-pub gave_then : (old between new : Option (List ℕ)) (xs ys : List ℕ) → Gave old between xs → Gave between new ys → Gave old new (xs ++ ys)
+pub gave_then : (old between new : Option (List ℕ)) (xs ys : List ℕ) → Gave old between xs → Gave between new ys
+    → Gave old new (xs ++ ys)
 gave_then old between new xs ys first second = first ∙ ap (prepend_known xs) second ∙ prepend_known-then new xs ys
 
 -- bytes that were given to the end are all that was left
-pub gave_whole : (old new : Option (List ℕ)) (bytes : List ℕ) → Gave old new bytes → IsAtEnd new → IfSome old (λ left. left ≡ bytes)
+pub gave_whole : (old new : Option (List ℕ)) (bytes : List ℕ) → Gave old new bytes → IsAtEnd new
+    → IfSome old (λ left. left ≡ bytes)
 gave_whole None new bytes gave end = tt
 gave_whole (Some left) None bytes gave end = absurd cc
 gave_whole (Some left) (Some rest) bytes gave end =
@@ -72,7 +81,8 @@ gave_whole (Some left) (Some rest) bytes gave end =
     whole ∙ ap (λ zs. bytes ++ zs) end ∙ append-nil bytes
 
 -- at least the bytes that were given were left
-pub gave_at_least : (old new : Option (List ℕ)) (bytes : List ℕ) → Gave old new bytes → IfSome old (λ left. length bytes ≤ length left)
+pub gave_at_least : (old new : Option (List ℕ)) (bytes : List ℕ) → Gave old new bytes
+    → IfSome old (λ left. length bytes ≤ length left)
 gave_at_least None new bytes gave = tt
 gave_at_least (Some left) None bytes gave = absurd cc
 gave_at_least (Some left) (Some rest) bytes gave =

@@ -9,7 +9,8 @@ pub read_too_long : (limit : ℕ) (bytes : List ℕ) → length bytes ≡ limit 
 read_too_long limit bytes over = record { at_most = omega arith; ok = tt; too_long = (λ _. over, λ _. refl) }
 
 -- within the limit another error comes
-pub read_broken : (limit : ℕ) (bytes : List ℕ) (e : ReadAll) → length bytes ≤ limit → e ≢ TooLong → ReadUpTo limit bytes (Err e)
+pub read_broken : (limit : ℕ) (bytes : List ℕ) (e : ReadAll) → length bytes ≤ limit → e ≢ TooLong
+    → ReadUpTo limit bytes (Err e)
 read_broken limit bytes e within other = record {
   at_most = omega arith;
   ok = tt;

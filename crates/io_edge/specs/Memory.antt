@@ -2,7 +2,8 @@
 use Rattle.std.specs.Prelude.{ℕ, List, Contains}
 use Rattle.io_edge.specs.Faults.{next_count}
 
--- the bytes still to come, how many of them a read gives at most, which calls fail, and the counts of calls and of faults
+-- the bytes still to come, how many of them a read gives at most, which calls fail, and the counts of calls and of
+-- faults
 pub record SourceState : Type 0 where
   pub left : List ℕ
   pub step : ℕ

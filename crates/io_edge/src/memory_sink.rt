@@ -44,8 +44,8 @@ impl Model for MemSink {
 }
 
 impl MemSink {
-    /// An empty sink with the memory for `room` bytes, which takes at most `step` of them in a call, with no call and no
-    /// fault yet. The calls with the numbers in `failing` fail.
+    /// An empty sink with the memory for `room` bytes, which takes at most `step` of them in a call, with no call and
+    /// no fault yet. The calls with the numbers in `failing` fail.
     ///
     /// # Errors
     ///

@@ -7,8 +7,8 @@ use rising_lists::{Line, Lines};
 use std::alloc::{AllocError as NoMemory, Global};
 use std::marker::Model;
 
-/// The columns: for each of some cells the marks of the blocks that come from it, and the first of these that is open, that is,
-/// square and without a flag.
+/// The columns: for each of some cells the marks of the blocks that come from it, and the first of these that is open,
+/// that is, square and without a flag.
 #[derive(Debug, Drop)]
 pub struct Columns {
     marks: Lines<Mark>,

@@ -1,4 +1,5 @@
-//! What the columns of a block complex note of its blocks, and the first open block of each column: square, and without a flag.
+//! What the columns of a block complex note of its blocks, and the first open block of each column: square, and without
+//! a flag.
 #![tactic(auto)]
 
 mod columns;

@@ -4,10 +4,12 @@ ghost use Rattle.pair_find.specs.Pairs.{IsFirstFrom, IsNextFrom, NoneFrom};
 
 use block_sparse::Blocks;
 
-/// The cells of the first square block without a flag at or after the pair `from`; where there is none, of the first of all.
+/// The cells of the first square block without a flag at or after the pair `from`; where there is none, of the first of
+/// all.
 ///
-/// A pair (s, t) stands for the block from `s` to `t`; pairs go by `s`, then by `t`. None exactly where each square block has its
-/// flag set. Takes no memory, and one step for each column and for each block of the first column that it passes.
+/// A pair (s, t) stands for the block from `s` to `t`; pairs go by `s`, then by `t`. None exactly where each square
+/// block has its flag set. Takes no memory, and one step for each column and for each block of the first column that it
+/// passes.
 pub fn next_candidate(b: &Blocks, from: (u32, u32)) -> Option<(u32, u32)>
     ensures { MatchOption result ((s t : ℕ) → is_candidate b.now s t ≡ false) (λ p. IsNextFrom b.now from p) }
 {

@@ -17,5 +17,6 @@ pub record SpansRelations (K : Ops) (n : ℕ) (columns zs : List (List ℕ)) : T
 -- the same for the relations that use only the first j columns
 pub record SpansRelationsBelow (K : Ops) (n : ℕ) (columns : List (List ℕ)) (j : ℕ) (zs : List (List ℕ)) : Type 0 where
   pub relations : All (IsRelation K n columns) zs
-  pub all : (u : List ℕ) (more : ℕ) → j + more ≡ length columns → IsVector K j u → combination K n u (take j columns) ≡ zeros n
+  pub all : (u : List ℕ) (more : ℕ) → j + more ≡ length columns → IsVector K j u → combination K n u (take j columns)
+      ≡ zeros n
       → IsCombination K (length columns) zs (u ++ zeros more)

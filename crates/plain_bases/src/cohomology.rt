@@ -26,7 +26,8 @@ fn cells_of(alloc: Global, complex: &Complex, degree: u32) -> Result<Vec<Cell>, 
         .collect(alloc)
 }
 
-/// The columns of the coboundary from a degree to the next: one for each coordinate of the degree, of the coordinates of the next.
+/// The columns of the coboundary from a degree to the next: one for each coordinate of the degree, of the coordinates
+/// of the next.
 fn columns_from<F: Scalars>(
     alloc: Global,
     f: &F,
@@ -67,11 +68,12 @@ fn columns_into<F: Scalars>(
     })
 }
 
-/// A basis of the cohomology of a degree: cocycles that are independent modulo coboundaries, and that span all cocycles with them.
+/// A basis of the cohomology of a degree: cocycles that are independent modulo coboundaries, and that span all cocycles
+/// with them.
 ///
-/// They are picked, in order, from the cocycles that the columns of the coboundary give, one for each column that is a combination
-/// of those before it: each that is no combination of the coboundaries and of the members already picked. Each member has the
-/// coordinates of a cochain of that degree, in order of cells. Fails only where memory does.
+/// They are picked, in order, from the cocycles that the columns of the coboundary give, one for each column that is a
+/// combination of those before it: each that is no combination of the coboundaries and of the members already picked.
+/// Each member has the coordinates of a cochain of that degree, in order of cells. Fails only where memory does.
 pub fn basis<F: Scalars>(
     alloc: Global,
     f: &F,

@@ -1,7 +1,8 @@
 use cochain_vec::Cell;
 use dense_blocks::{Block, Listed};
 
-/// A matrix from the coordinates of one cell to those of another; for a sheaf, the sign of a face times its restriction.
+/// A matrix from the coordinates of one cell to those of another; for a sheaf, the sign of a face times its
+/// restriction.
 #[derive(Debug, Drop)]
 pub struct Arrow {
     /// The number of the cell that it comes from.
@@ -12,8 +13,8 @@ pub struct Arrow {
     pub block: Block,
 }
 
-/// Cells in rising order, and matrices between them. Cells without a matrix between them have the zero matrix, and matrices
-/// between the same two cells add up.
+/// Cells in rising order, and matrices between them. Cells without a matrix between them have the zero matrix, and
+/// matrices between the same two cells add up.
 #[derive(Debug, Drop)]
 pub struct Complex {
     /// The cells.

@@ -48,8 +48,8 @@ fn add_relation<F: Scalars>(
     }
 }
 
-/// Relations among vectors of which each relation among them is a combination: one for each vector that is a combination of
-/// those before it.
+/// Relations among vectors of which each relation among them is a combination: one for each vector that is a
+/// combination of those before it.
 pub fn relations<F: Scalars>(alloc: Global, f: &F, vectors: &Vectors) -> Result<Vectors, NoMemory>
     requires { IsMatrix (F.ops f.now) (length vectors.now.all.items) vectors.now.size (lists vectors.now.all.items) }
     ensures size { IfOk result (λ zs. zs.size ≡ length vectors.now.all.items) }

@@ -1,7 +1,7 @@
 //! The Betti numbers of a sheaf: the dimensions of its cohomology, by plain elimination over the whole complex.
 //!
-//! This is the cohomology of Curry, Ghrist and Nanda, "Discrete Morse theory for computing cellular sheaf cohomology" (2016),
-//! from the coboundary as it is.
+//! This is the cohomology of Curry, Ghrist and Nanda, "Discrete Morse theory for computing cellular sheaf cohomology"
+//! (2016), from the coboundary as it is.
 #![tactic(auto)]
 
 mod arrows;

@@ -22,10 +22,11 @@ fn complex_of<F: Scalars>(alloc: Global, draft: &Draft<F>) -> Result<Complex, No
     })
 }
 
-/// The Betti numbers of a draft: for each degree from 0 to the largest dimension of a cell the dimension of the cohomology of
-/// that degree of its whole complex; none where there are no cells.
+/// The Betti numbers of a draft: for each degree from 0 to the largest dimension of a cell the dimension of the
+/// cohomology of that degree of its whole complex; none where there are no cells.
 ///
-/// Nothing is asked of incidences and squares: cocycles and coboundaries are read of any draft. Fails only where memory does.
+/// Nothing is asked of incidences and squares: cocycles and coboundaries are read of any draft. Fails only where memory
+/// does.
 pub fn betti<F: Scalars>(alloc: Global, draft: &Draft<F>) -> Result<Vec<u32>, NoMemory>
     ensures { IfOk result (λ numbers. AreBetti (F.ops draft.now.field) draft.now.complex draft.now.stalks draft.now.blocks numbers.items) }
 {

@@ -1,6 +1,7 @@
 -- A removal in three steps: the new corners come in, then the one cell goes, and then the other.
 use Rattle.std.specs.Prelude.{◌==◌, if◌then◌else◌}
-use Rattle.std.proofs.Common.{◌≡◌, ℕ, ◌+◌, Bool, true, false, cond, not, ◌&&◌, ◌||◌, eqb, List, filter, None, refl, sym, ap, ap₂, ◌∙◌, subst, arith}
+use Rattle.std.proofs.Common.{◌≡◌, ℕ, ◌+◌, Bool, true, false, cond, not, ◌&&◌, ◌||◌, eqb, List, filter, None, refl, sym}
+use Rattle.std.proofs.Common.{ap, ap₂, ◌∙◌, subst, arith}
 use Rattle.std.specs.Option.{is_some}
 use Rattle.std.proofs.lemmas.Bool.{and_parts}
 use Rattle.dense_blocks.specs.Field.{Ops, IsField}
@@ -18,26 +19,32 @@ use Rattle.removals.proofs.CornerLaws.{has-without, without-twice, spared}
 use Rattle.reduce_step.proofs.HeldLaws.{written-removal, written-flags}
 
 -- the three steps: the parts of N are put at the listed cells of v, then the cell x is taken out, and then the cell y
-pub record AreSteps (v grid first w : StoredBlocks) (x y : ℕ) (left below : List (ℕ × ℕ)) (N : List (List ℕ)) : Type 0 where
+pub record AreSteps (v grid first w : StoredBlocks) (x y : ℕ) (left below : List (ℕ × ℕ)) (N : List (List ℕ)) :
+    Type 0 where
   pub grid_live : grid.live ≡ v.live
-  pub grid_held : (s t : ℕ) → block_at grid s t ≡ (if has s (keys left) && has t (keys below) then as_block (part left below N s t) else block_at v s t)
+  pub grid_held : (s t : ℕ) → block_at grid s t ≡ (if has s (keys left) && has t (keys below) then
+      as_block (part left below N s t) else block_at v s t)
   pub first_live : first.live ≡ filter (λ l. not (l.0 == x)) grid.live
   pub first_held : (s t : ℕ) → block_at first s t ≡ (if s == x || t == x then None else block_at grid s t)
   pub second_live : w.live ≡ filter (λ l. not (l.0 == y)) first.live
   pub second_held : (s t : ℕ) → block_at w s t ≡ (if s == y || t == y then None else block_at first s t)
 
--- a block stands from x to y; on the left are the other cells from which blocks go to y, below the other cells to which blocks go from x
+-- a block stands from x to y; on the left are the other cells from which blocks go to y, below the other cells to which
+-- blocks go from x
 pub record AreListed (v : StoredBlocks) (x y : ℕ) (left below : List (ℕ × ℕ)) : Type 0 where
   pub stands : is_some (block_at v x y) ≡ true
   pub on_left : (s : ℕ) → has s (keys left) ≡ (is_some (block_at v s y) && not (s == x))
   pub is_below : (t : ℕ) → has t (keys below) ≡ (is_some (block_at v x t) && not (t == y))
 
--- the block is square and a its inverse; the parts of N, which are the new corners, are put at these cells, and x and y are taken out
-pub record IsApplied (K : Ops) (v : StoredBlocks) (x y : ℕ) (a : List (List ℕ)) (left below : List (ℕ × ℕ)) (N : List (List ℕ)) (grid first w : StoredBlocks) : Type 0 where
+-- the block is square and a its inverse; the parts of N, which are the new corners, are put at these cells, and x and y
+-- are taken out
+pub record IsApplied (K : Ops) (v : StoredBlocks) (x y : ℕ) (a : List (List ℕ)) (left below : List (ℕ × ℕ))
+    (N : List (List ℕ)) (grid first w : StoredBlocks) : Type 0 where
   pub listed : AreListed v x y left below
   pub square : size_of v.live y ≡ size_of v.live x
   pub inverse : IsInverse K (size_of v.live x) (matrix v x y) a
-  pub corners : (s t : ℕ) → has s (keys left) ≡ true → has t (keys below) ≡ true → part left below N s t ≡ corner K (complex_in v) x y a s t
+  pub corners : (s t : ℕ) → has s (keys left) ≡ true → has t (keys below) ≡ true → part left below N s t
+      ≡ corner K (complex_in v) x y a s t
   pub steps : AreSteps v grid first w x y left below N
 
 -- a cell that is neither of two
@@ -54,15 +61,23 @@ and_not b c e = ap (λ d. b && not d) e ∙ go b
     go false = refl
 
 -- the cells below have one degree more than those on the left
-pub listed-degrees : (v : StoredBlocks) → IsSound v.live v.rows v.columns → (x y : ℕ) (left below : List (ℕ × ℕ)) → AreListed v x y left below
+pub listed-degrees : (v : StoredBlocks) → IsSound v.live v.rows v.columns → (x y : ℕ) (left below : List (ℕ × ℕ))
+    → AreListed v x y left below
     → (s t : ℕ) → has s (keys left) ≡ true → has t (keys below) ≡ true → degree_of v.live t ≡ degree_of v.live s + 1
 listed-degrees v sound x y left below h s t hs ht =
     let p = and_parts (is_some (block_at v s y)) (not (eqb s x)) (sym (h.on_left s) ∙ hs) in
     let q = and_parts (is_some (block_at v x t)) (not (eqb t y)) (sym (h.is_below t) ∙ ht) in
-    omega (arith, (block_at-between v sound s y p.0).degrees, (block_at-between v sound x t q.0).degrees, (block_at-between v sound x y h.stands).degrees)
+    omega (
+      arith,
+      (block_at-between v sound s y p.0).degrees,
+      (block_at-between v sound x t q.0).degrees,
+      (block_at-between v sound x y h.stands).degrees,
+    )
 
-module _ (K : Ops) (F : IsField K) (v : StoredBlocks) (sound : IsSound v.live v.rows v.columns) (over : IsBlockComplex K (complex_in v)) (x y : ℕ) (a : List (List ℕ))
-    (left below : List (ℕ × ℕ)) (N : List (List ℕ)) (grid first w : StoredBlocks) (h : IsApplied K v x y a left below N grid first w) where
+module _ (K : Ops) (F : IsField K) (v : StoredBlocks) (sound : IsSound v.live v.rows v.columns)
+    (over : IsBlockComplex K (complex_in v)) (x y : ℕ) (a : List (List ℕ))
+    (left below : List (ℕ × ℕ)) (N : List (List ℕ)) (grid first w : StoredBlocks)
+    (h : IsApplied K v x y a left below N grid first w) where
   pub image_of-live : w.live ≡ live_without v.live x y
   image_of-live =
       h.steps.second_live
@@ -80,7 +95,8 @@ module _ (K : Ops) (F : IsField K) (v : StoredBlocks) (sound : IsSound v.live v.
       (h.listed.is_below t ∙ and_not (is_some (block_at v x t)) (eqb t y) (apart (eqb t x) (eqb t y) ot).1)
 
   written : (s t : ℕ) → has s (cells w.live) ≡ true → has t (cells w.live) ≡ true
-      → block_at w s t ≡ cond (is_some (block_at v s y) && is_some (block_at v x t)) (as_block (corner K (complex_in v) x y a s t)) (block_at v s t)
+      → block_at w s t ≡ cond (is_some (block_at v s y) && is_some (block_at v x t))
+      (as_block (corner K (complex_in v) x y a s t)) (block_at v s t)
   written s t hs ht =
       let os = other s hs in
       let ot = other t ht in
@@ -92,8 +108,10 @@ module _ (K : Ops) (F : IsField K) (v : StoredBlocks) (sound : IsSound v.live v.
       ∙ ap (λ b. cond b (as_block (corner K (complex_in v) x y a s t)) (block_at v s t)) (both-listed s t os ot)
     where
       chosen : (b : Bool) → (has s (keys left) && has t (keys below)) ≡ b
-          → cond b (as_block (part left below N s t)) (block_at v s t) ≡ cond b (as_block (corner K (complex_in v) x y a s t)) (block_at v s t)
-      chosen true e = let l = and_parts (has s (keys left)) (has t (keys below)) e in ap as_block (h.corners s t l.0 l.1)
+          → cond b (as_block (part left below N s t)) (block_at v s t)
+          ≡ cond b (as_block (corner K (complex_in v) x y a s t)) (block_at v s t)
+      chosen true e = let l = and_parts (has s (keys left)) (has t (keys below)) e in
+          ap as_block (h.corners s t l.0 l.1)
       chosen false e = refl
 
   pair : AreConsecutive v.live x y

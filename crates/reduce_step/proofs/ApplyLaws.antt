@@ -1,5 +1,6 @@
 -- A record put into the blocks of its footprint is a removal.
-use Rattle.std.proofs.Common.{◌≡◌, ℕ, zero, suc, true, false, List, [], ◌∷◌, length, Option, Some, None, ap, sym, ◌∙◌, subst, arith}
+use Rattle.std.proofs.Common.{◌≡◌, ℕ, zero, suc, true, false, List, [], ◌∷◌, length, Option, Some, None, ap, sym, ◌∙◌}
+use Rattle.std.proofs.Common.{subst, arith}
 use Rattle.std.specs.Option.{is_some}
 use Rattle.dense_blocks.specs.Field.{Ops, IsField}
 use Rattle.dense_blocks.specs.Blocks.{matrix_of}
@@ -36,7 +37,8 @@ block-block_at None m e = e
 block-block_at (Some b) m e = e
 
 -- a record whose footprint stands
-module _ (K : Ops) (F : IsField K) (v : StoredBlocks) (sound : IsSound v.live v.rows v.columns) (over : IsBlockComplex K (complex_in v)) (foot : Footprint)
+module _ (K : Ops) (F : IsField K) (v : StoredBlocks) (sound : IsSound v.live v.rows v.columns)
+    (over : IsBlockComplex K (complex_in v)) (foot : Footprint)
     (stands : is_some (block_at v foot.x foot.y) ≡ true) (is : IsFootprint v foot.x foot.y foot) where
   pivot-rows : foot.pivot.rows ≡ size_of v.live foot.y
   pivot-rows = sym (block-size foot.pivot) ∙ ap length is.pivot ∙ matrix-size_of v sound foot.x foot.y
@@ -47,7 +49,8 @@ module _ (K : Ops) (F : IsField K) (v : StoredBlocks) (sound : IsSound v.live v.
       let n = size_of v.live foot.x in
       let b = foot.pivot in
       let nonzero : is_zero (matrix v foot.x foot.y) ≡ false =
-      (row-between v sound foot.x foot.y (block-block_at (entry_of v.rows foot.y foot.x) (entry_of v.columns foot.x foot.y) stands)).nonzero in
+      (row-between v sound foot.x foot.y
+      (block-block_at (entry_of v.rows foot.y foot.x) (entry_of v.columns foot.x foot.y) stands)).nonzero in
       one-width b.rows b.cols m n (matrix v foot.x foot.y) nonzero
       (subst (Sized b.rows b.cols) is.pivot (sized-cut b.rows b.cols b.entries (omega (arith, b.full))))
       (matrix-sized K m n (matrix v foot.x foot.y) ((block_complex-full K F v sound over).shape foot.x foot.y))
@@ -55,7 +58,8 @@ module _ (K : Ops) (F : IsField K) (v : StoredBlocks) (sound : IsSound v.live v.
   pivot-square : size_of v.live foot.y ≡ size_of v.live foot.x
   pivot-square = sym pivot-rows ∙ foot.parts.square ∙ pivot-cols
 
-  around : AreAround v foot.left foot.below foot.x foot.y (size_of v.live foot.y) (size_of v.live foot.x) foot.corners foot.column foot.row
+  around : AreAround v foot.left foot.below foot.x foot.y (size_of v.live foot.y) (size_of v.live foot.x) foot.corners
+      foot.column foot.row
   around = record {
     sized = is.left_sized;
     corners_are = is.corners;
@@ -80,22 +84,26 @@ module _ (K : Ops) (F : IsField K) (v : StoredBlocks) (sound : IsSound v.live v.
             (subst (λ n. IsInverse K n (matrix_of foot.pivot) a) (pivot-rows ∙ pivot-square) r.inverse_is.inverse);
         corners = λ s t hs ht.
             ap (λ N. part foot.left foot.below N s t) r.new_corners_are.matrix_is
-            ∙ part-reduced K v foot.left foot.below foot.x foot.y (size_of v.live foot.y) (size_of v.live foot.x) foot.corners foot.column foot.row a around s t hs ht;
+            ∙ part-reduced K v foot.left foot.below foot.x foot.y (size_of v.live foot.y) (size_of v.live foot.x)
+            foot.corners foot.column foot.row a around s t hs ht;
         steps = steps;
       }
 
-  module _ (inverse new_corners : Block) (r : IsRecord K foot inverse new_corners) (left below : List (ℕ × ℕ)) (on_left : left ≡ foot.left) (is_below : below ≡ foot.below)
-      (grid first w : StoredBlocks) (steps : AreSteps v grid first w foot.x foot.y left below (matrix_of new_corners)) where
-    applied : IsApplied K v foot.x foot.y (matrix_of inverse) foot.left foot.below (matrix_of new_corners) grid first w
-    applied =
-        record-image_of inverse new_corners r grid first w
-        (subst (λ l. AreSteps v grid first w foot.x foot.y l foot.below (matrix_of new_corners)) on_left
-        (subst (λ l. AreSteps v grid first w foot.x foot.y left l (matrix_of new_corners)) is_below steps))
+  module _ (inverse new_corners : Block) (r : IsRecord K foot inverse new_corners) (left below : List (ℕ × ℕ))
+      (on_left : left ≡ foot.left) (is_below : below ≡ foot.below)
+      (grid first w : StoredBlocks) (steps : AreSteps v grid first w foot.x foot.y left below (matrix_of new_corners))
+    where
+      applied : IsApplied K v foot.x foot.y (matrix_of inverse) foot.left foot.below (matrix_of new_corners) grid first w
+      applied =
+          record-image_of inverse new_corners r grid first w
+          (subst (λ l. AreSteps v grid first w foot.x foot.y l foot.below (matrix_of new_corners)) on_left
+          (subst (λ l. AreSteps v grid first w foot.x foot.y left l (matrix_of new_corners)) is_below steps))
 
-    pub record-removed : IsRemoval K (complex_in v) foot.x foot.y (matrix_of inverse) (complex_in w) × KeepsFlags v foot.x foot.y w
-    record-removed =
-        let a = matrix_of inverse in
-        let N = matrix_of new_corners in (
-          image_of-removal K F v sound over foot.x foot.y a foot.left foot.below N grid first w applied,
-          image_of-flags K F v sound over foot.x foot.y a foot.left foot.below N grid first w applied,
-        )
+      pub record-removed : IsRemoval K (complex_in v) foot.x foot.y (matrix_of inverse) (complex_in w)
+          × KeepsFlags v foot.x foot.y w
+      record-removed =
+          let a = matrix_of inverse in
+          let N = matrix_of new_corners in (
+            image_of-removal K F v sound over foot.x foot.y a foot.left foot.below N grid first w applied,
+            image_of-flags K F v sound over foot.x foot.y a foot.left foot.below N grid first w applied,
+          )

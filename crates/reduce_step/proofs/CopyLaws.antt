@@ -18,7 +18,8 @@ use Rattle.reduce_step.proofs.ListLaws.{AreListed, others-has, others-there, oth
 use Rattle.reduce_step.proofs.PartLaws.{row-part, column-part}
 
 -- the cells of row y and of column x, and what was copied of them
-pub record IsCopy (v : StoredBlocks) (x y : ℕ) (in_row in_column : List ℕ) (left below : List (ℕ × ℕ)) (pivot row column corners : Block) : Type 0 where
+pub record IsCopy (v : StoredBlocks) (x y : ℕ) (in_row in_column : List ℕ) (left below : List (ℕ × ℕ))
+    (pivot row column corners : Block) : Type 0 where
   pub row_has : (s : ℕ) → has s in_row ≡ is_some (block_at v s y)
   pub row_blocks : (s : ℕ) → has s in_row ≡ true → IsBetween v s y
   pub column_has : (t : ℕ) → has t in_column ≡ is_some (block_at v x t)
@@ -33,8 +34,10 @@ pub record IsCopy (v : StoredBlocks) (x y : ℕ) (in_row in_column : List ℕ) (
   pub column_is : IsJoinedBlock v ((x, size_of v.live x) ∷ []) below column
   pub corners_are : IsJoinedBlock v left below corners
 
-pub copy-parts : {v : StoredBlocks} {x y : ℕ} {in_row in_column : List ℕ} {left below : List (ℕ × ℕ)} {pivot row column corners : Block}
-    → IsCopy v x y in_row in_column left below pivot row column corners → AreFootprintParts x y left below pivot row column
+pub copy-parts : {v : StoredBlocks} {x y : ℕ} {in_row in_column : List ℕ} {left below : List (ℕ × ℕ)}
+    {pivot row column corners : Block}
+    → IsCopy v x y in_row in_column left below pivot row column corners → AreFootprintParts x y left below pivot row
+    column
 copy-parts {v} {x} {y} {in_row} {in_column} {left} {below} {pivot} {row} {column} {corners} h =
     let m : ℕ = size_of v.live y in
     let n : ℕ = size_of v.live x in
@@ -59,34 +62,40 @@ copy-parts {v} {x} {y} {in_row} {in_column} {left} {below} {pivot} {row} {column
     }
 
 module _ (v : StoredBlocks) (in_row in_column : List ℕ) (foot : Footprint)
-    (h : IsCopy v foot.x foot.y in_row in_column foot.left foot.below foot.pivot foot.row foot.column foot.corners) where
-  pub copy-footprint : IsFootprint v foot.x foot.y foot
-  copy-footprint = record {
-    from = refl;
-    to = refl;
-    left = λ s. others-has v.live in_row foot.x foot.left h.left_is s ∙ ap (λ b. b && not (s == foot.x)) (h.row_has s);
-    below = λ t. others-has v.live in_column foot.y foot.below h.below_is t ∙ ap (λ b. b && not (t == foot.y)) (h.column_has t);
-    left_sized = h.left_listed.sized;
-    below_sized = h.below_listed.sized;
-    pivot = h.stands.is_matrix;
-    row = h.row_is.parts;
-    column = h.column_is.parts;
-    corners = h.corners_are.parts;
-  }
+    (h : IsCopy v foot.x foot.y in_row in_column foot.left foot.below foot.pivot foot.row foot.column foot.corners)
+  where
+    pub copy-footprint : IsFootprint v foot.x foot.y foot
+    copy-footprint = record {
+      from = refl;
+      to = refl;
+      left = λ s. others-has v.live in_row foot.x foot.left h.left_is s ∙ ap (λ b. b && not (s == foot.x)) (h.row_has s);
+      below = λ t. others-has v.live in_column foot.y foot.below h.below_is t
+          ∙ ap (λ b. b && not (t == foot.y)) (h.column_has t);
+      left_sized = h.left_listed.sized;
+      below_sized = h.below_listed.sized;
+      pivot = h.stands.is_matrix;
+      row = h.row_is.parts;
+      column = h.column_is.parts;
+      corners = h.corners_are.parts;
+    }
 
-  joined-over : (K : Ops) → IsBlockComplex K (complex_in v) → (left below : List (ℕ × ℕ)) (b : Block) → IsRising (keys left) → IsRising (keys below)
-      → AreAllLive v.live left → AreAllLive v.live below → IsJoinedBlock v left below b → AllScalars K b.entries
-  joined-over K over left below b l m p q j = joined-scalars K v left below b over l m p q j.cols j.rows j.parts
+    joined-over : (K : Ops) → IsBlockComplex K (complex_in v) → (left below : List (ℕ × ℕ)) (b : Block)
+        → IsRising (keys left) → IsRising (keys below)
+        → AreAllLive v.live left → AreAllLive v.live below → IsJoinedBlock v left below b → AllScalars K b.entries
+    joined-over K over left below b l m p q j = joined-scalars K v left below b over l m p q j.cols j.rows j.parts
 
-  pub copy-over : (K : Ops) → IsBlockComplex K (complex_in v) → IsOverField K foot
-  copy-over K over =
-      let on_left = sized-live v.live foot.left h.left_listed.sized in
-      let is_below = sized-live v.live foot.below h.below_listed.sized in
-      let from_x = one-live v.live foot.x (size_of v.live foot.x) h.stands.fits.between.from in
-      let to_y = one-live v.live foot.y (size_of v.live foot.y) h.stands.fits.between.to in
-      record {
-        pivot = standing-scalars K v over foot.x foot.y foot.pivot h.stands;
-        row = joined-over K over foot.left ((foot.y, size_of v.live foot.y) ∷ []) foot.row foot.parts.left_rises (one-rises foot.y) on_left to_y h.row_is;
-        column = joined-over K over ((foot.x, size_of v.live foot.x) ∷ []) foot.below foot.column (one-rises foot.x) foot.parts.below_rises from_x is_below h.column_is;
-        corners = joined-over K over foot.left foot.below foot.corners foot.parts.left_rises foot.parts.below_rises on_left is_below h.corners_are;
-      }
+    pub copy-over : (K : Ops) → IsBlockComplex K (complex_in v) → IsOverField K foot
+    copy-over K over =
+        let on_left = sized-live v.live foot.left h.left_listed.sized in
+        let is_below = sized-live v.live foot.below h.below_listed.sized in
+        let from_x = one-live v.live foot.x (size_of v.live foot.x) h.stands.fits.between.from in
+        let to_y = one-live v.live foot.y (size_of v.live foot.y) h.stands.fits.between.to in
+        record {
+          pivot = standing-scalars K v over foot.x foot.y foot.pivot h.stands;
+          row = joined-over K over foot.left ((foot.y, size_of v.live foot.y) ∷ []) foot.row foot.parts.left_rises
+              (one-rises foot.y) on_left to_y h.row_is;
+          column = joined-over K over ((foot.x, size_of v.live foot.x) ∷ []) foot.below foot.column (one-rises foot.x)
+              foot.parts.below_rises from_x is_below h.column_is;
+          corners = joined-over K over foot.left foot.below foot.corners foot.parts.left_rises foot.parts.below_rises
+              on_left is_below h.corners_are;
+        }

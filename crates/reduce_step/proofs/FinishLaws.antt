@@ -22,6 +22,7 @@ change-negative K F n a r c moved negative change cols m g h =
       columns_are = h.columns_are ∙ wide;
       matrix_is =
           h.matrix_is
-          ∙ ap₂ (λ k B. product K k C B) wide (g.matrix_is ∙ ap (matrix_negative K) (m.matrix_is ∙ ap (λ k. product K k A R) cols))
+          ∙ ap₂ (λ k B. product K k C B) wide
+          (g.matrix_is ∙ ap (matrix_negative K) (m.matrix_is ∙ ap (λ k. product K k A R) cols))
           ∙ product-matrix_negative K F n C (product K n A R);
     }

@@ -49,7 +49,8 @@ not-before s t p q h k (inr l) = absurd (omega (arith, l.1))
 
 module _ (Same : ℕ → ℕ → Type 0) where
   -- of two kinds of pairs the earlier difference is the first
-  pub found-either : (C D : ℕ → ℕ → Type 0) (p q r : Option (ℕ × ℕ)) → IsEarlier p q r → Found Same C p → Found Same D q → Found Same (λ s t. C s t ⊎ D s t) r
+  pub found-either : (C D : ℕ → ℕ → Type 0) (p q r : Option (ℕ × ℕ)) → IsEarlier p q r → Found Same C p → Found Same D q
+      → Found Same (λ s t. C s t ⊎ D s t) r
   found-either C D p q r is f g = go p q is f g
     where
       Either : Option (ℕ × ℕ) → Type 0
@@ -80,6 +81,7 @@ module _ (Same : ℕ → ℕ → Type 0) where
   found-all C D None f h = λ s t d. h s t d (λ p q c n. f p q c)
   found-all C D (Some a) f h = (f.0, λ s t d l. h s t d (λ p q c n. f.1 p q c (before-later p q s t a.0 a.1 n l)))
 
-  pub found-within : (C D : ℕ → ℕ → Type 0) (r : Option (ℕ × ℕ)) → ((s t : ℕ) → D s t → C s t) → Found Same C r → Found Same D r
+  pub found-within : (C D : ℕ → ℕ → Type 0) (r : Option (ℕ × ℕ)) → ((s t : ℕ) → D s t → C s t) → Found Same C r
+      → Found Same D r
   found-within C D None sub f = λ s t d. f s t (sub s t d)
   found-within C D (Some a) sub f = (f.0, λ s t d l. f.1 s t (sub s t d) l)

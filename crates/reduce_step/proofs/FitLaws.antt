@@ -1,5 +1,6 @@
 -- Where nothing differs from a footprint, it is the footprint of the blocks as they stand.
-use Rattle.std.proofs.Common.{◌≡◌, ℕ, zero, suc, ◌≤◌, Bool, true, false, ◌||◌, ◌&&◌, List, [], ◌∷◌, get_or, refl, sym, ap, ap₂, ◌∙◌, subst, arith, inl, inr}
+use Rattle.std.proofs.Common.{◌≡◌, ℕ, zero, suc, ◌≤◌, Bool, true, false, ◌||◌, ◌&&◌, List, [], ◌∷◌, get_or, refl, sym}
+use Rattle.std.proofs.Common.{ap, ap₂, ◌∙◌, subst, arith, inl, inr}
 use Rattle.std.specs.Prelude.{◌==◌, not}
 use Rattle.std.specs.List.{list_all}
 use Rattle.std.specs.Option.{is_some}
@@ -22,7 +23,8 @@ use Rattle.reduce_step.specs.declared.footprint.Footprint.{Footprint}
 use Rattle.reduce_step.specs.Footprints.{IsFootprint}
 use Rattle.reduce_step.specs.Differences.{sources, targets, Fits, IsAsCopied, IsSized}
 use Rattle.reduce_step.proofs.PartLaws.{row-part, column-part}
-use Rattle.reduce_step.proofs.DifferenceLaws.{not-both, and_false, live-size, both-listed, listed-one, listed-too, sized-one, all-sized, one-of, kept-at, not_x, not_y}
+use Rattle.reduce_step.proofs.DifferenceLaws.{not-both, and_false, live-size, both-listed, listed-one, listed-too}
+use Rattle.reduce_step.proofs.DifferenceLaws.{sized-one, all-sized, one-of, kept-at, not_x, not_y}
 
 zeros-zero : (n : ℕ) → list_all (λ a. a == 0) (zeros n) ≡ true
 zeros-zero zero = refl
@@ -33,11 +35,13 @@ zero_matrix-zero zero n = refl
 zero_matrix-zero (suc m) n = ap₂ (λ a b. a && b) (zeros-zero n) (zero_matrix-zero m n)
 
 -- a matrix that is not zero is that of a block
-nonzero-block_at : (K : Ops) (v : StoredBlocks) (s t : ℕ) → is_zero (matrix v s t) ≡ false → is_some (block_at v s t) ≡ true
+nonzero-block_at : (K : Ops) (v : StoredBlocks) (s t : ℕ) → is_zero (matrix v s t) ≡ false → is_some (block_at v s t)
+    ≡ true
 nonzero-block_at K v s t e = elim (cases_Bool (is_some (block_at v s t))) [
   | inl h ↦ h
   | inr n ↦ not-both (is_zero (matrix v s t))
-      (ap is_zero (matrix-none K v s t (not-block_at (block_at v s t) n)) ∙ zero_matrix-zero (size_of v.live t) (size_of v.live s)) e
+      (ap is_zero (matrix-none K v s t (not-block_at (block_at v s t) n))
+      ∙ zero_matrix-zero (size_of v.live t) (size_of v.live s)) e
 ]
 
 -- a zero matrix has no inverse
@@ -52,10 +56,13 @@ zero-no_inverse K F (suc n) B l inverse =
     }) inverse
 
 -- the listed cells are those with a block but one
-others-are : (x : ℕ) (ls : List (ℕ × ℕ)) (stands : ℕ → Bool) → has x (keys ls) ≡ false → ((c : ℕ) → has c (keys ls) ≡ true → stands c ≡ true)
-    → ((c : ℕ) → has c (x ∷ keys ls) ≡ false → stands c ≡ false) → (c : ℕ) → has c (keys ls) ≡ (stands c && not (c == x))
+others-are : (x : ℕ) (ls : List (ℕ × ℕ)) (stands : ℕ → Bool) → has x (keys ls) ≡ false
+    → ((c : ℕ) → has c (keys ls) ≡ true → stands c ≡ true)
+    → ((c : ℕ) → has c (x ∷ keys ls) ≡ false → stands c ≡ false) → (c : ℕ)
+    → has c (keys ls) ≡ (stands c && not (c == x))
 others-are x ls stands apart there others c = elim (cases_eq c x) [
-  | inl e ↦ ap (λ k. has k (keys ls)) e ∙ apart ∙ sym (ap (λ b. stands c && not b) (eq-eqb c x e) ∙ and_false (stands c))
+  | inl e ↦ ap (λ k. has k (keys ls)) e ∙ apart
+      ∙ sym (ap (λ b. stands c && not b) (eq-eqb c x e) ∙ and_false (stands c))
   | inr d ↦ elim (cases_Bool (has c (keys ls))) [
     | inl h ↦ h ∙ sym (ap₂ (λ a b. a && not b) (there c h) (ne_eqb c x d))
     | inr n ↦ n ∙ sym (ap (λ a. a && not (c == x)) (others c (ap₂ (λ a b. a || b) (ne_eqb x c (λ e. d (sym e))) n)))
@@ -75,14 +82,17 @@ module _ (K : Ops) (v : StoredBlocks) (foot : Footprint) (fits : Fits v foot) wh
   y-target : has foot.y (keys (targets foot)) ≡ true
   y-target = listed-one v.live foot.y foot.pivot.rows foot.below foot.parts.below_rises foot.parts.without_y
 
-  kept-pair : (s t : ℕ) → has s (keys (sources foot)) ≡ true → has t (keys (targets foot)) ≡ true → IsAsCopied v foot s t
+  kept-pair : (s t : ℕ) → has s (keys (sources foot)) ≡ true → has t (keys (targets foot)) ≡ true
+      → IsAsCopied v foot s t
   kept-pair s t hs ht = (fits s t).copied (both-listed foot s t hs ht)
 
   x-sized : IsSized v.live foot.x foot.pivot.cols
-  x-sized = sized-one v.live foot.x foot.pivot.cols foot.left foot.parts.left_rises foot.parts.without_x (kept-pair foot.x foot.y x-source y-target).from
+  x-sized = sized-one v.live foot.x foot.pivot.cols foot.left foot.parts.left_rises foot.parts.without_x
+      (kept-pair foot.x foot.y x-source y-target).from
 
   y-sized : IsSized v.live foot.y foot.pivot.rows
-  y-sized = sized-one v.live foot.y foot.pivot.rows foot.below foot.parts.below_rises foot.parts.without_y (kept-pair foot.x foot.y x-source y-target).to
+  y-sized = sized-one v.live foot.y foot.pivot.rows foot.below foot.parts.below_rises foot.parts.without_y
+      (kept-pair foot.x foot.y x-source y-target).to
 
   pivot-is : matrix v foot.x foot.y ≡ matrix_of foot.pivot
   pivot-is =
@@ -91,11 +101,14 @@ module _ (K : Ops) (v : StoredBlocks) (foot : Footprint) (fits : Fits v foot) wh
 
   row-is : (s : ℕ) → has s (keys foot.left) ≡ true → matrix v s foot.y ≡ columns_of foot.left (matrix_of foot.row) s
   row-is s h =
-      (kept-pair s foot.y (source s h) y-target).matrix_is ∙ kept-at v foot s foot.y false true (not_x v foot s h) (eq-eqb foot.y foot.y refl)
+      (kept-pair s foot.y (source s h) y-target).matrix_is ∙ kept-at v foot s foot.y false true (not_x v foot s h)
+      (eq-eqb foot.y foot.y refl)
 
-  column-is : (t : ℕ) → has t (keys foot.below) ≡ true → matrix v foot.x t ≡ segment foot.below (matrix_of foot.column) t
+  column-is : (t : ℕ) → has t (keys foot.below) ≡ true → matrix v foot.x t ≡ segment foot.below (matrix_of foot.column)
+      t
   column-is t h =
-      (kept-pair foot.x t x-source (target t h)).matrix_is ∙ kept-at v foot foot.x t true false (eq-eqb foot.x foot.x refl) (not_y v foot t h)
+      (kept-pair foot.x t x-source (target t h)).matrix_is
+      ∙ kept-at v foot foot.x t true false (eq-eqb foot.x foot.x refl) (not_y v foot t h)
 
   pub fit-footprint : IsFootprint v foot.x foot.y foot
   fit-footprint = record {
@@ -103,31 +116,41 @@ module _ (K : Ops) (v : StoredBlocks) (foot : Footprint) (fits : Fits v foot) wh
     to = refl;
     left = others-are foot.x foot.left (λ s. is_some (block_at v s foot.y)) foot.parts.without_x
         (λ s h. nonzero-block_at K v s foot.y (ap is_zero (row-is s h) ∙ foot.parts.row_blocks s h))
-        (λ s n. (fits s foot.y).others (ap (λ b. b && has foot.y (keys (targets foot))) n) (record { from = x-sized.0; to = y-sized.0; beside = inr refl }));
+        (λ s n. (fits s foot.y).others (ap (λ b. b && has foot.y (keys (targets foot))) n)
+        (record { from = x-sized.0; to = y-sized.0; beside = inr refl }));
     below = others-are foot.y foot.below (λ t. is_some (block_at v foot.x t)) foot.parts.without_y
         (λ t h. nonzero-block_at K v foot.x t (ap is_zero (column-is t h) ∙ foot.parts.column_blocks t h))
-        (λ t n. (fits foot.x t).others (ap (λ b. has foot.x (keys (sources foot)) && b) n ∙ and_false (has foot.x (keys (sources foot))))
+        (λ t n. (fits foot.x t).others (ap (λ b. has foot.x (keys (sources foot)) && b) n
+        ∙ and_false (has foot.x (keys (sources foot))))
         (record { from = x-sized.0; to = y-sized.0; beside = inl refl }));
-    left_sized = all-sized v.live foot.x foot.pivot.cols foot.left foot.parts.left_rises foot.parts.without_x (λ s h. (kept-pair s foot.y (source s h) y-target).from);
-    below_sized = all-sized v.live foot.y foot.pivot.rows foot.below foot.parts.below_rises foot.parts.without_y (λ t h. (kept-pair foot.x t x-source (target t h)).to);
+    left_sized = all-sized v.live foot.x foot.pivot.cols foot.left foot.parts.left_rises foot.parts.without_x
+        (λ s h. (kept-pair s foot.y (source s h) y-target).from);
+    below_sized = all-sized v.live foot.y foot.pivot.rows foot.below foot.parts.below_rises foot.parts.without_y
+        (λ t h. (kept-pair foot.x t x-source (target t h)).to);
     pivot = sym pivot-is;
     row = subst (λ n. IsJoined v foot.left ((foot.y, n) ∷ []) (matrix_of foot.row)) (sym y-sized.1) (λ s t hs ht.
-        subst (λ t. part foot.left ((foot.y, foot.pivot.rows) ∷ []) (matrix_of foot.row) s t ≡ matrix v s t) (one-of foot.y t ht)
+        subst (λ t. part foot.left ((foot.y, foot.pivot.rows) ∷ []) (matrix_of foot.row) s t ≡ matrix v s t)
+        (one-of foot.y t ht)
         (row-part foot.left foot.y foot.pivot.rows foot.row s foot.parts.row_rows ∙ sym (row-is s hs)));
     column = subst (λ n. IsJoined v ((foot.x, n) ∷ []) foot.below (matrix_of foot.column)) (sym x-sized.1) (λ s t hs ht.
-        subst (λ s. part ((foot.x, foot.pivot.cols) ∷ []) foot.below (matrix_of foot.column) s t ≡ matrix v s t) (one-of foot.x s hs)
+        subst (λ s. part ((foot.x, foot.pivot.cols) ∷ []) foot.below (matrix_of foot.column) s t ≡ matrix v s t)
+        (one-of foot.x s hs)
         (column-part foot.x foot.pivot.cols foot.below foot.column t foot.parts.column_cols ∙ sym (column-is t ht)));
     corners = λ s t hs ht.
-        sym ((kept-pair s t (source s hs) (target t ht)).matrix_is ∙ kept-at v foot s t false false (not_x v foot s hs) (not_y v foot t ht));
+        sym ((kept-pair s t (source s hs) (target t ht)).matrix_is ∙ kept-at v foot s t false false (not_x v foot s hs)
+        (not_y v foot t ht));
   }
 
   -- a pivot with an inverse stands
-  pub fit-stands : (F : IsField K) (B : List (List ℕ)) → AreLive v.live → IsInverse K foot.pivot.rows (matrix_of foot.pivot) B → is_some (block_at v foot.x foot.y) ≡ true
+  pub fit-stands : (F : IsField K) (B : List (List ℕ)) → AreLive v.live
+      → IsInverse K foot.pivot.rows (matrix_of foot.pivot) B → is_some (block_at v foot.x foot.y) ≡ true
   fit-stands F B live inverse = elim (cases_Bool (is_some (block_at v foot.x foot.y))) [
     | inl h ↦ h
     | inr n ↦
         let k : ℕ = foot.pivot.rows in
         let zero_pivot : matrix_of foot.pivot ≡ zero_matrix k k =
-        sym pivot-is ∙ matrix-none K v foot.x foot.y (not-block_at (block_at v foot.x foot.y) n) ∙ ap₂ zero_matrix y-sized.1 (x-sized.1 ∙ sym foot.parts.square) in
-        absurd (zero-no_inverse K F k B (omega (arith, live-size v.live foot.y live y-sized.0, y-sized.1)) (subst (λ A. IsInverse K k A B) zero_pivot inverse))
+        sym pivot-is ∙ matrix-none K v foot.x foot.y (not-block_at (block_at v foot.x foot.y) n)
+        ∙ ap₂ zero_matrix y-sized.1 (x-sized.1 ∙ sym foot.parts.square) in
+        absurd (zero-no_inverse K F k B (omega (arith, live-size v.live foot.y live y-sized.0, y-sized.1))
+        (subst (λ A. IsInverse K k A B) zero_pivot inverse))
   ]

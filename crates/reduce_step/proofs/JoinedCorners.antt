@@ -13,9 +13,10 @@ use Rattle.removals.specs.Removals.{corner}
 use Rattle.block_complexes.proofs.Sums.{has-head}
 use Rattle.reduce_step.proofs.JoinedParts.{joined-corners}
 
--- the joined matrices around a pair of cells x and y: that of the corners, the column from x, which has n coordinates, and the row to
--- y, which has m
-pub record AreAround (v : StoredBlocks) (left below : List (ℕ × ℕ)) (x y m n : ℕ) (corners column row : Block) : Type 0 where
+-- the joined matrices around a pair of cells x and y: that of the corners, the column from x, which has n coordinates,
+-- and the row to y, which has m
+pub record AreAround (v : StoredBlocks) (left below : List (ℕ × ℕ)) (x y m n : ℕ) (corners column row : Block) :
+    Type 0 where
   pub sized : AreSized v.live left
   pub corners_are : IsJoined v left below (matrix_of corners)
   pub corners_cols : corners.cols ≡ width left
@@ -28,10 +29,13 @@ sized-block : (b : Block) → Sized b.rows b.cols (matrix_of b)
 sized-block b = sized-cut b.rows b.cols b.entries (omega (arith, b.full))
 
 -- the part from s to t of C - c (a r) is M(s, t) - M(x, t) a M(s, y)
-pub part-reduced : (K : Ops) (v : StoredBlocks) (left below : List (ℕ × ℕ)) (x y m n : ℕ) (corners column row : Block) (a : List (List ℕ))
-    → AreAround v left below x y m n corners column row → (s t : ℕ) → has s (keys left) ≡ true → has t (keys below) ≡ true
+pub part-reduced : (K : Ops) (v : StoredBlocks) (left below : List (ℕ × ℕ)) (x y m n : ℕ) (corners column row : Block)
+    (a : List (List ℕ))
+    → AreAround v left below x y m n corners column row → (s t : ℕ) → has s (keys left) ≡ true → has t (keys below)
+    ≡ true
     → part left below
-    (matrix_sum K (matrix_of corners) (matrix_negative K (product K corners.cols (matrix_of column) (product K corners.cols a (matrix_of row))))) s t
+    (matrix_sum K (matrix_of corners)
+    (matrix_negative K (product K corners.cols (matrix_of column) (product K corners.cols a (matrix_of row))))) s t
     ≡ corner K (complex_in v) x y a s t
 part-reduced K v left below x y m n corners column row a h s t hs ht =
     let C : List (List ℕ) = matrix_of corners in
@@ -40,4 +44,5 @@ part-reduced K v left below x y m n corners column row a h s t hs ht =
     ap (λ k. part left below (matrix_sum K C (matrix_negative K (product K k c (product K k a r)))) s t) h.corners_cols
     ∙ joined-corners K v x y m n column.rows row.cols left below C c a r h.sized h.corners_are
     (λ s hs. h.row_is s y hs (has-head y [])) (subst (λ k. Sized k row.cols r) h.row_rows (sized-block row))
-    (λ t ht. h.column_is x t (has-head x []) ht) (subst (λ k. Sized column.rows k c) h.column_cols (sized-block column)) s t hs ht
+    (λ t ht. h.column_is x t (has-head x []) ht) (subst (λ k. Sized column.rows k c) h.column_cols (sized-block column))
+    s t hs ht

@@ -1,5 +1,6 @@
 -- Cells with a block, but one, each with its size.
-use Rattle.std.proofs.Common.{◌≡◌, ℕ, zero, suc, Bool, true, false, ◌&&◌, List, [], ◌∷◌, map, filter, get_or, refl, sym, ap, ◌∙◌, subst, arith}
+use Rattle.std.proofs.Common.{◌≡◌, ℕ, zero, suc, Bool, true, false, ◌&&◌, List, [], ◌∷◌, map, filter, get_or, refl, sym}
+use Rattle.std.proofs.Common.{ap, ◌∙◌, subst, arith}
 use Rattle.std.specs.Prelude.{◌==◌, not}
 use Rattle.std.proofs.lemmas.Bool.{and_parts, eq-eqb}
 use Rattle.std.proofs.lemmas.List.Elements.{All-from_get_or, All-map}
@@ -40,23 +41,27 @@ module _ (live : List (ℕ × ℕ × ℕ)) (there : List ℕ) (but : ℕ) (liste
       and_false true = refl
       and_false false = refl
 
-  pub others-listed : IsRising there → ((c : ℕ) → has c there ≡ true → has c (cells live) ≡ true) → AreListed live listed
+  pub others-listed : IsRising there → ((c : ℕ) → has c there ≡ true → has c (cells live) ≡ true)
+      → AreListed live listed
   others-listed rises within =
       let Sized : ℕ × ℕ → Type 0 = λ l. (has l.0 (cells live) ≡ true) × (size_of live l.0 ≡ l.1) in
-      let is_live : (c : ℕ) → has c others ≡ true → has c (cells live) ≡ true = λ c h. within c (others-there c (ap (has c) keys-are ∙ h)) in
+      let is_live : (c : ℕ) → has c others ≡ true → has c (cells live) ≡ true = λ c h.
+      within c (others-there c (ap (has c) keys-are ∙ h)) in
       record {
         rise = subst IsRising (sym keys-are) (rising-filter (λ c. not (c == but)) there rises);
         sized =
             subst (AreSized live) (sym are)
             (All-map Sized (λ c. (c, size_of live c)) others
-            (All-from_get_or (λ c. Sized (c, size_of live c)) others 0 (λ i l. (is_live (get_or others i 0) (has-at others i l), refl))));
+            (All-from_get_or (λ c. Sized (c, size_of live c)) others 0
+            (λ i l. (is_live (get_or others i 0) (has-at others i l), refl))));
       }
 
 -- a list of one cell
 pub one-rises : (c : ℕ) → IsRising (c ∷ [])
 one-rises c i j l m = absurd (omega arith)
 
-pub one-listed : (live : List (ℕ × ℕ × ℕ)) (c : ℕ) (listed : List (ℕ × ℕ)) → listed ≡ (c, size_of live c) ∷ [] → has c (cells live) ≡ true → AreListed live listed
+pub one-listed : (live : List (ℕ × ℕ × ℕ)) (c : ℕ) (listed : List (ℕ × ℕ)) → listed ≡ (c, size_of live c) ∷ []
+    → has c (cells live) ≡ true → AreListed live listed
 one-listed live c listed are h = subst (AreListed live) (sym are) (record { rise = one-rises c; sized = sized })
   where
     sized : AreSized live ((c, size_of live c) ∷ [])

@@ -1,5 +1,6 @@
 -- Where a block complex differs from a footprint.
-use Rattle.std.specs.Prelude.{◌≡◌, ◌==◌, ◌&&◌, ◌<◌, ◌≤◌, ◌⊎◌, ℕ, Bool, true, false, List, [], ◌∷◌, Option, Some, None, MatchOption, if◌then◌else◌, is_some}
+use Rattle.std.specs.Prelude.{◌≡◌, ◌==◌, ◌&&◌, ◌<◌, ◌≤◌, ◌⊎◌, ℕ, Bool, true, false, List, [], ◌∷◌, Option, Some, None}
+use Rattle.std.specs.Prelude.{MatchOption, if◌then◌else◌, is_some}
 use Rattle.dense_blocks.specs.Blocks.{matrix_of}
 use Rattle.rising_lists.specs.Rising.{has, keys}
 use Rattle.block_complexes.specs.BlockComplexes.{cells, size_of}
@@ -22,7 +23,8 @@ is_copied foot s t = has s (keys (sources foot)) && has t (keys (targets foot))
 abbrev pub copied_matrix : Footprint → ℕ → ℕ → List (List ℕ)
 copied_matrix foot s t =
     if s == foot.x then (if t == foot.y then matrix_of foot.pivot else segment foot.below (matrix_of foot.column) t)
-    else (if t == foot.y then columns_of foot.left (matrix_of foot.row) s else part foot.left foot.below (matrix_of foot.corners) s t)
+    else (if t == foot.y then columns_of foot.left (matrix_of foot.row) s else part foot.left foot.below
+    (matrix_of foot.corners) s t)
 
 -- how many coordinates a listed cell has
 abbrev pub listed_size : List (ℕ × ℕ) → ℕ → ℕ
@@ -66,7 +68,8 @@ pub record IsFirstResized (live : List (ℕ × ℕ × ℕ)) (listed : List (ℕ 
 
 -- the first listed cell that is not live with its size, if there is one
 abbrev pub FoundResized : List (ℕ × ℕ × ℕ) → List (ℕ × ℕ) → Option ℕ → Type 0
-FoundResized live listed o = MatchOption o ((k : ℕ) → has k (keys listed) ≡ true → IsLiveAs live listed k) (IsFirstResized live listed)
+FoundResized live listed o = MatchOption o ((k : ℕ) → has k (keys listed) ≡ true → IsLiveAs live listed k)
+    (IsFirstResized live listed)
 
 -- the first cell of a list that is not among some others, if there is one
 abbrev pub FoundUnlisted : List ℕ → List ℕ → Option ℕ → Type 0
@@ -75,7 +78,8 @@ FoundUnlisted there listed o = MatchOption o ((k : ℕ) → has k there ≡ true
 
 -- the pair was copied, and one of the cells is not live with its size
 abbrev pub IsResized : StoredBlocks → Footprint → ℕ → ℕ → Type 0
-IsResized v foot s t = (is_copied foot s t ≡ true) × ((IsLiveAs v.live (sources foot) s → ⊥) ⊎ (IsLiveAs v.live (targets foot) t → ⊥))
+IsResized v foot s t = (is_copied foot s t ≡ true)
+    × ((IsLiveAs v.live (sources foot) s → ⊥) ⊎ (IsLiveAs v.live (targets foot) t → ⊥))
 
 -- the pair was copied, and its cells and those listed before them are live with their sizes
 pub record IsReached (v : StoredBlocks) (foot : Footprint) (s t : ℕ) : Type 0 where
@@ -95,9 +99,11 @@ IsBefore s t p q = (s < p) ⊎ ((s ≡ p) × (t < q))
 abbrev pub IsEarlier : Option (ℕ × ℕ) → Option (ℕ × ℕ) → Option (ℕ × ℕ) → Type 0
 IsEarlier None q r = r ≡ q
 IsEarlier (Some p) None r = r ≡ Some p
-IsEarlier (Some p) (Some q) r = (IsBefore q.0 q.1 p.0 p.1 × (r ≡ Some q)) ⊎ ((IsBefore q.0 q.1 p.0 p.1 → ⊥) × (r ≡ Some p))
+IsEarlier (Some p) (Some q) r = (IsBefore q.0 q.1 p.0 p.1 × (r ≡ Some q))
+    ⊎ ((IsBefore q.0 q.1 p.0 p.1 → ⊥) × (r ≡ Some p))
 
--- of some pairs nothing differs; else something differs at the pair that was found, and at none of them that comes before it
+-- of some pairs nothing differs; else something differs at the pair that was found, and at none of them that comes
+-- before it
 abbrev pub Found : (Same Pairs : ℕ → ℕ → Type 0) → Option (ℕ × ℕ) → Type 0
 Found Same Pairs o = MatchOption o ((s t : ℕ) → Pairs s t → Same s t)
     (λ p. (Same p.0 p.1 → ⊥) × ((s t : ℕ) → Pairs s t → IsBefore s t p.0 p.1 → Same s t))

@@ -9,9 +9,9 @@ use Rattle.block_sparse.specs.StoredBlocks.{StoredBlocks, block_at, matrix}
 use Rattle.block_sparse.specs.Grids.{AreSized, IsJoined}
 use Rattle.reduce_step.specs.declared.footprint.Footprint.{Footprint}
 
--- the footprint of the pair (x, y): on the left the other cells with a nonzero block to y, below the other cells with a nonzero block
--- from x, each with its size; the block from x to y, and the joined matrices of the blocks from the left to y, from x to below, and
--- from the left to below
+-- the footprint of the pair (x, y): on the left the other cells with a nonzero block to y, below the other cells with a
+-- nonzero block from x, each with its size; the block from x to y, and the joined matrices of the blocks from the left
+-- to y, from x to below, and from the left to below
 pub record IsFootprint (v : StoredBlocks) (x y : ℕ) (foot : Footprint) : Type 0 where
   pub from : foot.x ≡ x
   pub to : foot.y ≡ y

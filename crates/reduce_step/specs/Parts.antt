@@ -7,8 +7,8 @@ use Rattle.block_complexes.specs.BlockComplexes.{size_of}
 use Rattle.block_sparse.specs.StoredBlocks.{StoredBlocks, is_zero}
 use Rattle.block_sparse.specs.Grids.{width, segment, columns_of, IsJoined}
 
--- other cells than x on the left and other cells than y below, both rising; a square pivot from x to y; a joined row from the cells
--- on the left to y, and a joined column from x to the cells below, none of whose blocks is zero
+-- other cells than x on the left and other cells than y below, both rising; a square pivot from x to y; a joined row
+-- from the cells on the left to y, and a joined column from x to the cells below, none of whose blocks is zero
 pub record AreFootprintParts (x y : ℕ) (left below : List (ℕ × ℕ)) (pivot row column : Block) : Type 0 where
   pub left_rises : IsRising (keys left)
   pub below_rises : IsRising (keys below)

@@ -20,7 +20,8 @@ pub record RecordValue (F : Type 0) : Type 0 where
 abbrev pub reduced : Ops → Footprint → List (List ℕ) → List (List ℕ)
 reduced K foot a =
     let n = foot.corners.cols in
-    matrix_sum K (matrix_of foot.corners) (matrix_negative K (product K n (matrix_of foot.column) (product K n a (matrix_of foot.row))))
+    matrix_sum K (matrix_of foot.corners)
+    (matrix_negative K (product K n (matrix_of foot.column) (product K n a (matrix_of foot.row))))
 
 -- entries are scalars of the field, the inverse is two-sided, and the new corners are corners - column * inverse * row
 pub record IsRecord (K : Ops) (foot : Footprint) (inverse new_corners : Block) : Type 0 where

@@ -14,11 +14,12 @@ use dense_blocks::Scalars;
 use std::alloc::AllocError as NoMemory;
 
 impl<F: Scalars> Record<F> {
-    /// Removes the pair: puts the new corners, without flags, and takes `x` and `y` away; every other block stays with its flag.
+    /// Removes the pair: puts the new corners, without flags, and takes `x` and `y` away; every other block stays with
+    /// its flag.
     ///
     /// The record still [`fits`](Record::fits), and all blocks have scalars of the field. Takes what
-    /// [`Blocks::set_grid`] and [`Blocks::remove_cell`] take. Fails only where memory does: then nothing has changed, and the record
-    /// comes back.
+    /// [`Blocks::set_grid`] and [`Blocks::remove_cell`] take. Fails only where memory does: then nothing has changed,
+    /// and the record comes back.
     pub fn apply(self, b: &mut Blocks) -> Result<Step, (Record<F>, NoMemory)>
         requires fits { Fits b.old self.foot }
         requires over { IsBlockComplex (F.ops self.f) (complex_in b.old) }

@@ -22,12 +22,14 @@ pub struct Differs {
 impl<F: Scalars> Record<F> {
     ghost use Rattle.reduce_step.specs.Differences.{Fits, IsFirstDifference};
 
-    /// Whether the blocks are still those that were kept; else the first pair at which something differs, by `s` and then by `t`.
+    /// Whether the blocks are still those that were kept; else the first pair at which something differs, by `s` and
+    /// then by `t`.
     ///
-    /// Something differs at a pair that was copied where one of the cells is not live with its size, or another matrix stands. Where
-    /// `x` and `y` are live, something differs too at a pair of another cell with `y`, or of `x` with another cell, where a block
-    /// stands that was not copied. Takes no memory; one search for each cell of the two lists, and of row `y` and column `x`; and one step
-    /// for each block in the rows of the cells below, for each pair copied, and for each entry.
+    /// Something differs at a pair that was copied where one of the cells is not live with its size, or another matrix
+    /// stands. Where `x` and `y` are live, something differs too at a pair of another cell with `y`, or of `x` with
+    /// another cell, where a block stands that was not copied. Takes no memory; one search for each cell of the two
+    /// lists, and of row `y` and column `x`; and one step for each block in the rows of the cells below, for each pair
+    /// copied, and for each entry.
     pub fn fits(&self, b: &Blocks) -> Result<(), Differs>
         ensures { MatchResult result (λ _. Fits b.now self.now.foot) (λ d. IsFirstDifference b.now self.now.foot d.s d.t) }
     {
@@ -62,7 +64,8 @@ fn first_resized(foot: &Footprint, b: &Blocks) -> Option<(u32, u32)>
     )
 }
 
-/// The first pair that was copied and has another matrix, where its cells and those listed before them are live with their sizes.
+/// The first pair that was copied and has another matrix, where its cells and those listed before them are live with
+/// their sizes.
 fn first_changed(foot: &Footprint, b: &Blocks) -> Option<(u32, u32)>
     ensures { Found (IsSameAt b.now foot.now) (IsReached b.now foot.now) result }
 {
@@ -81,8 +84,8 @@ fn first_changed(foot: &Footprint, b: &Blocks) -> Option<(u32, u32)>
     earlier(earlier(pivot, column), earlier(row, corner))
 }
 
-/// Where `x` and `y` are live, the first pair of another cell with `y`, or of `x` with another cell, where a block stands that was not
-/// copied.
+/// Where `x` and `y` are live, the first pair of another cell with `y`, or of `x` with another cell, where a block
+/// stands that was not copied.
 fn first_gained(foot: &Footprint, b: &Blocks) -> Option<(u32, u32)>
     ensures { Found (IsSameAt b.now foot.now) (IsGained b.now foot.now) result }
 {

@@ -33,9 +33,9 @@ impl Footprint {
 
     /// Inverts the pivot and computes the new corners; where the pivot has no inverse, gives a vector that shows it.
     ///
-    /// All entries are scalars of the field. Takes the time of [`invert`] and then, for a pivot of n rows and corners of m rows,
-    /// n(n + m) products of scalars, n negatives and m + n(n + m) sums for each column of the corners. Fails only where memory does,
-    /// and then the footprint comes back.
+    /// All entries are scalars of the field. Takes the time of [`invert`] and then, for a pivot of n rows and corners
+    /// of m rows, n(n + m) products of scalars, n negatives and m + n(n + m) sums for each column of the corners. Fails
+    /// only where memory does, and then the footprint comes back.
     pub fn finish<F: Scalars>(
         self,
         alloc: Global,
@@ -53,8 +53,8 @@ impl Footprint {
 
     /// Computes the new corners with the inverse of the pivot that is handed in.
     ///
-    /// All entries are scalars of the field. Takes the time of [`Footprint::finish`] without the inversion. Fails only where
-    /// memory does, and then the footprint and the inverse come back.
+    /// All entries are scalars of the field. Takes the time of [`Footprint::finish`] without the inversion. Fails only
+    /// where memory does, and then the footprint and the inverse come back.
     pub fn finish_with<F: Scalars>(
         self,
         alloc: Global,

@@ -12,9 +12,9 @@ use std::alloc::{AllocError as NoMemory, Global};
 
 /// What the removal of a pair of cells touches, copied: all that its result depends on.
 ///
-/// The cells on the left are those other than `x` with a nonzero block to `y`; those below are those other than `y` with a nonzero
-/// block from `x`. Both lists rise. A joined matrix has a column for each coordinate of the cells that it goes from, and a row for each
-/// of those that it goes to, in order.
+/// The cells on the left are those other than `x` with a nonzero block to `y`; those below are those other than `y`
+/// with a nonzero block from `x`. Both lists rise. A joined matrix has a column for each coordinate of the cells that
+/// it goes from, and a row for each of those that it goes to, in order.
 #[derive(Debug, Drop)]
 pub struct Footprint {
     /// The cell that the pivot goes from.
@@ -46,8 +46,9 @@ impl Footprint {
 
     /// The footprint of the pair (`x`, `y`), where a square block stands.
     ///
-    /// Takes one search for each block of row `y` and of column `x`, then one step for each block in the rows of the cells below, for
-    /// each pair of a cell on the left and a cell below, and for each entry copied. Fails only where memory does.
+    /// Takes one search for each block of row `y` and of column `x`, then one step for each block in the rows of the
+    /// cells below, for each pair of a cell on the left and a cell below, and for each entry copied. Fails only where
+    /// memory does.
     pub fn copy(alloc: Global, b: &Blocks, x: u32, y: u32) -> Result<Footprint, NoMemory>
         requires stands { is_some (block_at b.now x y) ≡ true }
         requires square { size_of b.now.live y ≡ size_of b.now.live x }

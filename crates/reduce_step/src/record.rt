@@ -6,7 +6,8 @@ use std::marker::Model;
 
 /// What the removal of a pair of cells would make of its footprint: the inverse of the pivot, and the new corners.
 ///
-/// All entries are scalars of the field, the inverse is two-sided, and the new corners are `corners - column * inverse * row`.
+/// All entries are scalars of the field, the inverse is two-sided, and the new corners are `corners - column * inverse
+/// * row`.
 #[derive(Debug, Drop)]
 pub struct Record<F: Scalars> {
     /// The field.
@@ -29,7 +30,8 @@ impl<F: Scalars> Model for Record<F> {
     ghost invariant = { λ r. IsRecord (F.ops r.f) r.foot r.inverse r.new_corners };
 }
 
-/// A removal that was made: the pair of cells, the cells and blocks around it as they stood before, and the inverse of the pivot.
+/// A removal that was made: the pair of cells, the cells and blocks around it as they stood before, and the inverse of
+/// the pivot.
 #[derive(Debug, Drop)]
 pub struct Step {
     /// The cell that the pivot went from.

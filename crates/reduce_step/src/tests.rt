@@ -102,7 +102,8 @@ fn finishes_a_pivot_of_two_rows(rt: HostRuntime) -> Result<(), NoMemory> {
     let wide = wide(&rt, alloc, &[0, 1, 1, 1])?;
     let foot = copy(&rt, alloc, &wide, 0, 2)?;
     assert!(rt; is_wide(&foot));
-    // The inverse has the rows 1 1 and 1 0; it sends (1, 0) to (1, 1), and the column sends that to 0: the corner stays.
+    // The inverse has the rows 1 1 and 1 0; it sends (1, 0) to (1, 1), and the column sends that to 0: the corner
+    // stays.
     let finished = finish(&rt, alloc, &Two, foot)?;
     assert!(rt; is_made(&finished, &[1, 1, 1, 0], &[1]));
     Ok(())

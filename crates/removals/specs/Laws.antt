@@ -10,7 +10,8 @@ use Rattle.removals.specs.Reductions.{IsAfter}
 
 -- for every block complex v over a field, and w what is left of it without a pair of cells
 abbrev pub ForEachRemoval : (Ops → BlockComplex → BlockComplex → Type 0) → Type 0
-ForEachRemoval P = (K : Ops) (v w : BlockComplex) (x y : ℕ) (a : List (List ℕ)) → IsField K → IsBlockComplex K v → IsRemoval K v x y a w → P K v w
+ForEachRemoval P = (K : Ops) (v w : BlockComplex) (x y : ℕ) (a : List (List ℕ)) → IsField K → IsBlockComplex K v
+    → IsRemoval K v x y a w → P K v w
 
 -- w is a block complex over the field
 abbrev pub RemovalKeepsBlockComplex : Type 0
@@ -22,7 +23,8 @@ RemovalKeepsDifferential = ForEachRemoval (λ K v w. IsDifferential K v → IsDi
 
 -- the same of cochains: the coboundary of the coboundary of each is zero in w where it is in v
 abbrev pub RemovalKeepsCochainComplex : Type 0
-RemovalKeepsCochainComplex = ForEachRemoval (λ K v w. IsCochainComplex K (complex_of v) → IsCochainComplex K (complex_of w))
+RemovalKeepsCochainComplex = ForEachRemoval (λ K v w. IsCochainComplex K (complex_of v)
+    → IsCochainComplex K (complex_of w))
 
 -- what is left after several removals is a block complex over the field, and a differential where that before was one
 pub record KeepAll (K : Ops) (v w : BlockComplex) : Type 0 where
@@ -30,9 +32,12 @@ pub record KeepAll (K : Ops) (v w : BlockComplex) : Type 0 where
   pub differential : IsDifferential K v → IsDifferential K w
 
 abbrev pub RemovalsKeepAll : Type 0
-RemovalsKeepAll = (K : Ops) (v w : BlockComplex) (pairs : List (ℕ × ℕ)) → IsField K → IsBlockComplex K v → IsAfter K v pairs w → KeepAll K v w
+RemovalsKeepAll = (K : Ops) (v w : BlockComplex) (pairs : List (ℕ × ℕ)) → IsField K → IsBlockComplex K v
+    → IsAfter K v pairs w → KeepAll K v w
 
--- the pairs and their order leave one block complex at most: no choice of inverses, and nothing off the live cells, counts
+-- the pairs and their order leave one block complex at most: no choice of inverses, and nothing off the live cells,
+-- counts
 abbrev pub RemovalsLeaveOne : Type 0
-RemovalsLeaveOne = (K : Ops) (v w m : BlockComplex) (pairs : List (ℕ × ℕ)) → IsField K → IsBlockComplex K v → IsAfter K v pairs w → IsAfter K v pairs m
+RemovalsLeaveOne = (K : Ops) (v w m : BlockComplex) (pairs : List (ℕ × ℕ)) → IsField K → IsBlockComplex K v
+    → IsAfter K v pairs w → IsAfter K v pairs m
     → HaveSameMatrices w m

@@ -1,17 +1,19 @@
 ghost use Rattle.removals.specs.Laws.{RemovalKeepsBlockComplex, RemovalKeepsDifferential, RemovalKeepsCochainComplex, RemovalsKeepAll, RemovalsLeaveOne};
 
-/// A law, with nothing to run: what a removal leaves of a block complex over a field is a block complex over that field.
+/// A law, with nothing to run: what a removal leaves of a block complex over a field is a block complex over that
+/// field.
 pub fn removal_keeps_block_complex()
     ensures { RemovalKeepsBlockComplex }
 {}
 
-/// A law, with nothing to run: where the sum over the cells t of M(t, u) M(s, t) is zero for all live cells s and u, it is zero
-/// after a removal.
+/// A law, with nothing to run: where the sum over the cells t of M(t, u) M(s, t) is zero for all live cells s and u, it
+/// is zero after a removal.
 pub fn removal_keeps_differential()
     ensures { RemovalKeepsDifferential }
 {}
 
-/// A law, with nothing to run: where the coboundary of the coboundary of each cochain is zero, it is zero after a removal.
+/// A law, with nothing to run: where the coboundary of the coboundary of each cochain is zero, it is zero after a
+/// removal.
 pub fn removal_keeps_cochain_complex()
     ensures { RemovalKeepsCochainComplex }
 {}

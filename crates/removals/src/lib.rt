@@ -1,7 +1,7 @@
 //! The removal of a pair of cells from a block complex, and what it keeps.
 //!
-//! Two cells x and y whose block is invertible go; the block from s to t becomes M(s, t) - M(x, t) a M(s, y), where a is the
-//! inverse: one step of algebraic Morse theory.
+//! Two cells x and y whose block is invertible go; the block from s to t becomes M(s, t) - M(x, t) a M(s, y), where a
+//! is the inverse: one step of algebraic Morse theory.
 #![tactic(auto)]
 
 mod laws;

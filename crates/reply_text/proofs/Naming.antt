@@ -1,5 +1,7 @@
 -- The number and the version that a reply names.
-use Rattle.std.proofs.Common.{◌≡◌, ℕ, ◌+◌, ◌<◌, ◌≤◌, ◌^◌, true, false, List, [], ◌∷◌, ◌++◌, Some, None, Option, slice_get, get_or, length, take, if◌then◌else◌, refl, sym, ap, ap₂, subst, ◌∙◌, arith, append-nil, append_assoc}
+use Rattle.std.proofs.Common.{◌≡◌, ℕ, ◌+◌, ◌<◌, ◌≤◌, ◌^◌, true, false, List, [], ◌∷◌, ◌++◌, Some, None, Option}
+use Rattle.std.proofs.Common.{slice_get, get_or, length, take, if◌then◌else◌, refl, sym, ap, ap₂, subst, ◌∙◌, arith}
+use Rattle.std.proofs.Common.{append-nil, append_assoc}
 use Rattle.std.specs.Prelude.{All, IfSome, option_and_then}
 use Rattle.std.proofs.lemmas.Option.{slice_get_within, slice_get-get_or}
 use Rattle.std.proofs.Math.Nat.{min-le_left}
@@ -12,7 +14,10 @@ use Rattle.sheaf_words.specs.declared.asking.Command.{Command}
 use Rattle.sheaf_words.specs.declared.happening.Event.{Event}
 use Rattle.sheaf_words.specs.declared.happening.Event.TheVariants.{Edit, Ask, Pair, Reply}
 use Rattle.reply_text.specs.Lines.{line_text, lines_text}
-use Rattle.reply_text.specs.Transcripts.{ends_for, ended_count, current_version, is_accepted, command_number, version_named, answer_lines, event_lines, client_lines, client_part, clients_lines, client_of, order_lines, IfPresent, IsAnswered, IsOf, AreOf, AreAnswered}
+use Rattle.reply_text.specs.Transcripts.{ends_for, ended_count, current_version, is_accepted, command_number}
+use Rattle.reply_text.specs.Transcripts.{version_named, answer_lines, event_lines, client_lines, client_part}
+use Rattle.reply_text.specs.Transcripts.{clients_lines, client_of, order_lines, IfPresent, IsAnswered, IsOf, AreOf}
+use Rattle.reply_text.specs.Transcripts.{AreAnswered}
 use Rattle.reply_text.specs.Events.{event_words}
 use Rattle.reply_text.specs.Replies.{reply_lines, IsAnswerTo}
 use Rattle.reply_text.specs.Counts.{IsCountOf, AreCounted}
@@ -20,16 +25,21 @@ use Rattle.reply_text.specs.declared.counts.Counts.{Counts}
 
 -- the lines of the client after one event more
 pub client_lines-more : (c : ℕ) (script : List Command) (earlier events : List Event) (event : Event)
-    → client_lines c script earlier (events ++ event ∷ []) ≡ client_lines c script earlier events ++ event_lines c script (earlier ++ events) event
+    → client_lines c script earlier (events ++ event ∷ []) ≡ client_lines c script earlier events
+    ++ event_lines c script (earlier ++ events) event
 client_lines-more c script earlier [] event =
-    append-nil (event_lines c script earlier event) ∙ ap (λ es. event_lines c script es event) (sym (append-nil earlier))
+    append-nil (event_lines c script earlier event) ∙ ap (λ es. event_lines c script es event)
+    (sym (append-nil earlier))
 client_lines-more c script earlier (x ∷ events) event =
     ap (λ rest. event_lines c script earlier x ++ rest) (client_lines-more c script (earlier ++ x ∷ []) events event
-    ∙ ap (λ es. client_lines c script (earlier ++ x ∷ []) events ++ event_lines c script es event) (append_assoc earlier (x ∷ []) events))
-    ∙ sym (append_assoc (event_lines c script earlier x) (client_lines c script (earlier ++ x ∷ []) events) (event_lines c script (earlier ++ x ∷ events) event))
+    ∙ ap (λ es. client_lines c script (earlier ++ x ∷ []) events ++ event_lines c script es event)
+    (append_assoc earlier (x ∷ []) events))
+    ∙ sym (append_assoc (event_lines c script earlier x) (client_lines c script (earlier ++ x ∷ []) events)
+    (event_lines c script (earlier ++ x ∷ events) event))
 
 -- what is written, after one event more
-pub written-more : (c : ℕ) (script : List Command) (events : List Event) (i : ℕ) (event : Event) (start old new : List ℕ)
+pub written-more : (c : ℕ) (script : List Command) (events : List Event) (i : ℕ) (event : Event)
+    (start old new : List ℕ)
     → old ≡ start ++ lines_text (client_lines c script [] (take i events))
     → new ≡ old ++ lines_text (event_lines c script (take i events) event)
     → take (i + 1) events ≡ take i events ++ event ∷ []
@@ -38,19 +48,23 @@ written-more c script events i event start old new h more next =
     let first = client_lines c script [] (take i events) in
     let last = event_lines c script (take i events) event in
     more ∙ ap (λ text. text ++ lines_text last) h ∙ append_assoc start (lines_text first) (lines_text last)
-    ∙ ap (λ text. start ++ text) (sym (flat_map-append line_text first last) ∙ ap lines_text (sym (client_lines-more c script [] (take i events) event))
+    ∙ ap (λ text. start ++ text) (sym (flat_map-append line_text first last)
+    ∙ ap lines_text (sym (client_lines-more c script [] (take i events) event))
     ∙ ap (λ es. lines_text (client_lines c script [] es)) (sym next))
 
 -- the event ends the command after those that have ended_count
-pub number_of-ends : (c : ℕ) (events : List Event) (event : Event) → ends_for c event ≡ true → command_number events event ≡ ended_count c events + 1
+pub number_of-ends : (c : ℕ) (events : List Event) (event : Event) → ends_for c event ≡ true
+    → command_number events event ≡ ended_count c events + 1
 number_of-ends c events (Edit d verdict) h = ap (λ k. ended_count k events + 1) (eqb-true d c h)
 number_of-ends c events (Ask d) h = absurd (cc)
 number_of-ends c events (Pair v x y) h = absurd (cc)
 number_of-ends c events (Reply d r) h = ap (λ k. ended_count k events + 1) (eqb-true d c h)
 
 -- what is written of an event that ends a command
-pub answer-is : (c : ℕ) (script : List Command) (events : List Event) (event : Event) (command : Command) (counts : Counts) (v : ℕ)
-    → ends_for c event ≡ true → IsCountOf c events counts → slice_get script counts.ended ≡ Some command → v ≡ version_named events event
+pub answer-is : (c : ℕ) (script : List Command) (events : List Event) (event : Event) (command : Command)
+    (counts : Counts) (v : ℕ)
+    → ends_for c event ≡ true → IsCountOf c events counts → slice_get script counts.ended ≡ Some command
+    → v ≡ version_named events event
     → event_lines c script events event ≡ reply_lines (counts.ended + 1) v command event
 answer-is c script events event command counts v ends h there named =
     ap (λ b. if b then answer_lines events event (slice_get script (ended_count c events)) else []) ends
@@ -60,32 +74,41 @@ answer-is c script events event command counts v ends h there named =
     (number_of-ends c events event ends ∙ ap (λ k. k + 1) (sym h.ended_is)) (sym named)
 
 -- and of one that ends none
-pub no-answer : (c : ℕ) (script : List Command) (events : List Event) (event : Event) → ends_for c event ≡ false → event_lines c script events event ≡ []
-no-answer c script events event h = ap (λ b. if b then answer_lines events event (slice_get script (ended_count c events)) else []) h
+pub no-answer : (c : ℕ) (script : List Command) (events : List Event) (event : Event) → ends_for c event ≡ false
+    → event_lines c script events event ≡ []
+no-answer c script events event h =
+    ap (λ b. if b then answer_lines events event (slice_get script (ended_count c events)) else []) h
 
 length-take-short : {X : Type 0} (i : ℕ) (xs : List X) → length (take i xs) ≤ i
 length-take-short i xs = subst (λ n. n ≤ i) (sym (length-take i xs)) (min-le_left i (length xs))
 
 -- counts of some of the first events fit where all of them do
-pub ended-fits : (c i : ℕ) (events : List Event) (counts : Counts) → IsCountOf c (take i events) counts → i < length events → length events + 1 < 2 ^ 32 → counts.ended + 1 < 2 ^ 32
+pub ended-fits : (c i : ℕ) (events : List Event) (counts : Counts) → IsCountOf c (take i events) counts → i
+    < length events → length events + 1 < 2 ^ 32 → counts.ended + 1 < 2 ^ 32
 ended-fits c i events counts h inside few =
-    let low : ended_count c (take i events) ≤ length (take i events) = count_by-le-length (ends_for c) (take i events) in
+    let low : ended_count c (take i events) ≤ length (take i events) = count_by-le-length (ends_for c) (take i events)
+    in
     let short : length (take i events) ≤ i = length-take-short i events in
     omega (arith, h.ended_is, low, short, inside, few)
 
-pub standing-fits : (c i : ℕ) (events : List Event) (counts : Counts) → IsCountOf c (take i events) counts → i < length events → length events + 1 < 2 ^ 32 → counts.standing + 1 < 2 ^ 32
+pub standing-fits : (c i : ℕ) (events : List Event) (counts : Counts) → IsCountOf c (take i events) counts → i
+    < length events → length events + 1 < 2 ^ 32 → counts.standing + 1 < 2 ^ 32
 standing-fits c i events counts h inside few =
-    let low : current_version (take i events) ≤ length (take i events) = count_by-le-length is_accepted (take i events) in
+    let low : current_version (take i events) ≤ length (take i events) = count_by-le-length is_accepted (take i events)
+    in
     let short : length (take i events) ≤ i = length-take-short i events in
     omega (arith, h.standing_is, low, short, inside, few)
 
 -- the line of one event more
 pub order_lines-more : (earlier events : List Event) (event : Event)
-    → order_lines earlier (events ++ event ∷ []) ≡ order_lines earlier events ++ event_words (command_number (earlier ++ events) event) event ∷ []
-order_lines-more earlier [] event = ap (λ es. event_words (command_number es event) event ∷ []) (sym (append-nil earlier))
+    → order_lines earlier (events ++ event ∷ []) ≡ order_lines earlier events
+    ++ event_words (command_number (earlier ++ events) event) event ∷ []
+order_lines-more earlier [] event = ap (λ es. event_words (command_number es event) event ∷ [])
+    (sym (append-nil earlier))
 order_lines-more earlier (x ∷ events) event =
     ap (λ rest. event_words (command_number earlier x) x ∷ rest) (order_lines-more (earlier ++ x ∷ []) events event
-    ∙ ap (λ es. order_lines (earlier ++ x ∷ []) events ++ event_words (command_number es event) event ∷ []) (append_assoc earlier (x ∷ []) events))
+    ∙ ap (λ es. order_lines (earlier ++ x ∷ []) events ++ event_words (command_number es event) event ∷ [])
+    (append_assoc earlier (x ∷ []) events))
 
 pub ordered-more : (events : List Event) (i : ℕ) (event : Event) (number : ℕ) (start old new : List ℕ)
     → old ≡ start ++ lines_text (order_lines [] (take i events))
@@ -96,28 +119,36 @@ pub ordered-more : (events : List Event) (i : ℕ) (event : Event) (number : ℕ
 ordered-more events i event number start old new h more is next =
     let first = order_lines [] (take i events) in
     let last = event_words (command_number (take i events) event) event in
-    more ∙ ap₂ (λ text k. text ++ line_text (event_words k event)) h is ∙ append_assoc start (lines_text first) (line_text last)
+    more ∙ ap₂ (λ text k. text ++ line_text (event_words k event)) h is
+    ∙ append_assoc start (lines_text first) (line_text last)
     ∙ ap (λ text. start ++ (lines_text first ++ text)) (sym (append-nil (line_text last)))
-    ∙ ap (λ text. start ++ text) (sym (flat_map-append line_text first (last ∷ [])) ∙ ap lines_text (sym (order_lines-more [] (take i events) event))
+    ∙ ap (λ text. start ++ text) (sym (flat_map-append line_text first (last ∷ []))
+    ∙ ap lines_text (sym (order_lines-more [] (take i events) event))
     ∙ ap (λ es. lines_text (order_lines [] es)) (sym next))
 
 -- the counts fit
-pub counts-fit : (i : ℕ) (events : List Event) (counts : List ℕ) → AreCounted (take i events) counts → i < length events → length events + 1 < 2 ^ 32 → All (λ n. n + 1 < 2 ^ 32) counts
+pub counts-fit : (i : ℕ) (events : List Event) (counts : List ℕ) → AreCounted (take i events) counts → i < length events
+    → length events + 1 < 2 ^ 32 → All (λ n. n + 1 < 2 ^ 32) counts
 counts-fit i events counts h inside few = All-from_get_or (λ n. n + 1 < 2 ^ 32) counts 0 (λ c l.
-    let low : ended_count c (take i events) ≤ length (take i events) = count_by-le-length (ends_for c) (take i events) in
+    let low : ended_count c (take i events) ≤ length (take i events) = count_by-le-length (ends_for c) (take i events)
+    in
     let short : length (take i events) ≤ i = length-take-short i events in
     omega (arith, h c l, low, short, inside, few))
 
 -- the part of one client more
 pub clients_lines-more : (c : ℕ) (scripts : List (List Command)) (script : List Command) (events : List Event)
-    → clients_lines c (scripts ++ script ∷ []) events ≡ clients_lines c scripts events ++ client_part (c + length scripts) script events
-clients_lines-more c [] script events = append-nil (client_part c script events) ∙ ap (λ k. client_part k script events) (omega arith)
+    → clients_lines c (scripts ++ script ∷ []) events ≡ clients_lines c scripts events
+    ++ client_part (c + length scripts) script events
+clients_lines-more c [] script events = append-nil (client_part c script events)
+    ∙ ap (λ k. client_part k script events) (omega arith)
 clients_lines-more c (first ∷ scripts) script events =
     ap (λ rest. client_part c first events ++ rest) (clients_lines-more (c + 1) scripts script events
     ∙ ap (λ k. clients_lines (c + 1) scripts events ++ client_part k script events) (omega arith))
-    ∙ sym (append_assoc (client_part c first events) (clients_lines (c + 1) scripts events) (client_part (c + length (first ∷ scripts)) script events))
+    ∙ sym (append_assoc (client_part c first events) (clients_lines (c + 1) scripts events)
+    (client_part (c + length (first ∷ scripts)) script events))
 
-pub parts-more : (scripts : List (List Command)) (i : ℕ) (script : List Command) (events : List Event) (c : ℕ) (start old new : List ℕ)
+pub parts-more : (scripts : List (List Command)) (i : ℕ) (script : List Command) (events : List Event) (c : ℕ)
+    (start old new : List ℕ)
     → c ≡ i → i ≤ length scripts
     → old ≡ start ++ lines_text (clients_lines 0 (take i scripts) events)
     → new ≡ old ++ lines_text (client_part c script events)
@@ -127,8 +158,10 @@ parts-more scripts i script events c start old new at inside h more next =
     let first = clients_lines 0 (take i scripts) events in
     let place : c ≡ 0 + length (take i scripts) = at ∙ sym (length-take-le i scripts inside) ∙ omega arith in
     let last = client_part (0 + length (take i scripts)) script events in
-    more ∙ ap₂ (λ text k. text ++ lines_text (client_part k script events)) h place ∙ append_assoc start (lines_text first) (lines_text last)
-    ∙ ap (λ text. start ++ text) (sym (flat_map-append line_text first last) ∙ ap lines_text (sym (clients_lines-more 0 (take i scripts) script events))
+    more ∙ ap₂ (λ text k. text ++ lines_text (client_part k script events)) h place
+    ∙ append_assoc start (lines_text first) (lines_text last)
+    ∙ ap (λ text. start ++ text) (sym (flat_map-append line_text first last)
+    ∙ ap lines_text (sym (clients_lines-more 0 (take i scripts) script events))
     ∙ ap (λ ss. lines_text (clients_lines 0 ss events)) (sym next))
 
 -- the events of all clients answer the commands of each
@@ -138,7 +171,8 @@ answered-of scripts events c script there h i event at ends = one event ends (h 
   where
     found : (event : Event) (d : ℕ) → d ≡ c → IsAnswered scripts (take i events) d event
         → IfPresent (slice_get script (ended_count c (take i events))) (λ command. IsAnswerTo command event)
-    found event d e is = subst (λ o. IfPresent (option_and_then (λ s. slice_get s (ended_count c (take i events))) o) (λ command. IsAnswerTo command event)) there
+    found event d e is = subst (λ o. IfPresent (option_and_then (λ s. slice_get s (ended_count c (take i events))) o)
+        (λ command. IsAnswerTo command event)) there
         (subst (λ k. IsAnswered scripts (take i events) k event) e is)
 
     one : (event : Event) → ends_for c event ≡ true → IsOf scripts (take i events) event
@@ -151,18 +185,21 @@ answered-of scripts events c script there h i event at ends = one event ends (h 
 -- and so are of clients that are there
 pub clients-of : (scripts : List (List Command)) (events : List Event) → AreOf scripts events
     → All (λ event. IfSome (client_of event) (λ c. c < length scripts)) events
-clients-of scripts events h = All-from_get_or (λ event. IfSome (client_of event) (λ c. c < length scripts)) events (Ask 0)
+clients-of scripts events h = All-from_get_or (λ event. IfSome (client_of event) (λ c. c < length scripts)) events
+    (Ask 0)
     (λ i l. one i (get_or events i (Ask 0)) (h i (get_or events i (Ask 0)) (slice_get-get_or events i (Ask 0) l)))
   where
     inside : (i c : ℕ) (event : Event) → IsAnswered scripts (take i events) c event → c < length scripts
     inside i c event is = slice_get_within-of (slice_get scripts c) refl is
       where
         slice_get_within-of : (o : Option (List Command)) → slice_get scripts c ≡ o
-            → IfPresent (option_and_then (λ script. slice_get script (ended_count c (take i events))) o) (λ command. IsAnswerTo command event) → c < length scripts
+            → IfPresent (option_and_then (λ script. slice_get script (ended_count c (take i events))) o)
+            (λ command. IsAnswerTo command event) → c < length scripts
         slice_get_within-of None e is = absurd (is)
         slice_get_within-of (Some s) e is = slice_get_within scripts c s e
 
-    one : (i : ℕ) (event : Event) → IsOf scripts (take i events) event → IfSome (client_of event) (λ c. c < length scripts)
+    one : (i : ℕ) (event : Event) → IsOf scripts (take i events) event
+        → IfSome (client_of event) (λ c. c < length scripts)
     one i (Edit c verdict) is = inside i c (Edit c verdict) is
     one i (Ask c) is = is
     one i (Pair v x y) is = tt

@@ -6,7 +6,8 @@ use Rattle.sheaf_words.specs.declared.asking.Command.TheVariants.{Change, Ask}
 use Rattle.sheaf_words.specs.declared.asking.Query.{Query}
 use Rattle.sheaf_words.specs.declared.asking.Query.TheVariants as queries
 use Rattle.sheaf_words.specs.declared.editing.Cause.{Cause}
-use Rattle.sheaf_words.specs.declared.editing.Cause.TheVariants.{NoCell, NoFace, StalkLimit, Shape, Entry, TotalLimit, Square}
+use Rattle.sheaf_words.specs.declared.editing.Cause.TheVariants.{NoCell, NoFace, StalkLimit, Shape, Entry, TotalLimit}
+use Rattle.sheaf_words.specs.declared.editing.Cause.TheVariants.{Square}
 use Rattle.sheaf_words.specs.declared.editing.Verdict.{Verdict}
 use Rattle.sheaf_words.specs.declared.editing.Verdict.TheVariants.{Accepted, Refused}
 use Rattle.sheaf_words.specs.declared.happening.Event.{Event}
@@ -55,4 +56,5 @@ answer_words event = []
 
 -- the lines that answer the command of this number on version v
 abbrev pub reply_lines : ℕ → ℕ → Command → Event → List (List (List ℕ))
-reply_lines number v command event = (decimal number ∷ (codes "v" ++ decimal v) ∷ command_word command ∷ answer_words event) ∷ []
+reply_lines number v command event =
+    (decimal number ∷ (codes "v" ++ decimal v) ∷ command_word command ∷ answer_words event) ∷ []

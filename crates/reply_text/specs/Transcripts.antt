@@ -1,5 +1,6 @@
 -- The transcript of a list of events.
-use Rattle.std.specs.Prelude.{◌≡◌, ℕ, ◌+◌, ◌<◌, Bool, true, false, List, [], ◌∷◌, ◌++◌, Option, Some, None, length, take, count_by, slice_get, option_and_then, if◌then◌else◌, ◌==◌, codes}
+use Rattle.std.specs.Prelude.{◌≡◌, ℕ, ◌+◌, ◌<◌, Bool, true, false, List, [], ◌∷◌, ◌++◌, Option, Some, None, length}
+use Rattle.std.specs.Prelude.{take, count_by, slice_get, option_and_then, if◌then◌else◌, ◌==◌, codes}
 use Rattle.std.specs.Fmt.{decimal}
 use Rattle.sheaf_words.specs.declared.asking.Command.{Command}
 use Rattle.sheaf_words.specs.declared.editing.Verdict.TheVariants.{Accepted, Refused}
@@ -37,7 +38,8 @@ current_version events = count_by is_accepted events
 -- the version of the last question of client c among events that begin when version n stands; v where there is none
 abbrev pub asked_from : ℕ → ℕ → ℕ → List Event → ℕ
 asked_from c n v [] = v
-asked_from c n v (event ∷ events) = asked_from c (if is_accepted event then n + 1 else n) (if asks_for c event then n else v) events
+asked_from c n v (event ∷ events) = asked_from c (if is_accepted event then n + 1 else n) (if asks_for c event then
+    n else v) events
 
 -- the version that stood at the last question of client c
 abbrev pub asked_version : ℕ → List Event → ℕ
@@ -62,16 +64,19 @@ command_number earlier (Reply c r) = ended_count c earlier + 1
 -- the lines of an event that ends the command
 abbrev pub answer_lines : List Event → Event → Option Command → List (List (List ℕ))
 answer_lines earlier event None = []
-answer_lines earlier event (Some command) = reply_lines (command_number earlier event) (version_named earlier event) command event
+answer_lines earlier event (Some command) = reply_lines (command_number earlier event) (version_named earlier event)
+    command event
 
 -- the lines that an event after the earlier ones gives client c with this script
 abbrev pub event_lines : ℕ → List Command → List Event → Event → List (List (List ℕ))
-event_lines c script earlier event = if ends_for c event then answer_lines earlier event (slice_get script (ended_count c earlier)) else []
+event_lines c script earlier event = if ends_for c event then
+    answer_lines earlier event (slice_get script (ended_count c earlier)) else []
 
 -- the replies to client c with this script, in order
 abbrev pub client_lines : ℕ → List Command → List Event → List Event → List (List (List ℕ))
 client_lines c script earlier [] = []
-client_lines c script earlier (event ∷ events) = event_lines c script earlier event ++ client_lines c script (earlier ++ event ∷ []) events
+client_lines c script earlier (event ∷ events) = event_lines c script earlier event ++ client_lines c script
+    (earlier ++ event ∷ []) events
 
 -- the line `client C`, and then the replies to client c
 abbrev pub client_part : ℕ → List Command → List Event → List (List (List ℕ))
@@ -99,12 +104,14 @@ ender_of (Reply c r) = Some c
 -- a line for each event
 abbrev pub order_lines : List Event → List Event → List (List (List ℕ))
 order_lines earlier [] = []
-order_lines earlier (event ∷ events) = event_words (command_number earlier event) event ∷ order_lines (earlier ++ event ∷ []) events
+order_lines earlier (event ∷ events) = event_words (command_number earlier event) event
+    ∷ order_lines (earlier ++ event ∷ []) events
 
 -- the transcript of the events that clients with these scripts made: their replies, and then what happened in order
 abbrev pub transcript : List (List Command) → List Event → List ℕ
 transcript scripts events =
-    lines_text (clients_lines 0 scripts events ++ ((codes "order" ∷ []) ∷ (order_lines [] events ++ (codes "end" ∷ []) ∷ [])))
+    lines_text (clients_lines 0 scripts events
+    ++ ((codes "order" ∷ []) ∷ (order_lines [] events ++ (codes "end" ∷ []) ∷ [])))
 
 -- there is a value, and it meets P
 abbrev pub IfPresent : {X : Type 0} → Option X → (X → Type 0) → Type 0
@@ -114,7 +121,8 @@ IfPresent (Some x) P = P x
 -- client c has a command that no earlier event ended_count, and the event answers it
 abbrev pub IsAnswered : List (List Command) → List Event → ℕ → Event → Type 0
 IsAnswered scripts earlier c event =
-    IfPresent (option_and_then (λ script. slice_get script (ended_count c earlier)) (slice_get scripts c)) (λ command. IsAnswerTo command event)
+    IfPresent (option_and_then (λ script. slice_get script (ended_count c earlier)) (slice_get scripts c))
+    (λ command. IsAnswerTo command event)
 
 -- the event after the earlier ones is one of these clients, and what ends a command answers it
 abbrev pub IsOf : List (List Command) → List Event → Event → Type 0

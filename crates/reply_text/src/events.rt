@@ -46,7 +46,8 @@ fn line(alloc: Global, number: u32, event: &Event) -> Result<Vec<u8>, NoMemory>
 
 /// Appends the line of an event that is about the command of this number, counted from 1 for each client.
 ///
-/// The line of a pair has its own version and no number; no other line has a version. Without memory the text is as before.
+/// The line of a pair has its own version and no number; no other line has a version. Without memory the text is as
+/// before.
 pub fn event_line(
     alloc: Global,
     number: u32,

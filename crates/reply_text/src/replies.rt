@@ -105,7 +105,8 @@ fn reply(
 /// Appends the lines that answer the command of this number, counted from 1, on the version `v`: for an edit that is
 /// accepted the new version, for one that is refused the version that stands, for a query the version that was asked.
 ///
-/// The event is the verdict on the edit, or the reply to the query, that the command is. Without memory the text is as before.
+/// The event is the verdict on the edit, or the reply to the query, that the command is. Without memory the text is as
+/// before.
 pub fn reply_lines(
     alloc: Global,
     number: u32,

@@ -189,7 +189,8 @@ fn put_clients(
 /// The transcript of the events that clients with these scripts made: for each client, counted from 0, a line and its
 /// replies; then the line `order`, a line for each event, and the line `end`.
 ///
-/// Each event is one of these clients, and each that ends a command ends the next one of its client's script and answers it.
+/// Each event is one of these clients, and each that ends a command ends the next one of its client's script and
+/// answers it.
 pub fn transcript(
     alloc: Global,
     scripts: &[Listed<Command>],

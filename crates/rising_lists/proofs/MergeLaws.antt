@@ -1,5 +1,7 @@
 -- Two rising lists are merged into one, cell by cell.
-use Rattle.std.proofs.Common.{◌≡◌, ◌≢◌, ℕ, zero, suc, ◌<◌, ◌≤◌, ◌+◌, ◌-◌, Bool, true, false, cond, refl, sym, ap, ap₂, ◌∙◌, arith, ◌⊎◌, inl, inr, List, [], ◌∷◌, ◌++◌, length, get_or, drop, Option, Some, None, eqb, subst, length-append, drop-cons, add-one, MatchBool}
+use Rattle.std.proofs.Common.{◌≡◌, ◌≢◌, ℕ, zero, suc, ◌<◌, ◌≤◌, ◌+◌, ◌-◌, Bool, true, false, cond, refl, sym, ap, ap₂}
+use Rattle.std.proofs.Common.{◌∙◌, arith, ◌⊎◌, inl, inr, List, [], ◌∷◌, ◌++◌, length, get_or, drop, Option, Some, None}
+use Rattle.std.proofs.Common.{eqb, subst, length-append, drop-cons, add-one, MatchBool}
 use Rattle.std.specs.Option.{unwrap_or}
 use Rattle.std.proofs.lemmas.List.{get_or_push, get_or_append_left}
 use Rattle.std.proofs.lemmas.Bool.{eq-eqb, ne_eqb, cases_eq, cases_lt, lt-ltb, le-ltb}
@@ -24,7 +26,11 @@ stands-past ks i c l = rw le-ltb refl
 -- what a test that a cell stands at a place tells
 pub stands-true : (ks : List ℕ) (i c : ℕ) → stands ks i c ≡ true → (i < length ks) × (get_or ks i 0 ≡ c)
 stands-true ks i c h = elim (cases_lt i (length ks)) [
-  | inl l ↦ elim (cases_eq (get_or ks i 0) c) [ inl e ↦ (l, e) | inr n ↦ absurd (let f = stands-other ks i c l n in let g : true ≡ false = sym h ∙ f in cc) ]
+  | inl l ↦ elim (cases_eq (get_or ks i 0) c) [
+    | inl e ↦ (l, e)
+    | inr n ↦
+        absurd (let f = stands-other ks i c l n in let g : true ≡ false = sym h ∙ f in cc)
+  ]
   | inr l ↦ absurd (let f = stands-past ks i c l in let g : true ≡ false = sym h ∙ f in cc)
 ]
 
@@ -32,12 +38,17 @@ pub stands-false : (ks : List ℕ) (i c : ℕ) → stands ks i c ≡ false → i
 stands-false ks i c h l e = let f = stands-here ks i c l e in let g : true ≡ false = sym f ∙ h in cc
 
 -- the place of the next cell
-pub place-next : (ks : List ℕ) (low i c : ℕ) → IsRising ks → IsPlace ks low i → low ≤ c → (i < length ks → c ≤ get_or ks i 0) → IsPlace ks (c + 1) (past ks i c)
+pub place-next : (ks : List ℕ) (low i c : ℕ) → IsRising ks → IsPlace ks low i → low ≤ c
+    → (i < length ks → c ≤ get_or ks i 0) → IsPlace ks (c + 1) (past ks i c)
 place-next ks low i c r p l n = elim (cases_lt i (length ks)) [
   | inl u ↦ elim (cases_eq (get_or ks i 0) c) [
     | inl e ↦ subst (IsPlace ks (c + 1)) (sym (ap (λ b. cond b (i + 1) i) (stands-here ks i c u e))) (record {
       within = omega arith;
-      below = λ a o. elim (cases_lt a i) [ inl v ↦ omega (arith, p.below a v) | inr v ↦ let f : i ≡ a = omega arith in subst (λ x. get_or ks x 0 < c + 1) f (omega arith) ];
+      below = λ a o. elim (cases_lt a i) [
+        | inl v ↦ omega (arith, p.below a v)
+        | inr v ↦ let f : i ≡ a = omega arith in
+            subst (λ x. get_or ks x 0 < c + 1) f (omega arith)
+      ];
       from = λ a o s. omega (arith, r i a (omega arith) s, e);
     })
     | inr e ↦ subst (IsPlace ks (c + 1)) (sym (ap (λ b. cond b (i + 1) i) (stands-other ks i c u e))) (record {
@@ -64,19 +75,23 @@ past-on ks i c = go (stands ks i c)
 pub next-smaller : (first second : List ℕ) (i j c : ℕ) → IsNext first second i j c
     → (length first - past first i c) + (length second - past second j c) < (length first - i) + (length second - j)
 next-smaller first second i j c n = elim n.is [
-  | inl h ↦ let e : past second j c ≡ j + 1 = ap (λ b. cond b (j + 1) j) (stands-here second j c h.0 h.1) in omega (arith, past-on first i c, e, h.0)
-  | inr h ↦ let e : past first i c ≡ i + 1 = ap (λ b. cond b (i + 1) i) (stands-here first i c h.0 h.1) in omega (arith, past-on second j c, e, h.0)
+  | inl h ↦ let e : past second j c ≡ j + 1 = ap (λ b. cond b (j + 1) j) (stands-here second j c h.0 h.1) in
+      omega (arith, past-on first i c, e, h.0)
+  | inr h ↦ let e : past first i c ≡ i + 1 = ap (λ b. cond b (i + 1) i) (stands-here first i c h.0 h.1) in
+      omega (arith, past-on second j c, e, h.0)
 ]
 
 -- no cell stands between
-absent-between : (ks : List ℕ) (low i c q : ℕ) → IsRising ks → IsPlace ks low i → (i < length ks → c ≤ get_or ks i 0) → low ≤ q → q < c → has q ks ≡ false
+absent-between : (ks : List ℕ) (low i c q : ℕ) → IsRising ks → IsPlace ks low i → (i < length ks → c ≤ get_or ks i 0)
+    → low ≤ q → q < c → has q ks ≡ false
 absent-between ks low i c q r p n l m = has-absent q ks (λ a s e. elim (cases_lt a i) [
   | inl u ↦ absurd (omega (arith, p.below a u, e))
   | inr u ↦ absurd (let o = n (omega arith) in omega (arith, o, rising_le ks r i a u s, e))
 ])
 
 -- a line with one more cell at its end
-pub rising-push : (ks : List ℕ) (k : ℕ) → IsRising ks → ((p : ℕ) → p < length ks → get_or ks p 0 < k) → IsRising (ks ++ k ∷ [])
+pub rising-push : (ks : List ℕ) (k : ℕ) → IsRising ks → ((p : ℕ) → p < length ks → get_or ks p 0 < k)
+    → IsRising (ks ++ k ∷ [])
 rising-push ks k r above i j l m =
     let n : length (ks ++ k ∷ []) ≡ length ks + 1 = length-append ks (k ∷ []) in
     subst (λ x. x < get_or (ks ++ k ∷ []) j 0) (sym (get_or_append_left ks (k ∷ []) 0 i (omega arith)))
@@ -85,7 +100,8 @@ rising-push ks k r above i j l m =
       | inr u ↦ subst (λ x. get_or ks i 0 < x) (sym (get_or_push ks k 0 j (omega arith))) (above i (omega arith))
     ])
 
-pub look-push : {A : Type 0} (q : ℕ) (ks : List ℕ) (vs : List A) (k : ℕ) (v : A) → length vs ≡ length ks → look k ks vs ≡ None
+pub look-push : {A : Type 0} (q : ℕ) (ks : List ℕ) (vs : List A) (k : ℕ) (v : A) → length vs ≡ length ks
+    → look k ks vs ≡ None
     → look q (ks ++ k ∷ []) (vs ++ v ∷ []) ≡ cond (eqb q k) (Some v) (look q ks vs)
 look-push q [] [] k v s n = elim (cases_eq k q) [
   | inl e ↦ rw (eq-eqb k q e, eq-eqb q k (sym e)) refl
@@ -93,25 +109,30 @@ look-push q [] [] k v s n = elim (cases_eq k q) [
 ]
 look-push q [] (u ∷ vs) k v s n = absurd (omega arith)
 look-push q (x ∷ ks) [] k v s n = absurd (omega arith)
-look-push {A} q (x ∷ ks) (u ∷ vs) k v s n = go (cases_eq x k) (cases_eq x q) n (λ m. look-push q ks vs k v (omega arith) m)
+look-push {A} q (x ∷ ks) (u ∷ vs) k v s n = go (cases_eq x k) (cases_eq x q) n
+    (λ m. look-push q ks vs k v (omega arith) m)
   where
     go : (x ≡ k) ⊎ (x ≡ k → ⊥) → (x ≡ q) ⊎ (x ≡ q → ⊥) → cond (eqb x k) (Some u) (look k ks vs) ≡ None
         → (look k ks vs ≡ None → look q (ks ++ k ∷ []) (vs ++ v ∷ []) ≡ cond (eqb q k) (Some v) (look q ks vs))
-        → cond (eqb x q) (Some u) (look q (ks ++ k ∷ []) (vs ++ v ∷ [])) ≡ cond (eqb q k) (Some v) (cond (eqb x q) (Some u) (look q ks vs))
+        → cond (eqb x q) (Some u) (look q (ks ++ k ∷ []) (vs ++ v ∷ [])) ≡ cond (eqb q k) (Some v)
+        (cond (eqb x q) (Some u) (look q ks vs))
     go (inl e) f m h = absurd (let m' = rw (eq-eqb x k e) at m in cc)
     go (inr e) (inl f) m h = rw (eq-eqb x q f, ne_eqb q k (λ d. e (f ∙ d))) refl
     go (inr e) (inr f) m h = let m' = rw (ne_eqb x k e) at m in rw (ne_eqb x q f) (h m')
 
 -- cells of a line are below a cell from which on it has nothing
-pub below-later : {A : Type 0} (ks : List ℕ) (vs : List A) (c : ℕ) → length vs ≡ length ks → IsRising ks → ((q : ℕ) → c ≤ q → look q ks vs ≡ None)
+pub below-later : {A : Type 0} (ks : List ℕ) (vs : List A) (c : ℕ) → length vs ≡ length ks → IsRising ks
+    → ((q : ℕ) → c ≤ q → look q ks vs ≡ None)
     → (p : ℕ) → p < length ks → get_or ks p 0 < c
 below-later {A} ks [] c s r h p l = absurd (omega arith)
 below-later {A} ks (v ∷ vs) c s r h p l = elim (cases_lt (get_or ks p 0) c) [
   | inl u ↦ u
-  | inr u ↦ absurd (let f = look-at ks (v ∷ vs) s r p v l in let g = h (get_or ks p 0) u in let e : Some (get_or (v ∷ vs) p v) ≡ None = sym f ∙ g in cc)
+  | inr u ↦ absurd (let f = look-at ks (v ∷ vs) s r p v l in let g = h (get_or ks p 0) u in let e :
+      Some (get_or (v ∷ vs) p v) ≡ None = sym f ∙ g in cc)
 ]
 
-pub line-push : {A : Type 0} (ks : List ℕ) (vs : List A) (c : ℕ) (v : A) → IsLine {A = A} (record { cells = ks; values = vs })
+pub line-push : {A : Type 0} (ks : List ℕ) (vs : List A) (c : ℕ) (v : A)
+    → IsLine {A = A} (record { cells = ks; values = vs })
     → ((q : ℕ) → c ≤ q → look q ks vs ≡ None) → IsLine {A = A} (record { cells = ks ++ c ∷ []; values = vs ++ v ∷ [] })
 line-push ks vs c v line later = record {
   rising = rising-push ks c line.rising (below-later ks vs c line.full line.rising later);
@@ -119,7 +140,8 @@ line-push ks vs c v line later = record {
 }
 
 -- what was merged so far: all below some cell, of the old list the first i cells, of the listed ones the first j
-pub record Merged {A : Type 0} (old : List ℕ) (vs : List A) (listed : List ℕ) (fresh rest : List (Option A)) (i j : ℕ) (done : List ℕ) (values : List A) : Type 0 where
+pub record Merged {A : Type 0} (old : List ℕ) (vs : List A) (listed : List ℕ) (fresh rest : List (Option A)) (i j : ℕ)
+    (done : List ℕ) (values : List A) : Type 0 where
   pub low : ℕ
   pub old_place : IsPlace old low i
   pub listed_place : IsPlace listed low j
@@ -128,7 +150,8 @@ pub record Merged {A : Type 0} (old : List ℕ) (vs : List A) (listed : List ℕ
   pub before : (q : ℕ) → q < low → look q done values ≡ entry_after listed fresh (look q old vs) q
   pub after : (q : ℕ) → low ≤ q → look q done values ≡ None
 
-pub merged-none : {A : Type 0} (old : List ℕ) (vs : List A) (listed : List ℕ) (fresh : List (Option A)) → Merged old vs listed fresh fresh 0 0 [] []
+pub merged-none : {A : Type 0} (old : List ℕ) (vs : List A) (listed : List ℕ) (fresh : List (Option A))
+    → Merged old vs listed fresh fresh 0 0 [] []
 merged-none {A} old vs listed fresh = record {
   low = 0;
   old_place = record { within = omega arith; below = λ a l. absurd (omega arith); from = λ a l m. omega arith };
@@ -139,8 +162,10 @@ merged-none {A} old vs listed fresh = record {
   after = λ q l. refl;
 }
 
-module _ {A : Type 0} (old : List ℕ) (vs : List A) (listed : List ℕ) (fresh rest : List (Option A)) (i j : ℕ) (done : List ℕ) (values : List A)
-    (old_rises : IsRising old) (listed_rises : IsRising listed) (old_full : length vs ≡ length old) (fresh_full : length fresh ≡ length listed)
+module _ {A : Type 0} (old : List ℕ) (vs : List A) (listed : List ℕ) (fresh rest : List (Option A)) (i j : ℕ)
+    (done : List ℕ) (values : List A)
+    (old_rises : IsRising old) (listed_rises : IsRising listed) (old_full : length vs ≡ length old)
+    (fresh_full : length fresh ≡ length listed)
     (m : Merged old vs listed fresh rest i j done values) (c : ℕ) (next : IsNext old listed i j c) where
   pub next-low : m.low ≤ c
   next-low = elim next.is [
@@ -176,11 +201,14 @@ module _ {A : Type 0} (old : List ℕ) (vs : List A) (listed : List ℕ) (fresh 
     pub value : v ≡ entry_after listed fresh (look c old vs) c
     pub left : others ≡ drop (past listed j c) fresh
 
-  pub next-listed : (v : Option A) (others : List (Option A)) → stands listed j c ≡ true → rest ≡ v ∷ others → Due v others
+  pub next-listed : (v : Option A) (others : List (Option A)) → stands listed j c ≡ true → rest ≡ v ∷ others
+      → Due v others
   next-listed v others h e =
       let s = stands-true listed j c h in
-      let d : v ∷ others ≡ get_or fresh j v ∷ drop (suc j) fresh = sym e ∙ m.left ∙ drop-cons fresh j v (omega (arith, s.0, fresh_full)) in
-      let found : look c listed fresh ≡ Some (get_or fresh j v) = ap (λ x. look x listed fresh) (sym s.1) ∙ look-at listed fresh fresh_full listed_rises j v s.0 in
+      let d : v ∷ others ≡ get_or fresh j v ∷ drop (suc j) fresh = sym e ∙ m.left
+      ∙ drop-cons fresh j v (omega (arith, s.0, fresh_full)) in
+      let found : look c listed fresh ≡ Some (get_or fresh j v) = ap (λ x. look x listed fresh) (sym s.1)
+      ∙ look-at listed fresh fresh_full listed_rises j v s.0 in
       let here : v ≡ get_or fresh j v = cc in
       let there : others ≡ drop (suc j) fresh = cc in
       record {
@@ -188,7 +216,8 @@ module _ {A : Type 0} (old : List ℕ) (vs : List A) (listed : List ℕ) (fresh 
         left = there ∙ ap (λ k. drop k fresh) (sym (add-one j) ∙ sym (ap (λ b. cond b (j + 1) j) h));
       }
 
-  pub next-kept : (v : Option A) (others : List (Option A)) → stands listed j c ≡ false → others ≡ rest → ((d : A) → v ≡ Some (get_or vs i d)) → Due v others
+  pub next-kept : (v : Option A) (others : List (Option A)) → stands listed j c ≡ false → others ≡ rest
+      → ((d : A) → v ≡ Some (get_or vs i d)) → Due v others
   next-kept v others h e w = elim next.is [
     | inl s ↦ absurd (stands-false listed j c h s.0 s.1)
     | inr s ↦
@@ -197,12 +226,15 @@ module _ {A : Type 0} (old : List ℕ) (vs : List A) (listed : List ℕ) (fresh 
           | inr u ↦ absurd (let o = s.2 (omega arith) in omega (arith, o, rising_le listed listed_rises j a u l, f))
         ]) in
         record {
-          value = kept vs old_full w (λ d. ap (λ x. look x old vs) (sym s.1) ∙ look-at old vs old_full old_rises i d s.0) s.0 ∙ sym (ap (λ x. unwrap_or x (look c old vs)) (look-absent c listed fresh none));
+          value = kept vs old_full w (λ d. ap (λ x. look x old vs) (sym s.1)
+              ∙ look-at old vs old_full old_rises i d s.0) s.0
+              ∙ sym (ap (λ x. unwrap_or x (look c old vs)) (look-absent c listed fresh none));
           left = e ∙ m.left ∙ ap (λ k. drop k fresh) (sym (ap (λ b. cond b (j + 1) j) h));
         }
   ]
     where
-      kept : (ws : List A) → length ws ≡ length old → ((d : A) → v ≡ Some (get_or vs i d)) → ((d : A) → look c old vs ≡ Some (get_or vs i d)) → i < length old → v ≡ look c old vs
+      kept : (ws : List A) → length ws ≡ length old → ((d : A) → v ≡ Some (get_or vs i d))
+          → ((d : A) → look c old vs ≡ Some (get_or vs i d)) → i < length old → v ≡ look c old vs
       kept [] s w f l = absurd (omega arith)
       kept (x ∷ xs) s w f l = w x ∙ sym (f x)
 
@@ -241,16 +273,22 @@ module _ {A : Type 0} (old : List ℕ) (vs : List A) (listed : List ℕ) (fresh 
 
       none : (q : ℕ) → m.low ≤ q → q < c → entry_after listed fresh (look q old vs) q ≡ None
       none q l u =
-          ap₂ (λ x y. unwrap_or x y) (look-absent q listed fresh (absent-between listed m.low j c q listed_rises m.listed_place next.in_second l u))
+          ap₂ (λ x y. unwrap_or x y)
+          (look-absent q listed fresh (absent-between listed m.low j c q listed_rises m.listed_place next.in_second
+          l u))
           (look-absent q old vs (absent-between old m.low i c q old_rises m.old_place next.in_first l u))
 
 -- all was merged
-pub merged-all : {A : Type 0} (old : List ℕ) (vs : List A) (listed : List ℕ) (fresh rest : List (Option A)) (i j : ℕ) (done : List ℕ) (values : List A)
-    → Merged old vs listed fresh rest i j done values → length old ≤ i → length listed ≤ j → (q : ℕ) → look q done values ≡ entry_after listed fresh (look q old vs) q
+pub merged-all : {A : Type 0} (old : List ℕ) (vs : List A) (listed : List ℕ) (fresh rest : List (Option A)) (i j : ℕ)
+    (done : List ℕ) (values : List A)
+    → Merged old vs listed fresh rest i j done values → length old ≤ i → length listed ≤ j → (q : ℕ)
+    → look q done values ≡ entry_after listed fresh (look q old vs) q
 merged-all old vs listed fresh rest i j done values m l n q = elim (cases_lt q m.low) [
   | inl u ↦ m.before q u
   | inr u ↦
       m.after q u
-      ∙ sym (ap₂ (λ x y. unwrap_or x y) (look-absent q listed fresh (has-absent q listed (λ a s e. absurd (omega (arith, m.listed_place.below a (omega arith), e)))))
+      ∙ sym (ap₂ (λ x y. unwrap_or x y)
+      (look-absent q listed fresh
+      (has-absent q listed (λ a s e. absurd (omega (arith, m.listed_place.below a (omega arith), e)))))
       (look-absent q old vs (has-absent q old (λ a s e. absurd (omega (arith, m.old_place.below a (omega arith), e))))))
 ]

@@ -1,5 +1,6 @@
 -- Rising lists of cells, and values by cell.
-use Rattle.std.specs.Prelude.{◌≡◌, ◌<◌, ◌==◌, ◌||◌, ℕ, Bool, false, List, [], ◌∷◌, Option, Some, None, ◌&&◌, nat_lt, ◌+◌, ◌≤◌, ◌⊎◌, if◌then◌else◌, length, map, slice_index, unwrap_or}
+use Rattle.std.specs.Prelude.{◌≡◌, ◌<◌, ◌==◌, ◌||◌, ℕ, Bool, false, List, [], ◌∷◌, Option, Some, None, ◌&&◌, nat_lt}
+use Rattle.std.specs.Prelude.{◌+◌, ◌≤◌, ◌⊎◌, if◌then◌else◌, length, map, slice_index, unwrap_or}
 
 -- each cell is less than each later one
 abbrev pub IsRising : List ℕ → Type 0
@@ -54,7 +55,8 @@ stands cells i c = nat_lt i (length cells) && (slice_index cells i == c)
 abbrev pub past : List ℕ → ℕ → ℕ → ℕ
 past cells i c = if stands cells i c then i + 1 else i
 
--- c is the least cell of two rising lists from the places i and j on; where both have it there, it is that of the second
+-- c is the least cell of two rising lists from the places i and j on; where both have it there, it is that of the
+-- second
 pub record IsNext (first second : List ℕ) (i j c : ℕ) : Type 0 where
   pub in_first : i < length first → c ≤ slice_index first i
   pub in_second : j < length second → c ≤ slice_index second j

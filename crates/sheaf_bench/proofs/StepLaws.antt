@@ -1,5 +1,6 @@
 -- What a candidate is, and what a flag leaves.
-use Rattle.std.proofs.Common.{◌≡◌, ℕ, Bool, true, false, ◌&&◌, List, Option, Some, None, if◌then◌else◌, refl, sym, ap, ap₂, ◌∙◌, inl, inr}
+use Rattle.std.proofs.Common.{◌≡◌, ℕ, Bool, true, false, ◌&&◌, List, Option, Some, None, if◌then◌else◌, refl, sym, ap}
+use Rattle.std.proofs.Common.{ap₂, ◌∙◌, inl, inr}
 use Rattle.std.specs.Prelude.{◌==◌}
 use Rattle.std.specs.Option.{is_some}
 use Rattle.std.proofs.lemmas.Bool.{eqb-true, and_parts}
@@ -38,12 +39,14 @@ flag-matrix (Some b) A = refl
 
 flagged-matrix : (v : StoredBlocks) (s t p q : ℕ) (b : Bool) (A : List (List ℕ)) → (b ≡ true → (p ≡ s) × (q ≡ t))
     → matrix_or (if b then with_flag (block_at v s t) else block_at v p q) A ≡ matrix_or (block_at v p q) A
-flagged-matrix v s t p q true A e = flag-matrix (block_at v s t) A ∙ ap₂ (λ a b. matrix_or (block_at v a b) A) (sym (e refl).0) (sym (e refl).1)
+flagged-matrix v s t p q true A e = flag-matrix (block_at v s t) A ∙ ap₂ (λ a b. matrix_or (block_at v a b) A)
+    (sym (e refl).0) (sym (e refl).1)
 flagged-matrix v s t p q false A e = refl
 
 -- a flag that is set leaves the block complex as it is
 pub flagged-same : (v w : StoredBlocks) (s t : ℕ) → w.live ≡ v.live
-    → ((p q : ℕ) → block_at w p q ≡ (if p == s && q == t then with_flag (block_at v s t) else block_at v p q)) → HaveSameMatrices (complex_in v) (complex_in w)
+    → ((p q : ℕ) → block_at w p q ≡ (if p == s && q == t then with_flag (block_at v s t) else block_at v p q))
+    → HaveSameMatrices (complex_in v) (complex_in w)
 flagged-same v w s t live flagged = record {
   live = live;
   matrices = λ p q l.
@@ -55,8 +58,10 @@ flagged-same v w s t live flagged = record {
 }
 
 pub flagged-over : (K : Ops) (v w : StoredBlocks) (s t : ℕ) → IsBlockComplex K (complex_in v) → w.live ≡ v.live
-    → ((p q : ℕ) → block_at w p q ≡ (if p == s && q == t then with_flag (block_at v s t) else block_at v p q)) → IsBlockComplex K (complex_in w)
-flagged-over K v w s t is live flagged = same-block_complex K (complex_in v) (complex_in w) (flagged-same v w s t live flagged) is
+    → ((p q : ℕ) → block_at w p q ≡ (if p == s && q == t then with_flag (block_at v s t) else block_at v p q))
+    → IsBlockComplex K (complex_in w)
+flagged-over K v w s t is live flagged = same-block_complex K (complex_in v) (complex_in w)
+    (flagged-same v w s t live flagged) is
 
 -- the next candidate is one
 pub next-candidate : (v : StoredBlocks) (from p : ℕ × ℕ) → IsNextFrom v from p → is_candidate v p.0 p.1 ≡ true
@@ -66,6 +71,7 @@ next-candidate v from p h = elim h [
 ]
 
 -- a record that is made of a footprint is over its field
-pub finishes-field : {F : Type 0} (K : Ops) (f : F) (foot : Footprint) (r : Finish F) → Finishes K f foot r → IsOfField f r
+pub finishes-field : {F : Type 0} (K : Ops) (f : F) (foot : Footprint) (r : Finish F) → Finishes K f foot r
+    → IsOfField f r
 finishes-field K f foot (Made r) h = h.field
 finishes-field K f foot (Singular x y pivot kernel) h = tt

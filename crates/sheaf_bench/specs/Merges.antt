@@ -8,4 +8,5 @@ use Rattle.block_sparse.specs.Grids.{AreSized}
 pub record MayJoin (live : List (ℕ × ℕ × ℕ)) (left below : List (ℕ × ℕ)) : Type 0 where
   pub left_sized : AreSized live left
   pub below_sized : AreSized live below
-  pub degrees : (s t : ℕ) → has s (keys left) ≡ true → has t (keys below) ≡ true → degree_of live t ≡ degree_of live s + 1
+  pub degrees : (s t : ℕ) → has s (keys left) ≡ true → has t (keys below) ≡ true → degree_of live t ≡ degree_of live s
+      + 1

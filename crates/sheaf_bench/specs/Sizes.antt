@@ -1,7 +1,9 @@
 -- Sizes of workloads.
 use Rattle.std.specs.Prelude.{ℕ}
 use Rattle.sheaf_bench.specs.declared.workload.Workload.{Workload}
-use Rattle.sheaf_bench.specs.declared.workload.Workload.TheVariants.{Build, Candidates, Check, Full, Get, Input, Merge, Put, Put16, Read, ReadTorus, Reduce, Seal, Seal16, Wide}
+use Rattle.sheaf_bench.specs.declared.workload.Workload.TheVariants.{Build, Candidates, Check, Full, Get, Input, Merge}
+use Rattle.sheaf_bench.specs.declared.workload.Workload.TheVariants.{Put, Put16, Read, ReadTorus, Reduce, Seal, Seal16}
+use Rattle.sheaf_bench.specs.declared.workload.Workload.TheVariants.{Wide}
 
 -- the least size
 abbrev pub least : Workload → ℕ

@@ -18,10 +18,10 @@ const PUT: u32 = 65_536;
 
 /// The cells of a block complex of blocks of one entry, each 1: `2n + 1` of degree 0, and as many of degree 1.
 ///
-/// From each of the first to each of the second goes a block, with two exceptions: from the first cell blocks go to the first and
-/// to every second of the others alone, and to the first cell of degree 1 they go from the first and from every second of the
-/// others alone. So the pair of the two first cells has `n` cells on the left and `n` below, and all rows and columns of these
-/// hold `n + 1` other blocks.
+/// From each of the first to each of the second goes a block, with two exceptions: from the first cell blocks go to the
+/// first and to every second of the others alone, and to the first cell of degree 1 they go from the first and from
+/// every second of the others alone. So the pair of the two first cells has `n` cells on the left and `n` below, and
+/// all rows and columns of these hold `n + 1` other blocks.
 fn cells(alloc: Global, n: u32) -> Result<Vec<(u32, u8, u8)>, NoMemory>
     requires { n ≤ 64 }
 {

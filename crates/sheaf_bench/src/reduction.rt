@@ -27,7 +27,8 @@ use std::time::Duration;
 /// What came of a candidate.
 #[derive(Clone, Copy)]
 struct Tried {
-    /// The pair of cells from which the next candidate is looked for, so that the candidates come in order from the first on.
+    /// The pair of cells from which the next candidate is looked for, so that the candidates come in order from the
+    /// first on.
     next: (u32, u32),
     /// How many pairs of cells were removed, one or none.
     pairs: u64,

@@ -42,8 +42,8 @@ pub(crate) fn run_wide<R: Clock + AllocGlobal>(rt: &R, size: u32) -> Result<Repo
     time_solve(rt, FEW * rank * (2 * size - rank + 1), &columns, &sum)
 }
 
-/// The operations of an elimination of `n` columns of `n` coordinates, the first `rank` of them independent, and a vector:
-/// as many multiplications as additions, `n` for each independent column and each later column or the vector.
+/// The operations of an elimination of `n` columns of `n` coordinates, the first `rank` of them independent, and a
+/// vector: as many multiplications as additions, `n` for each independent column and each later column or the vector.
 fn elimination(n: u32, rank: u32) -> u32
     requires few { n ≤ 1024 }
     requires rank { rank ≤ n }

@@ -7,8 +7,8 @@ use std::alloc::{AllocError as NoMemory, Global};
 
 /// A torus of squares, as lists of cells and faces.
 ///
-/// On a grid of n by n places, whose indices are taken modulo n, each place has a vertex, an edge to the next row, an edge
-/// to the next column, and a square between these two edges and those across. First come all vertices, row by row,
+/// On a grid of n by n places, whose indices are taken modulo n, each place has a vertex, an edge to the next row, an
+/// edge to the next column, and a square between these two edges and those across. First come all vertices, row by row,
 /// then all edges of the first kind, all of the second, and all squares.
 #[derive(Drop)]
 pub struct Torus {
@@ -20,8 +20,8 @@ pub struct Torus {
 }
 
 impl Torus {
-    /// The torus of `size` by `size` places; with 32 there are 4,096 cells. With one row, both ends of an edge are one vertex,
-    /// which no complex has.
+    /// The torus of `size` by `size` places; with 32 there are 4,096 cells. With one row, both ends of an edge are one
+    /// vertex, which no complex has.
     pub fn of(alloc: Global, size: u32) -> Result<Torus, Failure>
         requires positive { 1 ≤ size }
         requires small { size ≤ 32 }

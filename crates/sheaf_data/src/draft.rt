@@ -9,8 +9,9 @@ use std::marker::Model;
 
 /// A complex, with the size of the stalk of each cell and a block for each face: what is to become a sheaf.
 ///
-/// Each stalk has at most 16 coordinates, and all together have at most 4,096. The blocks stand in the order of the faces
-/// and go from stalk to stalk; their entries are scalars of the field. Nothing is said of signs or of products of blocks.
+/// Each stalk has at most 16 coordinates, and all together have at most 4,096. The blocks stand in the order of the
+/// faces and go from stalk to stalk; their entries are scalars of the field. Nothing is said of signs or of products of
+/// blocks.
 #[derive(Drop)]
 pub struct Draft<F: Scalars> {
     /// The cells and the faces.

@@ -33,8 +33,8 @@ impl<F: Scalars> Draft<F> {
     ///
     /// # Errors
     ///
-    /// `Complex` with the first fault of the incidences; where there is none, `Noncommuting` with the first pair of cells,
-    /// in order, whose square does not commute. The draft is handed back.
+    /// `Complex` with the first fault of the incidences; where there is none, `Noncommuting` with the first pair of
+    /// cells, in order, whose square does not commute. The draft is handed back.
     pub fn seal(self) -> Result<Sheaf<F>, (Draft<F>, SealFault)>
         ensures sheaf { IsOk result ↔ IsSheaf (F.ops self.field) self.complex self.stalks self.blocks }
         ensures same { IfOk result (λ sheaf. sheaf ≡ self) }
@@ -80,8 +80,8 @@ impl<F: Scalars> Sheaf<F> {
         })
     }
 
-    /// Puts these stalks and blocks in place of all that were there, where the blocks of the faces at the places `touched`
-    /// may differ from the present ones. Only squares of these faces are visited. Takes no memory.
+    /// Puts these stalks and blocks in place of all that were there, where the blocks of the faces at the places
+    /// `touched` may differ from the present ones. Only squares of these faces are visited. Takes no memory.
     ///
     /// # Errors
     ///

@@ -7,8 +7,8 @@ const MOST_OF_A_STALK: u8 = 16;
 /// The most coordinates of all stalks together.
 const MOST_OF_ALL: u32 = 4096;
 
-/// Whether these are sizes for the stalks of cells of these dimensions: one for each, each at most 16, and together at most
-/// 4,096.
+/// Whether these are sizes for the stalks of cells of these dimensions: one for each, each at most 16, and together at
+/// most 4,096.
 pub fn stalks_fit(dims: &[u8], stalks: &[u8]) -> bool
     ensures { IsTrue result ↔ AreStalks dims.now stalks.now }
 {

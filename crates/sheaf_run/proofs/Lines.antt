@@ -1,5 +1,6 @@
 -- Lines of words and numbers, written number by number.
-use Rattle.std.proofs.Common.{Result, Ok, Err, OnErr, ◌≡◌, ℕ, zero, suc, ◌<◌, List, [], ◌∷◌, ◌++◌, length, get_or, take, drop, Option, refl, sym, ap, ◌∙◌, subst, append_assoc, arith}
+use Rattle.std.proofs.Common.{Result, Ok, Err, OnErr, ◌≡◌, ℕ, zero, suc, ◌<◌, List, [], ◌∷◌, ◌++◌, length, get_or, take}
+use Rattle.std.proofs.Common.{drop, Option, refl, sym, ap, ◌∙◌, subst, append_assoc, arith}
 use Rattle.std.specs.Prelude.{codes, decimal}
 use Rattle.io_edge.specs.Bytes.{Took, TookPrefix}
 use Rattle.io_edge.proofs.Known.{took_front_then, took_front_longer}
@@ -7,7 +8,8 @@ use Rattle.sheaf_run.specs.Answers.{spaced_numbers}
 
 -- the numbers before one, that one, and those after it
 spaced-split : (numbers : List ℕ) (i : ℕ) → i < length numbers
-    → spaced_numbers numbers ≡ (spaced_numbers (take i numbers) ++ (codes " " ++ decimal (get_or numbers i 0))) ++ spaced_numbers (drop (suc i) numbers)
+    → spaced_numbers numbers ≡ (spaced_numbers (take i numbers) ++ (codes " " ++ decimal (get_or numbers i 0)))
+    ++ spaced_numbers (drop (suc i) numbers)
 spaced-split [] i h = absurd (omega arith)
 spaced-split (n ∷ numbers) zero h = refl
 spaced-split (n ∷ numbers) (suc i) h =
@@ -15,16 +17,19 @@ spaced-split (n ∷ numbers) (suc i) h =
     let front = spaced_numbers (take i numbers) in
     let next = codes " " ++ decimal (get_or numbers i 0) in
     let rest = spaced_numbers (drop (suc i) numbers) in
-    ap (λ text. own ++ text) (spaced-split numbers i (omega arith)) ∙ sym (append_assoc own (front ++ next) rest) ∙ ap (λ text. text ++ rest) (sym (append_assoc own front next))
+    ap (λ text. own ++ text) (spaced-split numbers i (omega arith)) ∙ sym (append_assoc own (front ++ next) rest)
+    ∙ ap (λ text. text ++ rest) (sym (append_assoc own front next))
 
 -- a front of one number is one of all numbers
-pub front_of_numbers : (old new newer : Option (List ℕ)) (numbers : List ℕ) (i : ℕ) → i < length numbers → Took old new (spaced_numbers (take i numbers))
+pub front_of_numbers : (old new newer : Option (List ℕ)) (numbers : List ℕ) (i : ℕ) → i < length numbers
+    → Took old new (spaced_numbers (take i numbers))
     → TookPrefix new newer (codes " " ++ decimal (get_or numbers i 0)) → TookPrefix old newer (spaced_numbers numbers)
 front_of_numbers old new newer numbers i l took front =
     let before = spaced_numbers (take i numbers) in
     let own = codes " " ++ decimal (get_or numbers i 0) in
     subst (TookPrefix old newer) (sym (spaced-split numbers i l))
-    (took_front_longer old newer (before ++ own) (spaced_numbers (drop (suc i) numbers)) (took_front_then old new newer before own took front))
+    (took_front_longer old newer (before ++ own) (spaced_numbers (drop (suc i) numbers))
+    (took_front_then old new newer before own took front))
 
 -- what holds anyway holds on an error
 pub on_err : {T E P : Type 0} (r : Result T E) → P → OnErr r P

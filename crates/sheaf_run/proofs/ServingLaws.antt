@@ -1,5 +1,7 @@
 -- Clients that are served one after the other make a legal order.
-use Rattle.std.proofs.Common.{◌≡◌, ℕ, ◌+◌, ◌≤◌, Bool, true, false, ◌==◌, if◌then◌else◌, nat_lt, List, [], ◌∷◌, ◌++◌, length, slice_get, slice_index_or, take, Some, ◌*◌, add-one, refl, sym, ap, ap₂, subst, ◌∙◌, arith, length-append}
+use Rattle.std.proofs.Common.{◌≡◌, ℕ, ◌+◌, ◌≤◌, Bool, true, false, ◌==◌, if◌then◌else◌, nat_lt, List, [], ◌∷◌, ◌++◌}
+use Rattle.std.proofs.Common.{length, slice_get, slice_index_or, take, Some, ◌*◌, add-one, refl, sym, ap, ap₂, subst}
+use Rattle.std.proofs.Common.{◌∙◌, arith, length-append}
 use Rattle.std.specs.Prelude.{sum_by}
 use Rattle.std.proofs.Math.Seq.{take-suc}
 use Rattle.std.proofs.lemmas.List.Sums.{sum_by-append, sum_by-cons}
@@ -23,7 +25,8 @@ use Rattle.sheaf_words.specs.declared.happening.Event.{Event}
 use Rattle.sheaf_words.specs.declared.happening.Event.TheVariants.{Edit, Ask, Reply}
 use Rattle.edit_versions.specs.Verdicts.{IsVerdict, IsEdited}
 use Rattle.core_machine.specs.Replies.{IsRightReply}
-use Rattle.core_machine.specs.Machine.{Lane, State, free_lane, waiting_lane, first_state, command_at, with_lane, IsCurrentSheaf, EditStep, AskStep, ReplyStep, IsLegalAndWhole}
+use Rattle.core_machine.specs.Machine.{Lane, State, free_lane, waiting_lane, first_state, command_at, with_lane}
+use Rattle.core_machine.specs.Machine.{IsCurrentSheaf, EditStep, AskStep, ReplyStep, IsLegalAndWhole}
 use Rattle.core_machine.proofs.CountLaws.{leads-more}
 use Rattle.sheaf_run.specs.Serving.{Progress, IsSheafAfter, IsJudged, done, Stands}
 
@@ -49,7 +52,8 @@ done-more scripts lanes c i n d is = go (c == d) refl
   where
     go : (b : Bool) → (c == d) ≡ b → (if b then free_lane n else lanes d) ≡ free_lane (done scripts c n d)
     go true e = ap free_lane (sym (subst (λ k. done scripts c n k ≡ n) (eqb-true c d e) (done-here scripts c n)))
-    go false e = is ∙ ap (λ b. free_lane (if nat_lt d c then length (slice_index_or scripts d []) else if b then i else 0)) e
+    go false e = is ∙ ap (λ b. free_lane (if nat_lt d c then length (slice_index_or scripts d []) else if b then
+        i else 0)) e
         ∙ sym (ap (λ b. free_lane (if nat_lt d c then length (slice_index_or scripts d []) else if b then n else 0)) e)
 
 -- client c is done, and the next one has done nothing yet
@@ -57,18 +61,23 @@ done-next : (scripts : List (List Command)) (c d : ℕ) (script : List Command) 
     → done scripts c (length script) d ≡ done scripts (c + 1) 0 d
 done-next scripts c d script there = go (nat_lt d c) (c == d) refl refl
   where
-    go : (low same : Bool) → nat_lt d c ≡ low → (c == d) ≡ same → done scripts c (length script) d ≡ done scripts (c + 1) 0 d
+    go : (low same : Bool) → nat_lt d c ≡ low → (c == d) ≡ same → done scripts c (length script) d
+        ≡ done scripts (c + 1) 0 d
     go true same l e =
         ap (λ b. if b then length (slice_index_or scripts d []) else if c == d then length script else 0) l
-        ∙ sym (ap (λ b. if b then length (slice_index_or scripts d []) else if (c + 1) == d then 0 else 0) (lt-ltb d (c + 1) (omega (arith, ltb-true d c l))))
+        ∙ sym (ap (λ b. if b then length (slice_index_or scripts d []) else if (c + 1) == d then 0 else 0)
+        (lt-ltb d (c + 1) (omega (arith, ltb-true d c l))))
     go false true l e =
         ap₂ (λ a b. if a then length (slice_index_or scripts d []) else if b then length script else 0) l e
-        ∙ sym (ap length (get_or_from_slice_get scripts d script [] (ap (slice_get scripts) (sym (eqb-true c d e)) ∙ there)))
-        ∙ sym (ap (λ b. if b then length (slice_index_or scripts d []) else if (c + 1) == d then 0 else 0) (lt-ltb d (c + 1) (omega (arith, eqb-true c d e))))
+        ∙ sym (ap length (get_or_from_slice_get scripts d script [] (ap (slice_get scripts) (sym (eqb-true c d e))
+        ∙ there)))
+        ∙ sym (ap (λ b. if b then length (slice_index_or scripts d []) else if (c + 1) == d then 0 else 0)
+        (lt-ltb d (c + 1) (omega (arith, eqb-true c d e))))
     go false false l e =
         ap₂ (λ a b. if a then length (slice_index_or scripts d []) else if b then length script else 0) l e
         ∙ sym (if-same ((c + 1) == d) 0)
-        ∙ sym (ap (λ b. if b then length (slice_index_or scripts d []) else if (c + 1) == d then 0 else 0) (le-ltb d (c + 1) (omega (arith, ltb-false d c l, eqb-false c d e))))
+        ∙ sym (ap (λ b. if b then length (slice_index_or scripts d []) else if (c + 1) == d then 0 else 0)
+        (le-ltb d (c + 1) (omega (arith, ltb-false d c l, eqb-false c d e))))
 
 -- ---- steps
 
@@ -77,7 +86,8 @@ current-last : (sheaves : List (SheafData Field)) (lanes : ℕ → Lane) (new : 
 current-last sheaves lanes new = (length sheaves, length-append sheaves (new ∷ []), slice_get-last sheaves new)
 
 -- the client's edit is judged
-pub judge-step : (scripts : List (List Command)) (start : SheafData Field) (c i : ℕ) (p : Progress) (e : Change) (v : Verdict) (new : SheafData Field)
+pub judge-step : (scripts : List (List Command)) (start : SheafData Field) (c i : ℕ) (p : Progress) (e : Change)
+    (v : Verdict) (new : SheafData Field)
     → command_at scripts c i ≡ Some (commands.Change e) → IsJudged p.sheaf e.sets v new → Stands scripts start c i p
     → Stands scripts start c (i + 1) (record { sheaf = new; events = p.events ++ Edit c v ∷ [] })
 judge-step scripts start c i p e v new comes judged h = go v judged.after judged.judged
@@ -89,7 +99,8 @@ judge-step scripts start c i p e v new comes judged h = go v judged.after judged
         → Stands scripts start c (i + 1) (record { sheaf = new; events = p.events ++ Edit c w ∷ [] })
     go Accepted edited is =
         let K : Ops = ops_of start.field in
-        let right : IsEdited K p.sheaf e.sets new = subst (λ f. IsEdited (ops_of f) p.sheaf e.sets new) h.field edited in
+        let right : IsEdited K p.sheaf e.sets new = subst (λ f. IsEdited (ops_of f) p.sheaf e.sets new) h.field edited
+        in
         let after : State Field = record { sheaves = h.state.sheaves ++ new ∷ []; lanes = lanes } in
         let step : EditStep K scripts c Accepted h.state after = record {
           position = i;
@@ -130,14 +141,18 @@ judge-step scripts start c i p e v new comes judged h = go v judged.after judged
         }
 
 -- the client's question is asked, and answered
-pub answer-step : (scripts : List (List Command)) (start : SheafData Field) (c i : ℕ) (p : Progress) (q : Query) (r : Answer)
-    → command_at scripts c i ≡ Some (commands.Ask q) → IsRightReply (ops_of p.sheaf.field) p.sheaf q r → Stands scripts start c i p
+pub answer-step : (scripts : List (List Command)) (start : SheafData Field) (c i : ℕ) (p : Progress) (q : Query)
+    (r : Answer)
+    → command_at scripts c i ≡ Some (commands.Ask q) → IsRightReply (ops_of p.sheaf.field) p.sheaf q r
+    → Stands scripts start c i p
     → Stands scripts start c (i + 1) (record { sheaf = p.sheaf; events = (p.events ++ Ask c ∷ []) ++ Reply c r ∷ [] })
 answer-step scripts start c i p q r comes right h =
     let K : Ops = ops_of start.field in
     let v : ℕ = h.current.0 in
-    let asking : State Field = record { sheaves = h.state.sheaves; lanes = with_lane h.state.lanes c (waiting_lane i v) } in
-    let after : State Field = record { sheaves = h.state.sheaves; lanes = with_lane asking.lanes c (free_lane (i + 1)) } in
+    let asking : State Field =
+    record { sheaves = h.state.sheaves; lanes = with_lane h.state.lanes c (waiting_lane i v) } in
+    let after : State Field = record { sheaves = h.state.sheaves; lanes = with_lane asking.lanes c (free_lane (i + 1)) }
+    in
     let ask : AskStep scripts c h.state asking = record {
       position = i;
       query = q;
@@ -169,7 +184,8 @@ answer-step scripts start c i p q r comes right h =
     }
   where
     over : (d : ℕ) (b : Bool) → (c == d) ≡ b
-        → with_lane (with_lane h.state.lanes c (waiting_lane i h.current.0)) c (free_lane (i + 1)) d ≡ with_lane h.state.lanes c (free_lane (i + 1)) d
+        → with_lane (with_lane h.state.lanes c (waiting_lane i h.current.0)) c (free_lane (i + 1)) d
+        ≡ with_lane h.state.lanes c (free_lane (i + 1)) d
     over d true e =
         ap (λ b. if b then free_lane (i + 1) else with_lane h.state.lanes c (waiting_lane i h.current.0) d) e
         ∙ sym (ap (λ b. if b then free_lane (i + 1) else h.state.lanes d) e)
@@ -179,16 +195,20 @@ answer-step scripts start c i p q r comes right h =
 
 -- ---- first, next and last
 
-pub first-stands : (scripts : List (List Command)) (start : SheafData Field) → Stands scripts start 0 0 (record { sheaf = start; events = [] })
+pub first-stands : (scripts : List (List Command)) (start : SheafData Field)
+    → Stands scripts start 0 0 (record { sheaf = start; events = [] })
 first-stands scripts start = record {
   state = first_state start;
   legal = refl;
   current = (0, refl, refl);
   field = refl;
-  lanes = λ d. ap free_lane (sym (ap (λ b. if b then length (slice_index_or scripts d []) else if 0 == d then 0 else 0) (le-ltb d 0 (omega arith)) ∙ if-same (0 == d) 0));
+  lanes = λ d. ap free_lane
+      (sym (ap (λ b. if b then length (slice_index_or scripts d []) else if 0 == d then 0 else 0)
+      (le-ltb d 0 (omega arith)) ∙ if-same (0 == d) 0));
 }
 
-pub next-stands : (scripts : List (List Command)) (start : SheafData Field) (c : ℕ) (script : List Command) (p : Progress)
+pub next-stands : (scripts : List (List Command)) (start : SheafData Field) (c : ℕ) (script : List Command)
+    (p : Progress)
     → slice_get scripts c ≡ Some script → Stands scripts start c (length script) p → Stands scripts start (c + 1) 0 p
 next-stands scripts start c script p there h = record {
   state = h.state;
@@ -204,14 +224,16 @@ last-stands scripts start p h = record {
   last = h.state;
   legal = h.legal;
   whole = λ c script there. h.lanes c ∙ ap free_lane (
-      ap (λ b. if b then length (slice_index_or scripts c []) else if length scripts == c then 0 else 0) (lt-ltb c (length scripts) (slice_get_within scripts c script there))
+      ap (λ b. if b then length (slice_index_or scripts c []) else if length scripts == c then 0 else 0)
+      (lt-ltb c (length scripts) (slice_get_within scripts c script there))
       ∙ ap length (get_or_from_slice_get scripts c script [] there));
 }
 
 -- ---- what the calls made of the progress
 
 -- the Betti numbers of the sheaf were asked and answered
-pub answered : (scripts : List (List Command)) (start : SheafData Field) (c i : ℕ) (q : Query) (old : Progress) (sheaf : SheafData Field)
+pub answered : (scripts : List (List Command)) (start : SheafData Field) (c i : ℕ) (q : Query) (old : Progress)
+    (sheaf : SheafData Field)
     (before asked after : List Event) (numbers : List ℕ)
     → q ≡ queries.Betti → old ≡ record { sheaf = sheaf; events = before }
     → AreBetti (ops_of old.sheaf.field) old.sheaf.complex old.sheaf.stalks old.sheaf.blocks numbers
@@ -220,13 +242,16 @@ pub answered : (scripts : List (List Command)) (start : SheafData Field) (c i : 
     → Stands scripts start c (i + 1) (record { sheaf = sheaf; events = after })
 answered scripts start c i q old sheaf before asked after numbers is was right e f comes h =
     let own = λ (p : Progress). AreBetti (ops_of p.sheaf.field) p.sheaf.complex p.sheaf.stalks p.sheaf.blocks numbers in
-    subst (λ es. Stands scripts start c (i + 1) (record { sheaf = sheaf; events = es })) (sym (f ∙ ap (λ es. es ++ Reply c (replies.Betti numbers) ∷ []) e))
+    subst (λ es. Stands scripts start c (i + 1) (record { sheaf = sheaf; events = es }))
+    (sym (f ∙ ap (λ es. es ++ Reply c (replies.Betti numbers) ∷ []) e))
     (answer-step scripts start c i (record { sheaf = sheaf; events = before }) queries.Betti (replies.Betti numbers)
     (comes ∙ ap (λ k. Some (commands.Ask k)) is) (subst own was right) (subst (Stands scripts start c i) was h))
 
 -- the edit was judged
-pub edited : (scripts : List (List Command)) (start : SheafData Field) (c i : ℕ) (e : Change) (v : Verdict) (old middle : Progress) (new : SheafData Field)
-    (before after : List Event) → middle.events ≡ old.events → IsJudged old.sheaf e.sets v middle.sheaf → middle ≡ record { sheaf = new; events = before }
+pub edited : (scripts : List (List Command)) (start : SheafData Field) (c i : ℕ) (e : Change) (v : Verdict)
+    (old middle : Progress) (new : SheafData Field)
+    (before after : List Event) → middle.events ≡ old.events → IsJudged old.sheaf e.sets v middle.sheaf
+    → middle ≡ record { sheaf = new; events = before }
     → after ≡ before ++ Edit c v ∷ [] → command_at scripts c i ≡ Some (commands.Change e) → Stands scripts start c i old
     → Stands scripts start c (i + 1) (record { sheaf = new; events = after })
 edited scripts start c i e v old middle new before after same judged was f comes h =
@@ -236,11 +261,22 @@ edited scripts start c i e v old middle new before after same judged was f comes
     subst (λ es. Stands scripts start c (i + 1) (record { sheaf = new; events = es })) (sym all)
     (judge-step scripts start c i old e v new comes (subst (IsJudged old.sheaf e.sets v) sheaf judged) h)
 
-take_next_known : {X : Type 0} (xs : List X) (i : ℕ) (x : X) → slice_get xs i ≡ Some x → take (i + 1) xs ≡ take i xs ++ x ∷ []
-take_next_known xs i x e = ap (λ k. take k xs) (add-one i) ∙ take-suc xs i x (slice_get_within xs i x e) ∙ ap (λ y. take i xs ++ y ∷ []) (get_or_from_slice_get xs i x x e)
+take_next_known : {X : Type 0} (xs : List X) (i : ℕ) (x : X) → slice_get xs i ≡ Some x → take (i + 1) xs ≡ take i xs
+    ++ x ∷ []
+take_next_known xs i x e = ap (λ k. take k xs) (add-one i) ∙ take-suc xs i x (slice_get_within xs i x e)
+    ∙ ap (λ y. take i xs ++ y ∷ []) (get_or_from_slice_get xs i x x e)
 
 -- the events of one script more
-pub commands-more : (scripts : List (List Command)) (i : ℕ) (script : List Command) (old new : ℕ) → slice_get scripts i ≡ Some script
-    → old ≤ 2 * sum_by length (take i scripts) → new ≤ old + 2 * length script → new ≤ 2 * sum_by length (take (i + 1) scripts)
+pub commands-more : (scripts : List (List Command)) (i : ℕ) (script : List Command) (old new : ℕ) → slice_get scripts i
+    ≡ Some script
+    → old ≤ 2 * sum_by length (take i scripts) → new ≤ old + 2 * length script → new
+    ≤ 2 * sum_by length (take (i + 1) scripts)
 commands-more scripts i script old new there before more =
-    omega (arith, before, more, ap (sum_by length) (take_next_known scripts i script there), sum_by-append length (take i scripts) (script ∷ []), sum_by-cons length script [])
+    omega (
+      arith,
+      before,
+      more,
+      ap (sum_by length) (take_next_known scripts i script there),
+      sum_by-append length (take i scripts) (script ∷ []),
+      sum_by-cons length script [],
+    )

@@ -1,5 +1,6 @@
 -- What the words and the bytes of the input are answered.
-use Rattle.std.specs.Prelude.{◌≡◌, ◌⊎◌, ℕ, List, [], ◌∷◌, ◌++◌, Option, Some, None, length, sum_by, codes, decimal, if◌then◌else◌}
+use Rattle.std.specs.Prelude.{◌≡◌, ◌⊎◌, ℕ, List, [], ◌∷◌, ◌++◌, Option, Some, None, length, sum_by, codes, decimal}
+use Rattle.std.specs.Prelude.{if◌then◌else◌}
 use Rattle.std.specs.List.{flat_map}
 use Rattle.std.specs.Str.{bytes_eq}
 use Rattle.field_table.specs.declared.field.Field.{Field}
@@ -25,7 +26,8 @@ use Rattle.sheaf_run.specs.Words.{cause_word, limit_word}
 use Rattle.sheaf_run.specs.declared.job.Job.{Job}
 use Rattle.sheaf_run.specs.declared.job.Job.TheVariants.{Solve, Check}
 use Rattle.sheaf_run.specs.declared.status.Status.{Status}
-use Rattle.sheaf_run.specs.declared.status.Status.TheVariants.{Done, ReadFault, WriteFault, NoMemory, BadWords, BadLine, BadComplex, BadSheaf, Limit}
+use Rattle.sheaf_run.specs.declared.status.Status.TheVariants.{Done, ReadFault, WriteFault, NoMemory, BadWords, BadLine}
+use Rattle.sheaf_run.specs.declared.status.Status.TheVariants.{BadComplex, BadSheaf, Limit}
 
 -- a status, and the text that is written with it
 pub record Outcome : Type 0 where
@@ -46,7 +48,8 @@ IsAnswer Limit = Unit {0}
 
 -- the job that one word asks for
 abbrev pub job_of_word : List ℕ → Option Job
-job_of_word word = if bytes_eq word (codes "solve") then Some Solve else if bytes_eq word (codes "check") then Some Check else None
+job_of_word word = if bytes_eq word (codes "solve") then Some Solve else if bytes_eq word (codes "check") then
+    Some Check else None
 
 -- the job that the words ask for: one word, and nothing else
 abbrev pub job_of : List (List ℕ) → Option Job
@@ -71,7 +74,11 @@ text_line words numbers = text_of_parts words numbers (codes "\n")
 
 -- a line that is refused: its number, and the cause
 abbrev pub bad_line : ℕ → LineCause → Outcome
-bad_line line cause = record { status = BadLine; text = text_of_parts (codes "bad line") (line ∷ []) (codes " " ++ (cause_word cause ++ codes "\n")) }
+bad_line line cause = record {
+  status = BadLine;
+  text = text_of_parts (codes "bad line") (line ∷ [])
+      (codes " " ++ (cause_word cause ++ codes "\n"));
+}
 
 -- a limit that is passed, and the number of the line
 abbrev pub over_limit : ℕ → Which → Outcome
@@ -80,13 +87,20 @@ over_limit line which = record { status = Limit; text = text_line (codes "limit 
 -- what is wrong with a draft that is no sheaf
 abbrev pub refusal : SealFault → Outcome
 refusal (Complex (EdgeEnds t)) = record { status = BadComplex; text = text_line (codes "bad complex edge") (t ∷ []) }
-refusal (Complex (Middles s u count)) = record { status = BadComplex; text = text_line (codes "bad complex middles") (s ∷ u ∷ count ∷ []) }
-refusal (Complex (Signs s u)) = record { status = BadComplex; text = text_line (codes "bad complex signs") (s ∷ u ∷ []) }
+refusal (Complex (Middles s u count)) =
+    record { status = BadComplex; text = text_line (codes "bad complex middles") (s ∷ u ∷ count ∷ []) }
+refusal (Complex (Signs s u)) =
+    record { status = BadComplex; text = text_line (codes "bad complex signs") (s ∷ u ∷ []) }
 refusal (Noncommuting s u) = record { status = BadSheaf; text = text_line (codes "bad sheaf square") (s ∷ u ∷ []) }
 
 -- how many cells and faces a sheaf has, how many clients ask, and how many commands these have
 abbrev pub good : SheafData Field → ℕ → ℕ → Outcome
-good d clients commands = record { status = Done; text = text_line (codes "good") (length d.complex.dims ∷ length d.complex.faces ∷ clients ∷ commands ∷ []) }
+good d clients commands =
+    record {
+      status = Done;
+      text = text_line (codes "good") (length d.complex.dims ∷ length d.complex.faces ∷ clients
+          ∷ commands ∷ []);
+    }
 
 -- the transcript of one legal order of all commands of these scripts on the sheaf, whole
 pub record IsSolution (d : SheafData Field) (scripts : List (List Command)) (a : Outcome) : Type 0 where
@@ -116,7 +130,8 @@ pub record IsInputOf (v : InputValue) (i : Input) : Type 0 where
 
 -- a good reading is answered by its draft, and a line that is refused or passes a limit by what is said of it
 abbrev pub AnswersReading : Job → Reading → Outcome → Type 0
-AnswersReading job (readings.Good v) a = (i : Input) × IsInputOf v i × AnswersDraft (IsRight job i.draft i.scripts) i.draft a
+AnswersReading job (readings.Good v) a = (i : Input) × IsInputOf v i × AnswersDraft (IsRight job i.draft i.scripts)
+    i.draft a
 AnswersReading job (readings.BadLine line cause) a = a ≡ bad_line line cause
 AnswersReading job (readings.Limit line which) a = a ≡ over_limit line which
 
@@ -128,11 +143,13 @@ AnswersJob (Some job) bytes a = AnswersReading job (reading bytes) a
 abbrev pub Answers : List (List ℕ) → List ℕ → Outcome → Type 0
 Answers words bytes a = AnswersJob (job_of words) bytes a
 
--- the status that a draft is due: it is a sheaf, its incidences are not regular, or they are and some square does not commute
+-- the status that a draft is due: it is a sheaf, its incidences are not regular, or they are and some square does not
+-- commute
 abbrev pub DraftIsDue : SheafData Field → Status → Type 0
 DraftIsDue d Done = IsSheaf (ops_of d.field) d.complex d.stalks d.blocks
 DraftIsDue d BadComplex = ¬ HasRegularIncidences d.complex
-DraftIsDue d BadSheaf = HasRegularIncidences d.complex × ((s : ℕ) × (u : ℕ) × (¬ Commutes (ops_of d.field) d.complex d.blocks s u))
+DraftIsDue d BadSheaf = HasRegularIncidences d.complex
+    × ((s : ℕ) × (u : ℕ) × (¬ Commutes (ops_of d.field) d.complex d.blocks s u))
 DraftIsDue d _ = ⊥
 
 -- that of the input that the bytes are read as; of a line that is refused or passes a limit the status that says so

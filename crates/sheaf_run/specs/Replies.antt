@@ -13,7 +13,8 @@ pub record Sent (a : Outcome) (old new : Option (List ℕ)) (flush : ℕ) (resul
   pub flushed : IsFlushed new flush
 
 -- the status is answered and written as one of the outcomes that are right, or a fault or want of memory came between
-pub record Replies (IsRight : Outcome → Type 0) (old new : Option (List ℕ)) (flush before now : ℕ) (result : Status) : Type 0 where
+pub record Replies (IsRight : Outcome → Type 0) (old new : Option (List ℕ)) (flush before now : ℕ) (result : Status) :
+    Type 0 where
   pub sent : IsAnswer result → (a : Outcome) × IsRight a × Sent a old new flush result
   pub rose : result ≡ WriteFault → Rose before now
   pub front : result ≡ WriteFault → (a : Outcome) × IsRight a × TookPrefix old new a.text

@@ -18,8 +18,10 @@ use Rattle.sheaf_run.specs.declared.status.Status.{Status}
 use Rattle.sheaf_run.specs.declared.status.Status.TheVariants.{Done, ReadFault, WriteFault, NoMemory, BadWords}
 
 -- where the source tells its bytes, the sink took an outcome that is right for them, and it is flushed
-abbrev pub Answered : (List ℕ → Outcome → Type 0) → Option (List ℕ) → Option (List ℕ) → Option (List ℕ) → ℕ → Status → Type 0
-Answered IsRight left old new flush result = IfSome left (λ bytes. (a : Outcome) × IsRight bytes a × Sent a old new flush result)
+abbrev pub Answered : (List ℕ → Outcome → Type 0) → Option (List ℕ) → Option (List ℕ) → Option (List ℕ) → ℕ → Status
+    → Type 0
+Answered IsRight left old new flush result = IfSome left (λ bytes. (a : Outcome) × IsRight bytes a
+    × Sent a old new flush result)
 
 -- where the source tells its bytes, the sink took a front of the text of an outcome that is right for them
 abbrev pub Broken : (List ℕ → Outcome → Type 0) → Option (List ℕ) → Option (List ℕ) → Option (List ℕ) → Type 0
@@ -37,7 +39,8 @@ pub record Ran (IsRight : List ℕ → Outcome → Type 0) (left left_new old ne
   pub front : result ≡ WriteFault → Broken IsRight left old new
   pub memory : result ≡ NoMemory → new ≡ old
 
--- the bytes are read as an input that is a sheaf with commands, and the sink took the transcript of one legal order of all these commands, whole
+-- the bytes are read as an input that is a sheaf with commands, and the sink took the transcript of one legal order of
+-- all these commands, whole
 pub record IsServed (bytes : List ℕ) (old new : Option (List ℕ)) : Type 0 where
   pub input : Input
   pub good : reading bytes ≡ Good (input_value input)
@@ -46,11 +49,13 @@ pub record IsServed (bytes : List ℕ) (old new : Option (List ℕ)) : Type 0 wh
   pub order : IsLegalAndWhole (ops_of input.draft.field) input.scripts input.draft events
   pub text : Took old new (transcript input.scripts events)
 
--- what a run with these words promises: of its source (the bytes that it had left and has left, its count of faults before and
--- after) and of its sink (the bytes taken before and after, how many of them are flushed, its count of faults before and after)
+-- what a run with these words promises: of its source (the bytes that it had left and has left, its count of faults
+-- before and after) and of its sink (the bytes taken before and after, how many of them are flushed, its count of
+-- faults before and after)
 pub record Serves (words : List (List ℕ)) (left left_new taken taken_new : Option (List ℕ))
     (flush read_before read_now write_before write_now : ℕ) (result : Status) : Type 0 where
-  -- Where the source tells its bytes, what the sink took in the call is right for the words and the bytes; all of it is flushed.
+  -- Where the source tells its bytes, what the sink took in the call is right for the words and the bytes; all of it is
+  -- flushed.
   pub answered : IsAnswer result → Answered (Answers words) left taken taken_new flush result
   pub flushed : IsAnswer result → IsFlushed taken_new flush
   pub whole : result ≡ Done → IsAtEnd left_new
@@ -60,14 +65,17 @@ pub record Serves (words : List (List ℕ)) (left left_new taken taken_new : Opt
   pub refused : IsAnswer result → ((result ≡ BadWords) ↔ (job_of words ≡ None))
   pub refusal : result ≡ BadWords → Sent bad_words taken taken_new flush result
   -- With accepted words each status comes exactly where the bytes are due it.
-  pub exact : IsAnswer result → IfSome (job_of words) (λ job. IfSome left (λ bytes. (status : Status) → (result ≡ status) ↔ IsDue bytes status))
+  pub exact : IsAnswer result
+      → IfSome (job_of words) (λ job. IfSome left (λ bytes. (status : Status) → (result ≡ status) ↔ IsDue bytes status))
   -- Faults come from the source or from the sink.
   pub read : result ≡ ReadFault → Rose read_before read_now
   pub unwritten : result ≡ ReadFault → taken_new ≡ taken
   pub write : result ≡ WriteFault → Rose write_before write_now
   pub front : result ≡ WriteFault → Broken (Answers words) left taken taken_new
   pub memory : result ≡ NoMemory → taken_new ≡ taken
-  -- With no fault refused words are answered so, and bytes are answered the status that they are due unless memory runs out.
+  -- With no fault refused words are answered so, and bytes are answered the status that they are due unless memory runs
+  -- out.
   pub complete_words : job_of words ≡ None → ¬ (Rose write_before write_now) → result ≡ BadWords
-  pub complete : IfSome (job_of words) (λ job. IfSome left (λ bytes. (status : Status) → IsDue bytes status → ¬ (Rose read_before read_now)
+  pub complete : IfSome (job_of words)
+      (λ job. IfSome left (λ bytes. (status : Status) → IsDue bytes status → ¬ (Rose read_before read_now)
       → ¬ (Rose write_before write_now) → (result ≡ status) ⊎ (result ≡ NoMemory)))

@@ -35,7 +35,8 @@ pub record IsJudged (old : SheafData Field) (sets : List Set) (verdict : Verdict
 abbrev pub done : List (List Command) → ℕ → ℕ → ℕ → ℕ
 done scripts c i d = if nat_lt d c then length (slice_index_or scripts d []) else if c == d then i else 0
 
--- from the start sheaf the events lead to the sheaf; the clients before c are done, c has done i commands, the others none
+-- from the start sheaf the events lead to the sheaf; the clients before c are done, c has done i commands, the others
+-- none
 pub record Stands (scripts : List (List Command)) (start : SheafData Field) (c i : ℕ) (p : Progress) : Type 0 where
   pub state : State Field
   pub legal : IsLegal (ops_of start.field) scripts start p.events state

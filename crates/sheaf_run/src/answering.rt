@@ -59,7 +59,8 @@ fn command_count(scripts: &[Listed<Command>]) -> usize
     count
 }
 
-/// Writes how many cells and faces a draft has, how many clients ask, and how many commands these have. Takes no memory.
+/// Writes how many cells and faces a draft has, how many clients ask, and how many commands these have. Takes no
+/// memory.
 fn check<K: Sink>(draft: &Draft<Field>, scripts: &[Listed<Command>], sink: &mut K) -> Status
     requires { AreServable scripts.now }
     ensures { Replies (IsRight Check draft.now scripts.now)

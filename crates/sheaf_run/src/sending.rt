@@ -70,7 +70,8 @@ fn put_text<K: Sink>(
     Ok(())
 }
 
-/// Gives the sink words, then numbers, and then the rest, and flushes it; answers the status, or WriteFault. Takes no memory.
+/// Gives the sink words, then numbers, and then the rest, and flushes it; answers the status, or WriteFault. Takes no
+/// memory.
 pub fn send_text<K: Sink>(
     sink: &mut K,
     status: Status,

@@ -142,8 +142,8 @@ impl Session {
     }
 }
 
-/// What happens where the clients with these scripts are served one after the other, each command to its end, on one sheaf
-/// that their edits change.
+/// What happens where the clients with these scripts are served one after the other, each command to its end, on one
+/// sheaf that their edits change.
 pub fn served(
     alloc: Global,
     sheaf: Sheaf<Field>,

@@ -11,8 +11,8 @@ const CIRCLE: &[u8] =
 const TWISTED_TRIANGLE: &[u8] =
     b"field 3\ncell 0 1\ncell 0 1\ncell 0 1\ncell 1 1\ncell 1 1\ncell 1 1\ncell 2 1\nface 0 3 - 1\nface 1 3 + 1\nface 0 4 - 1\nface 2 4 + 1\nface 1 5 - 1\nface 2 5 + 1\nface 3 6 + 2\nface 4 6 - 1\nface 5 6 + 1\nclient\nbetti\ndone\n";
 
-// A vertex over the field of two elements. One client asks, makes the stalk larger, tries to make it too large, and asks; the other makes
-// an empty edit and asks.
+// A vertex over the field of two elements. One client asks, makes the stalk larger, tries to make it too large, and
+// asks; the other makes an empty edit and asks.
 const TWO_CLIENTS: &[u8] =
     b"field 2\ncell 0 1\nclient\nbetti\nedit\nstalk 0 2\ncommit\nedit\nstalk 0 3\nstalk 0 17\ncommit\nbetti\nclient\nedit\ncommit\nbetti\ndone\n";
 

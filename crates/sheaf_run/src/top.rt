@@ -74,8 +74,9 @@ fn served<S: Source, K: Sink>(
 
 /// Does the job that the words ask for: reads the source to its end, and writes what it is answered.
 ///
-/// The words are those after the program's name. The order is: words, the whole input, its form, its complex, its sheaf, the
-/// writing. Every status but the two faults and NoMemory is answered only after its text was written and flushed.
+/// The words are those after the program's name. The order is: words, the whole input, its form, its complex, its
+/// sheaf, the writing. Every status but the two faults and NoMemory is answered only after its text was written and
+/// flushed.
 pub fn run_solo<S: Source, K: Sink>(
     alloc: Global,
     words: &[String],

@@ -1,5 +1,6 @@
 -- What is known of a line that is not refused.
-use Rattle.std.proofs.Common.{◌≡◌, ℕ, Bool, true, false, cond, not, List, drop, length, refl, ap, ◌∙◌, Option, Some, None, Contains, nat_eq}
+use Rattle.std.proofs.Common.{◌≡◌, ℕ, Bool, true, false, cond, not, List, drop, length, refl, ap, ◌∙◌, Option, Some}
+use Rattle.std.proofs.Common.{None, Contains, nat_eq}
 use Rattle.std.specs.List.{list_any}
 use Rattle.std.proofs.lemmas.Bool.{eqb-true}
 use Rattle.std.proofs.lemmas.Map.Views.{Contains-from_any}
@@ -8,7 +9,8 @@ use Rattle.cell_complex.specs.Verdicts.{face_fault}
 use Rattle.field_table.specs.Table.{orders}
 use Rattle.sheaf_text.specs.Cut.{are_below}
 use Rattle.sheaf_text.specs.Lines.{value, may_stand, count_fits, are_numerals, is_sign, word, face_in}
-use Rattle.sheaf_text.specs.Grammar.{Known, is_full, known_complex, field_refusal, face_refusal, entries_refusal, incidence_refusal, kind_refusal, placed_refusal}
+use Rattle.sheaf_text.specs.Grammar.{Known, is_full, known_complex, field_refusal, face_refusal, entries_refusal}
+use Rattle.sheaf_text.specs.Grammar.{incidence_refusal, kind_refusal, placed_refusal}
 use Rattle.sheaf_text.specs.Reading.{is_set_kind}
 use Rattle.sheaf_text.specs.Parts.{TakesFace}
 use Rattle.sheaf_text.specs.State.{known_by, IsAccepted}
@@ -20,7 +22,8 @@ use Rattle.sheaf_text.specs.declared.line.Stage.{Stage}
 use Rattle.sheaf_text.specs.declared.line.Stage.TheVariants as stages
 
 -- one test of a chain that gives no refusal
-pub passes : (b : Bool) (r : Refusal) (rest : Option Refusal) → cond b (Some r) rest ≡ None → (b ≡ false) × (rest ≡ None)
+pub passes : (b : Bool) (r : Refusal) (rest : Option Refusal) → cond b (Some r) rest ≡ None → (b ≡ false)
+    × (rest ≡ None)
 passes true r rest e = absurd cc
 passes false r rest e = (refl, e)
 
@@ -60,7 +63,8 @@ record FaceFits (k : Known) (ws : List (List ℕ)) : Type 0 where
   pub full : is_full k.stalks (face_in ws) (length (drop 4 ws)) ≡ true
   pub below : are_below k.order (drop 4 ws) ≡ true
 
-no_fault : (k : Known) (ws : List (List ℕ)) (f : Option FaceFault) → incidence_refusal k ws f ≡ None → (f ≡ None) × (entries_refusal k ws ≡ None)
+no_fault : (k : Known) (ws : List (List ℕ)) (f : Option FaceFault) → incidence_refusal k ws f ≡ None → (f ≡ None)
+    × (entries_refusal k ws ≡ None)
 no_fault k ws (Some f) e = absurd cc
 no_fault k ws None e = (refl, e)
 
@@ -98,7 +102,8 @@ pub face_accepted : (s : State) (ws : List (List ℕ)) → IsAccepted s kinds.Fa
 face_accepted s ws a =
     let fits = face_fits (known_by s) ws (right (known_by s) kinds.Face ws a.accepted).fits in
     record {
-      no_fault = ap (λ (ds : List ℕ). face_fault (record { dims = ds; faces = s.parts.complex.faces }) (face_in ws)) a.ready ∙ fits.no_fault;
+      no_fault = ap (λ (ds : List ℕ). face_fault (record { dims = ds; faces = s.parts.complex.faces }) (face_in ws))
+          a.ready ∙ fits.no_fault;
       full = fits.full;
       below = fits.below;
     }
@@ -109,5 +114,6 @@ betti_accepted s ws a = betti_stands s.stage (right (known_by s) kinds.Betti ws 
 pub edit_accepted : (s : State) (ws : List (List ℕ)) → IsAccepted s kinds.Edit ws → s.stage ≡ stages.InClient
 edit_accepted s ws a = edit_stands s.stage (right (known_by s) kinds.Edit ws a.accepted).stands
 
-pub set_accepted : (s : State) (kind : Kind) (ws : List (List ℕ)) → is_set_kind kind ≡ true → IsAccepted s kind ws → s.stage ≡ stages.InEdit
+pub set_accepted : (s : State) (kind : Kind) (ws : List (List ℕ)) → is_set_kind kind ≡ true → IsAccepted s kind ws
+    → s.stage ≡ stages.InEdit
 set_accepted s kind ws e a = set_stands kind s.stage e (right (known_by s) kind ws a.accepted).stands

@@ -1,5 +1,6 @@
 -- An input has few clients, few commands and few changes.
-use Rattle.std.proofs.Common.{◌≡◌, ℕ, suc, ◌+◌, ◌≤◌, ◌<◌, Bool, true, false, nat_eq, List, [], ◌∷◌, ◌++◌, length, All, Result, Ok, Err, Option, Some, None, refl, sym, ap, subst, ◌∙◌, arith}
+use Rattle.std.proofs.Common.{◌≡◌, ℕ, suc, ◌+◌, ◌≤◌, ◌<◌, Bool, true, false, nat_eq, List, [], ◌∷◌, ◌++◌, length, All}
+use Rattle.std.proofs.Common.{Result, Ok, Err, Option, Some, None, refl, sym, ap, subst, ◌∙◌, arith}
 use Rattle.std.specs.Prelude.{sum_by, IfOk, ◌==◌, nat_le, if◌then◌else◌}
 use Rattle.std.specs.List.{slice_split}
 use Rattle.std.specs.Str.Lines.{lines, lines_of_parts}
@@ -15,7 +16,9 @@ use Rattle.sheaf_words.specs.declared.editing.Set.{Set}
 use Rattle.sheaf_text.specs.Cut.{words}
 use Rattle.sheaf_text.specs.Lines.{is_skipped, kind_of}
 use Rattle.sheaf_text.specs.Grammar.{Known, refusal, content_refusal, kind_refusal, is_ended}
-use Rattle.sheaf_text.specs.Reading.{InputValue, Reading, Good, BadLine, contents, item_of, item_of_kind, set_of, reading_at_end, go_on, onto_last, into_last, into_script, command_with_set, input_of}
+use Rattle.sheaf_text.specs.Reading.{InputValue, Reading, Good, BadLine, contents, item_of, item_of_kind, set_of}
+use Rattle.sheaf_text.specs.Reading.{reading_at_end, go_on, onto_last, into_last, into_script, command_with_set}
+use Rattle.sheaf_text.specs.Reading.{input_of}
 use Rattle.sheaf_text.specs.Keeping.{advance, nothing_known, run}
 use Rattle.sheaf_text.specs.Answers.{Gives, CanBeServed, AreServable, input_value}
 use Rattle.sheaf_text.specs.declared.fault.LineCause.TheVariants as causes
@@ -45,9 +48,19 @@ length-into_last (s ∷ t ∷ more) change = ap (λ n. suc n) (length-into_last 
 
 count-onto_last : (scripts : List (List Command)) (c : Command) → count (onto_last scripts c) ≤ count scripts + 1
 count-onto_last [] c = omega arith
-count-onto_last (s ∷ []) c = omega (arith, sum_by-cons length (s ++ c ∷ []) [], sum_by-cons length s [], length-append s (c ∷ []))
+count-onto_last (s ∷ []) c = omega (
+  arith,
+  sum_by-cons length (s ++ c ∷ []) [],
+  sum_by-cons length s [],
+  length-append s (c ∷ []),
+)
 count-onto_last (s ∷ t ∷ more) c =
-    omega (arith, sum_by-cons length s (onto_last (t ∷ more) c), sum_by-cons length s (t ∷ more), count-onto_last (t ∷ more) c)
+    omega (
+      arith,
+      sum_by-cons length s (onto_last (t ∷ more) c),
+      sum_by-cons length s (t ∷ more),
+      count-onto_last (t ∷ more) c,
+    )
 
 length-into_script : (script : List Command) (change : Set) → length (into_script script change) ≡ length script
 length-into_script [] change = refl
@@ -59,7 +72,12 @@ count-into_last [] change = refl
 count-into_last (s ∷ []) change =
     omega (arith, sum_by-cons length (into_script s change) [], sum_by-cons length s [], length-into_script s change)
 count-into_last (s ∷ t ∷ more) change =
-    omega (arith, sum_by-cons length s (into_last (t ∷ more) change), sum_by-cons length s (t ∷ more), count-into_last (t ∷ more) change)
+    omega (
+      arith,
+      sum_by-cons length s (into_last (t ∷ more) change),
+      sum_by-cons length s (t ∷ more),
+      count-into_last (t ∷ more) change,
+    )
 
 more_changes : (m n : ℕ) → m ≤ n → (c : Command) → CanBeServed m c → CanBeServed n c
 more_changes m n le (Change e) h = omega arith
@@ -68,30 +86,39 @@ more_changes m n le (Ask q) h = h
 all_more_changes : (m n : ℕ) → m ≤ n → (script : List Command) → All (CanBeServed m) script → All (CanBeServed n) script
 all_more_changes m n le = All-weaker (CanBeServed m) (CanBeServed n) (more_changes m n le)
 
-with_set-changes : (n : ℕ) (c : Command) (change : Set) → CanBeServed n c → CanBeServed (n + 1) (command_with_set c change)
+with_set-changes : (n : ℕ) (c : Command) (change : Set) → CanBeServed n c
+    → CanBeServed (n + 1) (command_with_set c change)
 with_set-changes n (Change e) change h = omega (arith, length-append e.sets (change ∷ []))
 with_set-changes n (Ask q) change h = h
 
-into_script-changes : (n : ℕ) (script : List Command) (change : Set) → All (CanBeServed n) script → All (CanBeServed (n + 1)) (into_script script change)
+into_script-changes : (n : ℕ) (script : List Command) (change : Set) → All (CanBeServed n) script
+    → All (CanBeServed (n + 1)) (into_script script change)
 into_script-changes n [] change h = All-nil (CanBeServed (n + 1))
 into_script-changes n (c ∷ []) change h =
-    All-cons (CanBeServed (n + 1)) (command_with_set c change) [] (with_set-changes n c change (All-head (CanBeServed n) c [] h)) (All-nil (CanBeServed (n + 1)))
+    All-cons (CanBeServed (n + 1)) (command_with_set c change) []
+    (with_set-changes n c change (All-head (CanBeServed n) c [] h)) (All-nil (CanBeServed (n + 1)))
 into_script-changes n (c ∷ d ∷ more) change h =
-    All-cons (CanBeServed (n + 1)) c (into_script (d ∷ more) change) (more_changes n (n + 1) (omega arith) c (All-head (CanBeServed n) c (d ∷ more) h))
+    All-cons (CanBeServed (n + 1)) c (into_script (d ∷ more) change)
+    (more_changes n (n + 1) (omega arith) c (All-head (CanBeServed n) c (d ∷ more) h))
     (into_script-changes n (d ∷ more) change (All-tail (CanBeServed n) c (d ∷ more) h))
 
-into_last-changes : (n : ℕ) (scripts : List (List Command)) (change : Set) → All (All (CanBeServed n)) scripts → All (All (CanBeServed (n + 1))) (into_last scripts change)
+into_last-changes : (n : ℕ) (scripts : List (List Command)) (change : Set) → All (All (CanBeServed n)) scripts
+    → All (All (CanBeServed (n + 1))) (into_last scripts change)
 into_last-changes n [] change h = All-nil (All (CanBeServed (n + 1)))
 into_last-changes n (s ∷ []) change h =
-    All-cons (All (CanBeServed (n + 1))) (into_script s change) [] (into_script-changes n s change (All-head (All (CanBeServed n)) s [] h)) (All-nil (All (CanBeServed (n + 1))))
+    All-cons (All (CanBeServed (n + 1))) (into_script s change) []
+    (into_script-changes n s change (All-head (All (CanBeServed n)) s [] h)) (All-nil (All (CanBeServed (n + 1))))
 into_last-changes n (s ∷ t ∷ more) change h =
-    All-cons (All (CanBeServed (n + 1))) s (into_last (t ∷ more) change) (all_more_changes n (n + 1) (omega arith) s (All-head (All (CanBeServed n)) s (t ∷ more) h))
+    All-cons (All (CanBeServed (n + 1))) s (into_last (t ∷ more) change)
+    (all_more_changes n (n + 1) (omega arith) s (All-head (All (CanBeServed n)) s (t ∷ more) h))
     (into_last-changes n (t ∷ more) change (All-tail (All (CanBeServed n)) s (t ∷ more) h))
 
-onto_last-changes : (n : ℕ) (scripts : List (List Command)) (c : Command) → CanBeServed n c → All (All (CanBeServed n)) scripts → All (All (CanBeServed n)) (onto_last scripts c)
+onto_last-changes : (n : ℕ) (scripts : List (List Command)) (c : Command) → CanBeServed n c
+    → All (All (CanBeServed n)) scripts → All (All (CanBeServed n)) (onto_last scripts c)
 onto_last-changes n [] c new h = All-nil (All (CanBeServed n))
 onto_last-changes n (s ∷ []) c new h =
-    All-cons (All (CanBeServed n)) (s ++ c ∷ []) [] (All-push (CanBeServed n) s c (All-head (All (CanBeServed n)) s [] h) new) (All-nil (All (CanBeServed n)))
+    All-cons (All (CanBeServed n)) (s ++ c ∷ []) []
+    (All-push (CanBeServed n) s c (All-head (All (CanBeServed n)) s [] h) new) (All-nil (All (CanBeServed n)))
 onto_last-changes n (s ∷ t ∷ more) c new h =
     All-cons (All (CanBeServed n)) s (onto_last (t ∷ more) c) (All-head (All (CanBeServed n)) s (t ∷ more) h)
     (onto_last-changes n (t ∷ more) c new (All-tail (All (CanBeServed n)) s (t ∷ more) h))
@@ -105,23 +132,33 @@ record AreFewAt (scripts : List (List Command)) (counted line : ℕ) : Type 0 wh
   most : counted ≤ 4096
   changes : All (All (CanBeServed line)) scripts
 
-line_more : (scripts : List (List Command)) (counted line : ℕ) → AreFewAt scripts counted line → AreFewAt scripts counted (line + 1)
+line_more : (scripts : List (List Command)) (counted line : ℕ) → AreFewAt scripts counted line
+    → AreFewAt scripts counted (line + 1)
 line_more scripts counted line few = record {
   clients = few.clients;
   commands = few.commands;
   most = few.most;
-  changes = All-weaker (All (CanBeServed line)) (All (CanBeServed (line + 1))) (all_more_changes line (line + 1) (omega arith)) scripts few.changes;
+  changes = All-weaker (All (CanBeServed line)) (All (CanBeServed (line + 1)))
+      (all_more_changes line (line + 1) (omega arith)) scripts few.changes;
 }
 
-client_more : (scripts : List (List Command)) (counted line : ℕ) → length scripts < 8 → AreFewAt scripts counted line → AreFewAt (scripts ++ [] ∷ []) counted line
+client_more : (scripts : List (List Command)) (counted line : ℕ) → length scripts < 8 → AreFewAt scripts counted line
+    → AreFewAt (scripts ++ [] ∷ []) counted line
 client_more scripts counted line room few = record {
   clients = omega (arith, length-append scripts ([] ∷ []));
-  commands = omega (arith, few.commands, sum_by-append length scripts ([] ∷ []), sum_by-cons {X = List Command} length [] []);
+  commands = omega (
+    arith,
+    few.commands,
+    sum_by-append length scripts ([] ∷ []),
+    sum_by-cons {X = List Command} length
+        [] [],
+  );
   most = few.most;
   changes = All-push (All (CanBeServed line)) scripts [] few.changes (All-nil (CanBeServed line));
 }
 
-command_more : (scripts : List (List Command)) (counted line : ℕ) (c : Command) → CanBeServed line c → counted < 4096 → AreFewAt scripts counted line → AreFewAt (onto_last scripts c) (counted + 1) line
+command_more : (scripts : List (List Command)) (counted line : ℕ) (c : Command) → CanBeServed line c → counted < 4096
+    → AreFewAt scripts counted line → AreFewAt (onto_last scripts c) (counted + 1) line
 command_more scripts counted line c new room few = record {
   clients = omega (arith, few.clients, length-onto_last scripts c);
   commands = omega (arith, few.commands, count-onto_last scripts c);
@@ -129,7 +166,8 @@ command_more scripts counted line c new room few = record {
   changes = onto_last-changes line scripts c new few.changes;
 }
 
-change_more : (scripts : List (List Command)) (counted line : ℕ) (s : Set) → AreFewAt scripts counted line → AreFewAt (into_last scripts s) counted (line + 1)
+change_more : (scripts : List (List Command)) (counted line : ℕ) (s : Set) → AreFewAt scripts counted line
+    → AreFewAt (into_last scripts s) counted (line + 1)
 change_more scripts counted line s few = record {
   clients = omega (arith, few.clients, length-into_last scripts s);
   commands = omega (arith, few.commands, count-into_last scripts s);
@@ -140,46 +178,62 @@ change_more scripts counted line s few = record {
 abbrev AreFewKnown : Known → ℕ → Type 0
 AreFewKnown k line = AreFewAt k.scripts k.commands line
 
-kind_keeps : (k : Known) (line : ℕ) (kind : Kind) (ws : List (List ℕ)) → kind_refusal k kind ws ≡ None → AreFewKnown k line → AreFewKnown (advance k (item_of_kind (Some kind) ws)) (line + 1)
+kind_keeps : (k : Known) (line : ℕ) (kind : Kind) (ws : List (List ℕ)) → kind_refusal k kind ws ≡ None
+    → AreFewKnown k line → AreFewKnown (advance k (item_of_kind (Some kind) ws)) (line + 1)
 kind_keeps k line kinds.Client ws e few =
-    client_more k.scripts k.commands (line + 1) (leb-false _ _ (passes (nat_le 8 (length k.scripts)) (Over limits.Clients) None e).0) (line_more k.scripts k.commands line few)
+    client_more k.scripts k.commands (line + 1)
+    (leb-false _ _ (passes (nat_le 8 (length k.scripts)) (Over limits.Clients) None e).0)
+    (line_more k.scripts k.commands line few)
 kind_keeps k line kinds.Betti ws e few =
-    command_more k.scripts k.commands (line + 1) (Ask Betti) refl (leb-false _ _ (passes (nat_le 4096 k.commands) (Over limits.Commands) None e).0) (line_more k.scripts k.commands line few)
+    command_more k.scripts k.commands (line + 1) (Ask Betti) refl
+    (leb-false _ _ (passes (nat_le 4096 k.commands) (Over limits.Commands) None e).0)
+    (line_more k.scripts k.commands line few)
 kind_keeps k line kinds.Edit ws e few =
-    command_more k.scripts k.commands (line + 1) (Change (record { sets = [] })) (omega arith) (leb-false _ _ (passes (nat_le 4096 k.commands) (Over limits.Commands) None e).0)
+    command_more k.scripts k.commands (line + 1) (Change (record { sets = [] })) (omega arith)
+    (leb-false _ _ (passes (nat_le 4096 k.commands) (Over limits.Commands) None e).0)
     (line_more k.scripts k.commands line few)
 kind_keeps k line kinds.Stalk ws e few = change_more k.scripts k.commands line (set_of kinds.Stalk ws) few
 kind_keeps k line kinds.Restrict ws e few = change_more k.scripts k.commands line (set_of kinds.Restrict ws) few
 kind_keeps k line kind ws e few = line_more k.scripts k.commands line few
 
-content_keeps : (k : Known) (line : ℕ) (kind : Option Kind) (ws : List (List ℕ)) → content_refusal k kind ws ≡ None → AreFewKnown k line → AreFewKnown (advance k (item_of_kind kind ws)) (line + 1)
-content_keeps k line None ws e few = let none = (passes (is_ended k.stage) (Bad causes.After) (Some (Bad causes.Word)) e).1 in absurd cc
-content_keeps k line (Some kind) ws e few = kind_keeps k line kind ws (right k kind ws (passes (is_ended k.stage) (Bad causes.After) _ e).1).fits few
+content_keeps : (k : Known) (line : ℕ) (kind : Option Kind) (ws : List (List ℕ)) → content_refusal k kind ws ≡ None
+    → AreFewKnown k line → AreFewKnown (advance k (item_of_kind kind ws)) (line + 1)
+content_keeps k line None ws e few = let none =
+    (passes (is_ended k.stage) (Bad causes.After) (Some (Bad causes.Word)) e).1 in absurd cc
+content_keeps k line (Some kind) ws e few =
+    kind_keeps k line kind ws (right k kind ws (passes (is_ended k.stage) (Bad causes.After) _ e).1).fits few
 
-line_keeps : (k : Known) (line : ℕ) (ws : List (List ℕ)) (b : Bool) → is_skipped ws ≡ b → refusal k ws ≡ None → AreFewKnown k line → AreFewKnown (advance k (item_of ws)) (line + 1)
+line_keeps : (k : Known) (line : ℕ) (ws : List (List ℕ)) (b : Bool) → is_skipped ws ≡ b → refusal k ws ≡ None
+    → AreFewKnown k line → AreFewKnown (advance k (item_of ws)) (line + 1)
 unfolding refusal item_of
 line_keeps k line ws true is e few = rw is (line_more k.scripts k.commands line few)
 line_keeps k line ws false is e few = rw is (content_keeps k line (kind_of ws) ws (rw is at e) few)
 
 -- ---- all lines
 
-scripts-ending : (k : Known) (line : ℕ) (v : InputValue) (b : Bool) → is_ended k.stage ≡ b → reading_at_end k line ≡ Good v → v.scripts ≡ k.scripts
-scripts-ending k line v true e is = let same : Good (input_of k) ≡ Good v = sym (rw e refl) ∙ is in let value : input_of k ≡ v = cc in sym (ap (λ (w : InputValue). w.scripts) value)
-scripts-ending k line v false e is = let same : BadLine (line + 1) causes.End ≡ Good v = sym (rw e refl) ∙ is in absurd cc
+scripts-ending : (k : Known) (line : ℕ) (v : InputValue) (b : Bool) → is_ended k.stage ≡ b → reading_at_end k line
+    ≡ Good v → v.scripts ≡ k.scripts
+scripts-ending k line v true e is = let same : Good (input_of k) ≡ Good v = sym (rw e refl) ∙ is in let value :
+    input_of k ≡ v = cc in sym (ap (λ (w : InputValue). w.scripts) value)
+scripts-ending k line v false e is = let same : BadLine (line + 1) causes.End ≡ Good v = sym (rw e refl)
+    ∙ is in absurd cc
 
-not_refused : (r : Option Refusal) (line : ℕ) (later : Reading) (v : InputValue) → go_on r line later ≡ Good v → (r ≡ None) × (later ≡ Good v)
+not_refused : (r : Option Refusal) (line : ℕ) (later : Reading) (v : InputValue) → go_on r line later ≡ Good v
+    → (r ≡ None) × (later ≡ Good v)
 not_refused None line later v e = (refl, e)
 not_refused (Some (Bad cause)) line later v e = absurd cc
 not_refused (Some (Over which)) line later v e = absurd cc
 
-few-run : (k : Known) (line : ℕ) (more : List (List (List ℕ))) (v : InputValue) → line + length more ≤ 1000000000 → AreFewKnown k line → run k line more ≡ Good v → AreServable v.scripts
+few-run : (k : Known) (line : ℕ) (more : List (List (List ℕ))) (v : InputValue) → line + length more ≤ 1000000000
+    → AreFewKnown k line → run k line more ≡ Good v → AreServable v.scripts
 unfolding run
 few-run k line [] v short few e =
     subst AreServable (sym (scripts-ending k line v (is_ended k.stage) refl e))
     (record {
       clients = few.clients;
       commands = omega (arith, few.commands, few.most);
-      each = All-weaker (All (CanBeServed line)) (All (CanBeServed 1000000000)) (all_more_changes line 1000000000 (omega arith)) k.scripts few.changes;
+      each = All-weaker (All (CanBeServed line)) (All (CanBeServed 1000000000))
+          (all_more_changes line 1000000000 (omega arith)) k.scripts few.changes;
     })
 few-run k line (ws ∷ more) v short few e =
     let next = advance k (item_of ws) in
@@ -187,7 +241,13 @@ few-run k line (ws ∷ more) v short few e =
     few-run next (line + 1) more v (omega arith) (line_keeps k line ws (is_skipped ws) refl accepted.0 few) accepted.1
 
 few_at_start : AreFewKnown nothing_known 0
-few_at_start = record { clients = omega arith; commands = omega arith; most = omega arith; changes = All-nil (All (CanBeServed 0)) }
+few_at_start = record {
+  clients = omega arith;
+  commands = omega arith;
+  most = omega arith;
+  changes =
+      All-nil (All (CanBeServed 0));
+}
 
 one_line : (b : Bool) (x : List ℕ) → length (if b then [] else x ∷ []) ≤ 1
 one_line true x = omega arith
@@ -201,9 +261,17 @@ length-lines_of_parts (x ∷ y ∷ more) = omega (arith, length-lines_of_parts (
 length-contents : (bytes : List ℕ) → length (contents bytes) ≤ length bytes + 1
 length-contents bytes =
     let is_end : ℕ → Bool = λ b. nat_eq b 10 in
-    omega (arith, length-map (lines bytes) words, length-lines_of_parts (slice_split is_end bytes), length-slice_split is_end bytes, count_by-le-length is_end bytes)
+    omega (
+      arith,
+      length-map (lines bytes) words,
+      length-lines_of_parts (slice_split is_end bytes),
+      length-slice_split is_end bytes,
+      count_by-le-length is_end bytes,
+    )
 
 -- what is read of so many bytes is few
-pub few_given : (bytes : List ℕ) (result : Result Input TextFault) → length bytes ≤ 16777216 → Gives result (run nothing_known 0 (contents bytes)) → IfOk result (λ input. AreServable input.scripts)
-few_given bytes (Ok input) short gives = few-run nothing_known 0 (contents bytes) (input_value input) (omega (arith, length-contents bytes)) few_at_start gives
+pub few_given : (bytes : List ℕ) (result : Result Input TextFault) → length bytes ≤ 16777216
+    → Gives result (run nothing_known 0 (contents bytes)) → IfOk result (λ input. AreServable input.scripts)
+few_given bytes (Ok input) short gives = few-run nothing_known 0 (contents bytes) (input_value input)
+    (omega (arith, length-contents bytes)) few_at_start gives
 few_given bytes (Err fault) short gives = tt

@@ -10,7 +10,8 @@ use Rattle.sheaf_text.specs.declared.input.Input.{Input}
 -- ---- an input is known by its value
 
 matrix_of-injective : (a b : Block) → plain_matrix a ≡ plain_matrix b → a ≡ b
-matrix_of-injective a b e = same_block a b (ap (λ (m : Matrix). m.rows) e) (ap (λ (m : Matrix). m.cols) e) (ap (λ (m : Matrix). m.entries) e)
+matrix_of-injective a b e = same_block a b (ap (λ (m : Matrix). m.rows) e) (ap (λ (m : Matrix). m.cols) e)
+    (ap (λ (m : Matrix). m.entries) e)
 
 matrices-injective : (xs ys : List Block) → map plain_matrix xs ≡ map plain_matrix ys → xs ≡ ys
 matrices-injective [] [] e = refl
@@ -20,13 +21,21 @@ matrices-injective (a ∷ xs) (b ∷ ys) e = ap₂ (λ m ms. m ∷ ms) (matrix_o
 
 pub input_value-injective : (i j : Input) → input_value i ≡ input_value j → i ≡ j
 input_value-injective i j e =
-    let field : i.draft.field ≡ j.draft.field = order_of-injective i.draft.field j.draft.field (ap (λ (v : InputValue). v.order) e) in
+    let field : i.draft.field ≡ j.draft.field = order_of-injective i.draft.field j.draft.field
+    (ap (λ (v : InputValue). v.order) e) in
     let dims : i.draft.complex.dims ≡ j.draft.complex.dims = ap (λ (v : InputValue). v.dims) e in
     let faces : i.draft.complex.faces ≡ j.draft.complex.faces = ap (λ (v : InputValue). v.faces) e in
     let stalks : i.draft.stalks ≡ j.draft.stalks = ap (λ (v : InputValue). v.stalks) e in
-    let blocks : i.draft.blocks ≡ j.draft.blocks = matrices-injective i.draft.blocks j.draft.blocks (ap (λ (v : InputValue). v.blocks) e) in
+    let blocks : i.draft.blocks ≡ j.draft.blocks = matrices-injective i.draft.blocks j.draft.blocks
+    (ap (λ (v : InputValue). v.blocks) e) in
     let scripts : i.scripts ≡ j.scripts = ap (λ (v : InputValue). v.scripts) e in
     λ x. record {
-      draft = record { complex = record { dims = dims x; faces = faces x }; field = field x; stalks = stalks x; blocks = blocks x };
+      draft = record {
+        complex = record { dims = dims x; faces = faces x };
+        field = field x;
+        stalks = stalks x;
+        blocks =
+            blocks x;
+      };
       scripts = scripts x;
     }

@@ -1,5 +1,6 @@
 -- What is known of the lines so far may be kept from line to line.
-use Rattle.std.proofs.Common.{◌≡◌, ℕ, ◌+◌, ◌≤◌, List, [], ◌∷◌, ◌++◌, length, map, refl, sym, ap, ◌∙◌, arith, None, cond, add-zero, true, false, ◌<◌}
+use Rattle.std.proofs.Common.{◌≡◌, ℕ, ◌+◌, ◌≤◌, List, [], ◌∷◌, ◌++◌, length, map, refl, sym, ap, ◌∙◌, arith, None, cond}
+use Rattle.std.proofs.Common.{add-zero, true, false, ◌<◌}
 use Rattle.std.specs.Prelude.{sum_by, nat_lt}
 use Rattle.std.specs.List.{fold, filter_map}
 use Rattle.std.specs.Str.Lines.{lines}
@@ -9,7 +10,10 @@ use Rattle.std.proofs.lemmas.List.Elements.{filter_map-append}
 use Rattle.sheaf_text.specs.Cut.{words}
 use Rattle.sheaf_text.specs.Grammar.{Known, refusal}
 use Rattle.sheaf_text.specs.declared.fault.Which.TheVariants as limits
-use Rattle.sheaf_text.specs.Reading.{Item, Skipped, IsField, IsCell, IsFace, IsClient, IsQuery, IsEdit, IsSet, IsCommit, IsDone, Limit, item_of, reading_at_end, go_on, known_of, reading_from, reading, contents, stage_after, order_after, dim_in, stalk_in, face_in, entries_in, scripts_after, is_command, is_heavy, size_in, set_size, up_to_most}
+use Rattle.sheaf_text.specs.Reading.{Item, Skipped, IsField, IsCell, IsFace, IsClient, IsQuery, IsEdit, IsSet, IsCommit}
+use Rattle.sheaf_text.specs.Reading.{IsDone, Limit, item_of, reading_at_end, go_on, known_of, reading_from, reading}
+use Rattle.sheaf_text.specs.Reading.{contents, stage_after, order_after, dim_in, stalk_in, face_in, entries_in}
+use Rattle.sheaf_text.specs.Reading.{scripts_after, is_command, is_heavy, size_in, set_size, up_to_most}
 use Rattle.sheaf_text.specs.Keeping.{advance, nothing_known, run}
 
 -- ---- one item more
@@ -81,7 +85,8 @@ known_step earlier i = known_after earlier i ∙ after_advances (known_of earlie
 
 -- ---- the reading
 
-pub reading_runs : (earlier : List Item) (more : List (List (List ℕ))) → reading_from earlier more ≡ run (known_of earlier) (length earlier) more
+pub reading_runs : (earlier : List Item) (more : List (List (List ℕ))) → reading_from earlier more
+    ≡ run (known_of earlier) (length earlier) more
 unfolding run
 reading_runs earlier [] = refl
 reading_runs earlier (ws ∷ more) =
@@ -91,14 +96,21 @@ reading_runs earlier (ws ∷ more) =
     ∙ ap (λ n. run (advance (known_of earlier) (item_of ws)) n more) (length-append earlier (item_of ws ∷ [])))
 
 -- one line of some bytes
-pub run-line : (k : Known) (line : ℕ) (rest text after : List ℕ) → lines rest ≡ text ∷ lines after → run k line (contents rest) ≡ go_on (refusal k (words text)) (line + 1) (run (advance k (item_of (words text))) (line + 1) (contents after))
+pub run-line : (k : Known) (line : ℕ) (rest text after : List ℕ) → lines rest ≡ text ∷ lines after
+    → run k line (contents rest) ≡ go_on (refusal k (words text)) (line + 1)
+    (run (advance k (item_of (words text))) (line + 1) (contents after))
 unfolding run
 run-line k line rest text after e = ap (λ ls. run k line (map words ls)) e
 
-pub run-taken : (k : Known) (line : ℕ) (rest text after : List ℕ) → lines rest ≡ text ∷ lines after → refusal k (words text) ≡ None → run (advance k (item_of (words text))) (line + 1) (contents after) ≡ run k line (contents rest)
-run-taken k line rest text after e accepted = sym (run-line k line rest text after e ∙ ap (λ o. go_on o (line + 1) (run (advance k (item_of (words text))) (line + 1) (contents after))) accepted)
+pub run-taken : (k : Known) (line : ℕ) (rest text after : List ℕ) → lines rest ≡ text ∷ lines after
+    → refusal k (words text) ≡ None → run (advance k (item_of (words text))) (line + 1) (contents after)
+    ≡ run k line (contents rest)
+run-taken k line rest text after e accepted =
+    sym (run-line k line rest text after e
+    ∙ ap (λ o. go_on o (line + 1) (run (advance k (item_of (words text))) (line + 1) (contents after))) accepted)
 
-pub run-ends : (k : Known) (line : ℕ) (rest : List ℕ) → length rest ≡ 0 → run k line (contents rest) ≡ reading_at_end k line
+pub run-ends : (k : Known) (line : ℕ) (rest : List ℕ) → length rest ≡ 0 → run k line (contents rest)
+    ≡ reading_at_end k line
 unfolding run
 run-ends k line [] e = refl
 run-ends k line (b ∷ rest) e = absurd (omega arith)

@@ -1,5 +1,6 @@
 -- The number that a word is, digit by digit.
-use Rattle.std.proofs.Common.{◌≡◌, ℕ, zero, suc, cond, ◌+◌, ◌-◌, ◌*◌, ◌^◌, ◌≤◌, ◌<◌, Bool, true, false, List, [], ◌∷◌, length, take, get_or, refl, ap, ◌∙◌, arith, Some, None}
+use Rattle.std.proofs.Common.{◌≡◌, ℕ, zero, suc, cond, ◌+◌, ◌-◌, ◌*◌, ◌^◌, ◌≤◌, ◌<◌, Bool, true, false, List, [], ◌∷◌}
+use Rattle.std.proofs.Common.{length, take, get_or, refl, ap, ◌∙◌, arith, Some, None}
 use Rattle.std.specs.Prelude.{nat_le, unwrap_or, ◌&&◌}
 use Rattle.std.proofs.lemmas.Bool.{and_parts, leb-true}
 use Rattle.std.specs.Char.{is_ascii_digit}
@@ -16,11 +17,15 @@ use Rattle.sheaf_text.specs.Cut.{word_number, value_of, has_bytes}
 decimal : IsNumeralModel (λ ds. all_ascii_digits ds ≡ true) (digits_value 10)
 decimal = numerals_by_value _ tells_all_ascii_digits
 
-pub value_more : (w : List ℕ) (i : ℕ) → i < length w → IsInRange 48 57 (get_or w i 0) → digits_value 10 (take (i + 1) w) ≡ digits_value 10 (take i w) * 10 + (get_or w i 0 - 48)
-value_more w i lt digit = digits_value_more 10 w i lt ∙ ap (λ n. digits_value 10 (take i w) * 10 + n) (omega (arith, digit_value_digit (get_or w i 0) digit))
+pub value_more : (w : List ℕ) (i : ℕ) → i < length w → IsInRange 48 57 (get_or w i 0) → digits_value 10 (take (i + 1) w)
+    ≡ digits_value 10 (take i w) * 10 + (get_or w i 0 - 48)
+value_more w i lt digit = digits_value_more 10 w i lt ∙ ap (λ n. digits_value 10 (take i w) * 10 + n)
+    (omega (arith, digit_value_digit (get_or w i 0) digit))
 
-pub value_small : (w : List ℕ) (i : ℕ) → i < length w → length w ≤ 9 → AllDigits 10 (take i w) → digits_value 10 (take i w) < 10 ^ 8
-value_small w i lt short so_far = digits_value_short decimal (take i w) 8 (decimal.from (take i w) so_far) (omega (arith, length-take i w))
+pub value_small : (w : List ℕ) (i : ℕ) → i < length w → length w ≤ 9 → AllDigits 10 (take i w)
+    → digits_value 10 (take i w) < 10 ^ 8
+value_small w i lt short so_far = digits_value_short decimal (take i w) 8 (decimal.from (take i w) so_far)
+    (omega (arith, length-take i w))
 
 and_no : (b : Bool) → (b && false) ≡ false
 and_no true = refl
@@ -32,7 +37,8 @@ not_all (c ∷ w) zero lt e = ap (λ b. b && all_ascii_digits w) e
 not_all (c ∷ w) (suc i) lt e = ap (λ b. is_ascii_digit c && b) (not_all w i (omega arith) e) ∙ and_no (is_ascii_digit c)
 
 pub no_number : (w : List ℕ) (i : ℕ) → i < length w → is_ascii_digit (get_or w i 0) ≡ false → word_number w ≡ None
-no_number w i lt e = ap (λ b. cond ((has_bytes w && nat_le (length w) 9) && b) (Some (digits_value 10 w)) None) (not_all w i lt e) ∙ ap (λ b. cond b (Some (digits_value 10 w)) None) (and_no (has_bytes w && nat_le (length w) 9))
+no_number w i lt e = ap (λ b. cond ((has_bytes w && nat_le (length w) 9) && b) (Some (digits_value 10 w)) None)
+    (not_all w i lt e) ∙ ap (λ b. cond b (Some (digits_value 10 w)) None) (and_no (has_bytes w && nat_le (length w) 9))
 
 pub a_number : (w : List ℕ) → 0 < length w → length w ≤ 9 → AllDigits 10 w → word_number w ≡ Some (digits_value 10 w)
 a_number w some short digits =
@@ -49,6 +55,7 @@ value_of-below w =
     let q = and_parts (has_bytes w) (nat_le (length w) 9) p.0 in
     digits_value_short decimal w 9 p.1 (leb-true _ _ q.1))
   where
-    by : (b : Bool) → (b ≡ true → digits_value 10 w < 10 ^ 9) → unwrap_or (cond b (Some (digits_value 10 w)) None) 0 < 10 ^ 9
+    by : (b : Bool) → (b ≡ true → digits_value 10 w < 10 ^ 9) → unwrap_or (cond b (Some (digits_value 10 w)) None) 0
+        < 10 ^ 9
     by true h = h refl
     by false h = omega arith

@@ -1,5 +1,6 @@
 -- One line of the reading, and its end.
-use Rattle.std.proofs.Common.{◌≡◌, ℕ, suc, true, false, List, [], ◌∷◌, map, refl, sym, ap, subst, ◌∙◌, arith, Option, Some, None}
+use Rattle.std.proofs.Common.{◌≡◌, ℕ, suc, true, false, List, [], ◌∷◌, map, refl, sym, ap, subst, ◌∙◌, arith, Option}
+use Rattle.std.proofs.Common.{Some, None}
 use Rattle.dense_blocks.specs.declared.block.Block.{Block}
 use Rattle.cell_complex.specs.declared.face.Face.{Face}
 use Rattle.field_table.specs.declared.field.Field.{Field}
@@ -8,11 +9,13 @@ use Rattle.sheaf_data.specs.Sheaves.{SheafData}
 use Rattle.sheaf_words.specs.declared.asking.Command.{Command}
 use Rattle.sheaf_text.specs.Lines.{is_skipped, kind_of}
 use Rattle.sheaf_text.specs.Grammar.{Known, refusal, content_refusal, is_ended}
-use Rattle.sheaf_text.specs.Reading.{Good, Skipped, item_of, item_of_kind, refused_reading, go_on, reading_at_end, blocks_of}
+use Rattle.sheaf_text.specs.Reading.{Good, Skipped, item_of, item_of_kind, refused_reading, go_on, reading_at_end}
+use Rattle.sheaf_text.specs.Reading.{blocks_of}
 use Rattle.sheaf_text.specs.Keeping.{advance}
 use Rattle.sheaf_text.specs.Answers.{GivesFault, plain_matrix, input_value}
 use Rattle.sheaf_text.specs.Parts.{IsClosed, IsDraftOf}
-use Rattle.sheaf_text.specs.State.{known_by, AreAtStage, IsSoundState, IsReady, IsFound, TakesItem, TakesLine, RefusesLine}
+use Rattle.sheaf_text.specs.State.{known_by, AreAtStage, IsSoundState, IsReady, IsFound, TakesItem, TakesLine}
+use Rattle.sheaf_text.specs.State.{RefusesLine}
 use Rattle.sheaf_text.specs.declared.fault.Refusal.{Refusal}
 use Rattle.sheaf_text.specs.declared.fault.TextFault.{TextFault}
 use Rattle.sheaf_text.specs.declared.line.Kind.{Kind}
@@ -26,7 +29,8 @@ refusal-skipped : (k : Known) (ws : List (List ℕ)) → is_skipped ws ≡ true 
 unfolding refusal
 refusal-skipped k ws e = rw e refl
 
-refusal-content : (k : Known) (ws : List (List ℕ)) → is_skipped ws ≡ false → refusal k ws ≡ content_refusal k (kind_of ws) ws
+refusal-content : (k : Known) (ws : List (List ℕ)) → is_skipped ws ≡ false
+    → refusal k ws ≡ content_refusal k (kind_of ws) ws
 unfolding refusal
 refusal-content k ws e = rw e refl
 
@@ -45,23 +49,28 @@ takes_skipped s ws sound e = record {
   known = ap (advance (known_by s)) (sym (item_of-skipped ws e));
 }
 
-module _ (old ready : State) (ws : List (List ℕ)) (kind : Option Kind) (content : is_skipped ws ≡ false) (is : kind ≡ kind_of ws) (same : IsReady old ready kind) where
+module _ (old ready : State) (ws : List (List ℕ)) (kind : Option Kind) (content : is_skipped ws ≡ false)
+    (is : kind ≡ kind_of ws) (same : IsReady old ready kind) where
   refusal-ready : refusal (known_by old) ws ≡ content_refusal (known_by ready) kind ws
   refusal-ready =
       refusal-content (known_by old) ws content ∙ ap (λ o. content_refusal (known_by old) o ws) (sym is)
       ∙ ap (λ k. content_refusal k kind ws) (sym same.known)
 
-  pub takes_content : (new : State) (found : Kind) → IsFound (known_by ready) kind ws found → TakesItem ready new (item_of_kind (Some found) ws) → TakesLine old new ws
+  pub takes_content : (new : State) (found : Kind) → IsFound (known_by ready) kind ws found
+      → TakesItem ready new (item_of_kind (Some found) ws) → TakesLine old new ws
   takes_content new found f takes = record {
     accepted = refusal-ready ∙ f.not_refused;
     sound = takes.sound;
     known =
         takes.known ∙ ap (λ k. advance k (item_of_kind (Some found) ws)) same.known
-        ∙ ap (advance (known_by old)) (ap (λ o. item_of_kind o ws) (sym f.kind_is ∙ is) ∙ sym (item_of-content ws content));
+        ∙ ap (advance (known_by old)) (ap (λ o. item_of_kind o ws) (sym f.kind_is ∙ is)
+        ∙ sym (item_of-content ws content));
   }
 
-  pub refuses_content : (line : ℕ) (r : Refusal) (fault : TextFault) → content_refusal (known_by ready) kind ws ≡ Some r → GivesFault fault (refused_reading line r) → RefusesLine old line ws fault
-  refuses_content line r fault e gives later = subst (λ reading. GivesFault fault reading) (sym (ap (λ o. go_on o line later) (refusal-ready ∙ e))) gives
+  pub refuses_content : (line : ℕ) (r : Refusal) (fault : TextFault) → content_refusal (known_by ready) kind ws ≡ Some r
+      → GivesFault fault (refused_reading line r) → RefusesLine old line ws fault
+  refuses_content line r fault e gives later = subst (λ reading. GivesFault fault reading)
+      (sym (ap (λ o. go_on o line later) (refusal-ready ∙ e))) gives
 
 -- ---- the end
 
@@ -69,16 +78,29 @@ is_ended-true : (s : Stage) → is_ended s ≡ true → s ≡ stages.Ended
 is_ended-true stages.Ended e = refl
 is_ended-true s e = absurd cc
 
-blocks_of-shapes : (stalks : List ℕ) (faces : List Face) (blocks : List Block) → HaveShapes stalks faces blocks → blocks_of stalks faces (map (λ (b : Block). b.entries) blocks) ≡ map plain_matrix blocks
+blocks_of-shapes : (stalks : List ℕ) (faces : List Face) (blocks : List Block) → HaveShapes stalks faces blocks
+    → blocks_of stalks faces (map (λ (b : Block). b.entries) blocks) ≡ map plain_matrix blocks
 blocks_of-shapes stalks [] [] h = refl
 blocks_of-shapes stalks [] (b ∷ blocks) h = let n = h.count in absurd (omega arith)
 blocks_of-shapes stalks (f ∷ faces) [] h = let n = h.count in absurd (omega arith)
 blocks_of-shapes stalks (f ∷ faces) (b ∷ blocks) h =
-    let rest = blocks_of-shapes stalks faces blocks (record { count = omega (arith, h.count); cols = λ p. h.cols (suc p); rows = λ p. h.rows (suc p) }) in
+    let rest = blocks_of-shapes stalks faces blocks
+    (record { count = omega (arith, h.count); cols = λ p. h.cols (suc p); rows = λ p. h.rows (suc p) }) in
     rw (← h.rows 0 f b refl refl, ← h.cols 0 f b refl refl, rest) refl
 
-pub ending-good : (s : State) (d : SheafData Field) (scripts : List (List Command)) (line : ℕ) → IsSoundState s → is_ended s.stage ≡ true → IsDraftOf s.parts d → scripts ≡ s.scripts.ended.items → reading_at_end (known_by s) line ≡ Good (input_value (record { draft = d; scripts = scripts }))
+pub ending-good : (s : State) (d : SheafData Field) (scripts : List (List Command)) (line : ℕ) → IsSoundState s
+    → is_ended s.stage ≡ true → IsDraftOf s.parts d → scripts ≡ s.scripts.ended.items → reading_at_end (known_by s) line
+    ≡ Good (input_value (record { draft = d; scripts = scripts }))
 ending-good s d scripts line sound e draft is =
     let at = is_ended-true s.stage e in
     let closed : IsClosed s.parts = subst (λ stage. AreAtStage stage s.parts) at sound.stands in
-    rw (at, is, draft.complex_is, draft.field_is, draft.stalks_are, draft.blocks_are, closed, blocks_of-shapes s.parts.stalks.items s.parts.complex.faces s.parts.blocks.items sound.parts.blocks.shapes) refl
+    rw (
+      at,
+      is,
+      draft.complex_is,
+      draft.field_is,
+      draft.stalks_are,
+      draft.blocks_are,
+      closed,
+      blocks_of-shapes s.parts.stalks.items s.parts.complex.faces s.parts.blocks.items sound.parts.blocks.shapes,
+    ) refl

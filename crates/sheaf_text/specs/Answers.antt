@@ -40,7 +40,8 @@ abbrev pub CanBeServed : ℕ → Command → Type 0
 CanBeServed n (Change e) = length e.sets ≤ n
 CanBeServed n (Ask q) = q ≡ Betti
 
--- at most 8 scripts, at most 4,096 commands in all, each an edit of at most 1,000,000,000 changes or a question for the Betti numbers
+-- at most 8 scripts, at most 4,096 commands in all, each an edit of at most 1,000,000,000 changes or a question for the
+-- Betti numbers
 pub record AreServable (scripts : List (List Command)) : Type 0 where
   pub clients : length scripts ≤ 8
   pub commands : sum_by length scripts ≤ 4096

@@ -1,5 +1,6 @@
 -- Which lines are refused, by what the earlier lines say.
-use Rattle.std.specs.Prelude.{ℕ, ◌+◌, ◌*◌, Bool, true, false, List, drop, length, sum, min, not, Option, Some, None, ◌==◌, nat_le, nat_lt, slice_index, if◌then◌else◌}
+use Rattle.std.specs.Prelude.{ℕ, ◌+◌, ◌*◌, Bool, true, false, List, drop, length, sum, min, not, Option, Some, None}
+use Rattle.std.specs.Prelude.{◌==◌, nat_le, nat_lt, slice_index, if◌then◌else◌}
 use Rattle.std.specs.List.{list_any}
 use Rattle.cell_complex.specs.declared.face.Face.{Face}
 use Rattle.cell_complex.specs.declared.fault.FaceFault.{FaceFault}
@@ -9,7 +10,8 @@ use Rattle.cell_complex.specs.Verdicts.{face_fault}
 use Rattle.field_table.specs.Table.{orders}
 use Rattle.sheaf_words.specs.declared.asking.Command.{Command}
 use Rattle.sheaf_text.specs.Cut.{are_below}
-use Rattle.sheaf_text.specs.Lines.{word, value, is_skipped, kind_of, may_stand, count_fits, are_numerals, is_sign, face_in}
+use Rattle.sheaf_text.specs.Lines.{word, value, is_skipped, kind_of, may_stand, count_fits, are_numerals, is_sign}
+use Rattle.sheaf_text.specs.Lines.{face_in}
 use Rattle.sheaf_text.specs.declared.line.Kind.{Kind}
 use Rattle.sheaf_text.specs.declared.line.Kind.TheVariants as kinds
 use Rattle.sheaf_text.specs.declared.line.Stage.{Stage}

@@ -1,5 +1,6 @@
 -- What a line is, and whether its words have the right form.
-use Rattle.std.specs.Prelude.{ℕ, Bool, true, false, List, [], drop, Option, Some, None, length, ◌==◌, ◌||◌, ◌&&◌, nat_le, slice_index, slice_index_or, if◌then◌else◌, codes}
+use Rattle.std.specs.Prelude.{ℕ, Bool, true, false, List, [], drop, Option, Some, None, length, ◌==◌, ◌||◌, ◌&&◌}
+use Rattle.std.specs.Prelude.{nat_le, slice_index, slice_index_or, if◌then◌else◌, codes}
 use Rattle.std.specs.List.{list_all}
 use Rattle.std.specs.Str.{bytes_eq}
 use Rattle.cell_complex.specs.declared.face.Face.{Face}

@@ -1,5 +1,6 @@
 -- The reading of bytes: each line is judged from the lines before it, and the first that is refused_reading decides.
-use Rattle.std.specs.Prelude.{ℕ, ◌+◌, Bool, true, false, List, [], ◌∷◌, ◌++◌, drop, length, map, min, count_by, sum_by, Option, Some, None, nat_lt, slice_index, if◌then◌else◌}
+use Rattle.std.specs.Prelude.{ℕ, ◌+◌, Bool, true, false, List, [], ◌∷◌, ◌++◌, drop, length, map, min, count_by, sum_by}
+use Rattle.std.specs.Prelude.{Option, Some, None, nat_lt, slice_index, if◌then◌else◌}
 use Rattle.std.specs.List.{fold, filter_map}
 use Rattle.std.specs.Str.Lines.{lines}
 use Rattle.cell_complex.specs.declared.face.Face.{Face}
@@ -195,10 +196,22 @@ pub data Reading : Type 0 where
 abbrev pub blocks_of : List ℕ → List Face → List (List ℕ) → List Matrix
 blocks_of stalks [] entries = []
 blocks_of stalks (f ∷ faces) [] = []
-blocks_of stalks (f ∷ faces) (es ∷ entries) = record { rows = slice_index stalks f.t; cols = slice_index stalks f.s; entries = es } ∷ blocks_of stalks faces entries
+blocks_of stalks (f ∷ faces) (es ∷ entries) = record {
+  rows = slice_index stalks f.t;
+  cols = slice_index stalks f.s;
+  entries = es;
+} ∷ blocks_of stalks faces entries
 
 abbrev pub input_of : Known → InputValue
-input_of k = record { order = k.order; dims = k.dims; faces = k.faces; stalks = k.stalks; blocks = blocks_of k.stalks k.faces k.entries; scripts = k.scripts }
+input_of k = record {
+  order = k.order;
+  dims = k.dims;
+  faces = k.faces;
+  stalks = k.stalks;
+  blocks =
+      blocks_of k.stalks k.faces k.entries;
+  scripts = k.scripts;
+}
 
 -- at the end of the lines
 abbrev pub reading_at_end : Known → ℕ → Reading
@@ -216,7 +229,8 @@ go_on None line later = later
 -- the reading of lines after earlier ones
 abbrev pub reading_from : List Item → List (List (List ℕ)) → Reading
 reading_from earlier [] = reading_at_end (known_of earlier) (length earlier)
-reading_from earlier (ws ∷ more) = go_on (refusal (known_of earlier) ws) (length earlier + 1) (reading_from (earlier ++ item_of ws ∷ []) more)
+reading_from earlier (ws ∷ more) = go_on (refusal (known_of earlier) ws) (length earlier + 1)
+    (reading_from (earlier ++ item_of ws ∷ []) more)
 
 -- the words of each line
 abbrev pub contents : List ℕ → List (List (List ℕ))

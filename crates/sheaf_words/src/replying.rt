@@ -92,8 +92,8 @@ pub enum Reply {
         s: u32,
         z: Row,
     },
-    /// No global section has the value that was asked for at the cell `s`: this functional of the stalk is 0 on all values
-    /// of sections, and not on that one.
+    /// No global section has the value that was asked for at the cell `s`: this functional of the stalk is 0 on all
+    /// values of sections, and not on that one.
     NoSection {
         s: u32,
         functional: Row,

@@ -1,6 +1,8 @@
 -- Answers that clear pairs.
-use Rattle.std.proofs.Common.{◌≡◌, ◌≢◌, ℕ, ◌<◌, ◌≤◌, Bool, true, false, cond, ◌&&◌, ◌⊎◌, ⊎_elim, inl, inr, nat_eq, nat_lt, Option, None, Some, is_none, refl, sym, ◌∙◌, arith}
-use Rattle.std.proofs.lemmas.Bool.{true≢false, and_parts, or_cases, or_left, or_right, and_from, eq-eqb, eqb-true, lt-ltb, ltb-true, cases_lt, cases_eq}
+use Rattle.std.proofs.Common.{◌≡◌, ◌≢◌, ℕ, ◌<◌, ◌≤◌, Bool, true, false, cond, ◌&&◌, ◌⊎◌, ⊎_elim, inl, inr, nat_eq}
+use Rattle.std.proofs.Common.{nat_lt, Option, None, Some, is_none, refl, sym, ◌∙◌, arith}
+use Rattle.std.proofs.lemmas.Bool.{true≢false, and_parts, or_cases, or_left, or_right, and_from, eq-eqb, eqb-true}
+use Rattle.std.proofs.lemmas.Bool.{lt-ltb, ltb-true, cases_lt, cases_eq}
 use Rattle.square_check.specs.Answers.{is_before, earlier_pair, Fails, PassesBefore, IsFirstFailure}
 
 abbrev Before : ℕ × ℕ → ℕ × ℕ → Type 0
@@ -24,9 +26,11 @@ to_before p q h =
 before-trans : (p q r : ℕ × ℕ) → is_before p q ≡ true → is_before q r ≡ true → is_before p r ≡ true
 before-trans p q r h k =
     to_before p r (⊎_elim
-    (λ (l : p.0 < q.0). ⊎_elim (λ (m : q.0 < r.0). inl (omega arith)) (λ (m : (q.0 ≡ r.0) × (q.1 < r.1)). inl (omega (arith, m.0))) (before_from q r k))
+    (λ (l : p.0 < q.0). ⊎_elim (λ (m : q.0 < r.0). inl (omega arith)) (λ (m : (q.0 ≡ r.0) × (q.1 < r.1)).
+    inl (omega (arith, m.0))) (before_from q r k))
     (λ (l : (p.0 ≡ q.0) × (p.1 < q.1)).
-    ⊎_elim (λ (m : q.0 < r.0). inl (omega (arith, l.0))) (λ (m : (q.0 ≡ r.0) × (q.1 < r.1)). inr (l.0 ∙ m.0, omega (arith, l.1, m.1))) (before_from q r k))
+    ⊎_elim (λ (m : q.0 < r.0). inl (omega (arith, l.0))) (λ (m : (q.0 ≡ r.0) × (q.1 < r.1)).
+    inr (l.0 ∙ m.0, omega (arith, l.1, m.1))) (before_from q r k))
     (before_from p q h))
 
 -- what comes before p comes before each q that does not
@@ -34,12 +38,14 @@ before-others : (p q r : ℕ × ℕ) → is_before r p ≡ true → is_before q 
 before-others p q r h k =
     let no : Before q p → ⊥ = λ b. true≢false (sym (to_before q p b) ∙ k) in
     to_before r q (⊎_elim
-    (λ (l : r.0 < p.0). ⊎_elim (λ (m : q.0 < p.0). absurd (no (inl m))) (λ (m : p.0 ≤ q.0). inl (omega arith)) (cases_lt q.0 p.0))
+    (λ (l : r.0 < p.0). ⊎_elim (λ (m : q.0 < p.0). absurd (no (inl m))) (λ (m : p.0 ≤ q.0). inl (omega arith))
+    (cases_lt q.0 p.0))
     (λ (l : (r.0 ≡ p.0) × (r.1 < p.1)).
     ⊎_elim (λ (m : q.0 < p.0). absurd (no (inl m)))
     (λ (m : p.0 ≤ q.0).
     ⊎_elim (λ (e : q.0 ≡ p.0).
-    ⊎_elim (λ (w : q.1 < p.1). absurd (no (inr (e, w)))) (λ (w : p.1 ≤ q.1). inr (l.0 ∙ sym e, omega (arith, l.1))) (cases_lt q.1 p.1))
+    ⊎_elim (λ (w : q.1 < p.1). absurd (no (inr (e, w)))) (λ (w : p.1 ≤ q.1). inr (l.0 ∙ sym e, omega (arith, l.1)))
+    (cases_lt q.1 p.1))
     (λ (ne : q.0 ≢ p.0). inl (omega (arith, l.0))) (cases_eq q.0 p.0))
     (cases_lt q.0 p.0))
     (before_from r p h))
@@ -58,7 +64,8 @@ module _ (P : ℕ → ℕ → Type 0) where
       by true = k
       by false = h
 
-  pub earlier-clears_first : (a b : Option (ℕ × ℕ)) (s u : ℕ) → PassesBefore P a s u → PassesBefore P (earlier_pair a b) s u
+  pub earlier-clears_first : (a b : Option (ℕ × ℕ)) (s u : ℕ) → PassesBefore P a s u
+      → PassesBefore P (earlier_pair a b) s u
   earlier-clears_first None b s u h = clears-passing b s u h
   earlier-clears_first (Some p) None s u h = h
   earlier-clears_first (Some p) (Some q) s u h = by (is_before q p) refl
@@ -67,7 +74,8 @@ module _ (P : ℕ → ℕ → Type 0) where
       by true e = λ l. h (before-trans (s, u) q p l e)
       by false e = h
 
-  pub earlier-clears_second : (a b : Option (ℕ × ℕ)) (s u : ℕ) → PassesBefore P b s u → PassesBefore P (earlier_pair a b) s u
+  pub earlier-clears_second : (a b : Option (ℕ × ℕ)) (s u : ℕ) → PassesBefore P b s u
+      → PassesBefore P (earlier_pair a b) s u
   earlier-clears_second None b s u h = h
   earlier-clears_second (Some p) None s u h = λ _. h
   earlier-clears_second (Some p) (Some q) s u h = by (is_before q p) refl
@@ -77,16 +85,20 @@ module _ (P : ℕ → ℕ → Type 0) where
       by false e = λ l. h (before-others p q (s, u) l e)
 
   -- what fails and clears all pairs is the first, where only cells fail
-  pub first-from : (count : ℕ) (r : Option (ℕ × ℕ)) → ((s u : ℕ) → (count ≤ s) ⊎ (count ≤ u) → P s u) → Fails P r → ((s u : ℕ) → PassesBefore P r s u) → IsFirstFailure P count r
+  pub first-from : (count : ℕ) (r : Option (ℕ × ℕ)) → ((s u : ℕ) → (count ≤ s) ⊎ (count ≤ u) → P s u) → Fails P r
+      → ((s u : ℕ) → PassesBefore P r s u) → IsFirstFailure P count r
   first-from count None outside h k = k
   first-from count (Some p) outside h k = record {
-    s_is_cell = ⊎_elim (λ (l : p.0 < count). l) (λ (l : count ≤ p.0). absurd (h (outside p.0 p.1 (inl l)))) (cases_lt p.0 count);
-    u_is_cell = ⊎_elim (λ (l : p.1 < count). l) (λ (l : count ≤ p.1). absurd (h (outside p.0 p.1 (inr l)))) (cases_lt p.1 count);
+    s_is_cell = ⊎_elim (λ (l : p.0 < count). l) (λ (l : count ≤ p.0). absurd (h (outside p.0 p.1 (inl l))))
+        (cases_lt p.0 count);
+    u_is_cell = ⊎_elim (λ (l : p.1 < count). l) (λ (l : count ≤ p.1). absurd (h (outside p.0 p.1 (inr l))))
+        (cases_lt p.1 count);
     fails = h;
     before = λ v w l. k v w l;
   }
 
 -- where there is no first pair that fails, all pairs pass
-pub passing-none : (P : ℕ → ℕ → Type 0) (count : ℕ) (r : Option (ℕ × ℕ)) → is_none r ≡ true → IsFirstFailure P count r → (s u : ℕ) → P s u
+pub passing-none : (P : ℕ → ℕ → Type 0) (count : ℕ) (r : Option (ℕ × ℕ)) → is_none r ≡ true → IsFirstFailure P count r
+    → (s u : ℕ) → P s u
 passing-none P count None e h = h
 passing-none P count (Some p) e h = absurd (true≢false (sym e))

@@ -1,5 +1,6 @@
 -- Squares through the all_cells between two all_cells.
-use Rattle.std.proofs.Common.{◌≡◌, ℕ, ◌+◌, ◌<◌, Bool, true, false, ◌&&◌, ◌↔◌, IsTrue, ⊎_elim, List, [], ◌∷◌, length, get_or, nat_eq, Option, Some, All, refl, sym, ap, ap₂, ◌∙◌, subst, arith}
+use Rattle.std.proofs.Common.{◌≡◌, ℕ, ◌+◌, ◌<◌, Bool, true, false, ◌&&◌, ◌↔◌, IsTrue, ⊎_elim, List, [], ◌∷◌, length}
+use Rattle.std.proofs.Common.{get_or, nat_eq, Option, Some, All, refl, sym, ap, ap₂, ◌∙◌, subst, arith}
 use Rattle.std.specs.Option.{option_map, option_and_then}
 use Rattle.std.specs.List.{list_any}
 use Rattle.std.proofs.lemmas.Bool.{and_parts, eqb-true, eq-eqb}
@@ -24,7 +25,8 @@ pub record IsBetween (c : CellComplex) (s u t : ℕ) : Type 0 where
 
 pub all-between : (c : CellComplex) (s u : ℕ) → All (IsBetween c s u) (middles c s u)
 all-between c s u k d l =
-    let p = and_parts (is_face c s _) (is_face c _ u) (filter_passes (λ t. is_face c s t && is_face c t u) (all_cells c) k d l) in
+    let p = and_parts (is_face c s _) (is_face c _ u) (filter_passes (λ t. is_face c s t && is_face c t u) (all_cells c)
+    k d l) in
     record { lower = p.0; upper = p.1 }
 
 pub between-head : (c : CellComplex) (s u t : ℕ) (ts : List ℕ) → middles c s u ≡ t ∷ ts → IsBetween c s u t
@@ -34,7 +36,8 @@ pub between-second : (c : CellComplex) (s u t v : ℕ) (ts : List ℕ) → middl
 between-second c s u t v ts is = subst (All (IsBetween c s u)) is (all-between c s u) 1 0 (omega arith)
 
 -- between all_cells of regular incidences are no more than two all_cells
-pub middles-two : (c : CellComplex) → IsComplex c → HasRegularIncidences c → (s u a b : ℕ) (ts : List ℕ) → middles c s u ≡ a ∷ b ∷ ts
+pub middles-two : (c : CellComplex) → IsComplex c → HasRegularIncidences c → (s u a b : ℕ) (ts : List ℕ)
+    → middles c s u ≡ a ∷ b ∷ ts
     → middles c s u ≡ a ∷ b ∷ []
 middles-two c h r s u a b ts is =
     let t = between-head c s u a (b ∷ ts) is in
@@ -51,13 +54,15 @@ middles-two c h r s u a b ts is =
 
 pub faces_of-below : (c : CellComplex) (t : ℕ) → All (λ s. s < length c.dims) (faces_of c t)
 faces_of-below c t k d l =
-    let h = All-filter (λ s. is_face c s t) (λ s. s < 0 + length c.dims) (all_cells c) (range-below 0 (length c.dims)) k d l in
+    let h = All-filter (λ s. is_face c s t) (λ s. s < 0 + length c.dims) (all_cells c) (range-below 0 (length c.dims)) k
+    d l in
     omega (arith, h)
 
 -- s is in the list below t just where it is a face of t
 pub list_any-faces_of : (c : CellComplex) → IsComplex c → (s t : ℕ) → list_any (nat_eq s) (faces_of c t) ≡ is_face c s t
 list_any-faces_of c h s t =
-    any-filter_same (nat_eq s) (λ v. is_face c v t) (is_face c s t) (λ k e. ap (λ v. is_face c v t) (sym (eqb-true s k e))) (all_cells c)
+    any-filter_same (nat_eq s) (λ v. is_face c v t) (is_face c s t)
+    (λ k e. ap (λ v. is_face c v t) (sym (eqb-true s k e))) (all_cells c)
     ∙ by (is_face c s t) (λ e. there (incident_from_face c h s t e))
   where
     there : AreIncident c.dims s t → list_any (nat_eq s) (all_cells c) ≡ true
@@ -65,25 +70,33 @@ list_any-faces_of c h s t =
         list_any_at (nat_eq s) (all_cells c) s 0 (omega (arith, i.s_is_cell, length-range_with_len 0 (length c.dims)))
         (eq-eqb s (get_or (all_cells c) s 0) (omega (arith, get_or-range_with_len 0 (length c.dims) s 0 i.s_is_cell)))
 
-    by : (b : Bool) → (b ≡ true → list_any (nat_eq s) (all_cells c) ≡ true) → (b && list_any (nat_eq s) (all_cells c)) ≡ b
+    by : (b : Bool) → (b ≡ true → list_any (nat_eq s) (all_cells c) ≡ true) → (b && list_any (nat_eq s) (all_cells c))
+        ≡ b
     by true h = h refl
     by false h = refl
 
-pub through-is : (K : Ops) (c : CellComplex) (blocks : List Block) (s t u : ℕ) (low up : Block) → restriction c blocks s t ≡ Some low
-    → restriction c blocks t u ≡ Some up → through K c blocks s t u ≡ Some (product K low.cols (matrix_of up) (matrix_of low))
+pub through-is : (K : Ops) (c : CellComplex) (blocks : List Block) (s t u : ℕ) (low up : Block)
+    → restriction c blocks s t ≡ Some low
+    → restriction c blocks t u ≡ Some up → through K c blocks s t u
+    ≡ Some (product K low.cols (matrix_of up) (matrix_of low))
 through-is K c blocks s t u low up is_low is_up =
-    ap₂ (λ l r. option_and_then (λ low. option_map (λ up. product K low.cols (matrix_of up) (matrix_of low)) r) l) is_low is_up
+    ap₂ (λ l r. option_and_then (λ low. option_map (λ up. product K low.cols (matrix_of up) (matrix_of low)) r) l)
+    is_low is_up
 
 -- no all_cells between, or one
-pub commutes-none : (K : Ops) (c : CellComplex) (blocks : List Block) (s u : ℕ) → middles c s u ≡ [] → Commutes K c blocks s u
+pub commutes-none : (K : Ops) (c : CellComplex) (blocks : List Block) (s u : ℕ) → middles c s u ≡ []
+    → Commutes K c blocks s u
 commutes-none K c blocks s u is =
-    subst (λ ts. All (λ t. All (λ v. through K c blocks s t u ≡ through K c blocks s v u) ts) ts) (sym is) (λ k d l. absurd (omega arith))
+    subst (λ ts. All (λ t. All (λ v. through K c blocks s t u ≡ through K c blocks s v u) ts) ts) (sym is)
+    (λ k d l. absurd (omega arith))
 
-pub commutes-one : (K : Ops) (c : CellComplex) (blocks : List Block) (s u t : ℕ) → middles c s u ≡ t ∷ [] → Commutes K c blocks s u
+pub commutes-one : (K : Ops) (c : CellComplex) (blocks : List Block) (s u t : ℕ) → middles c s u ≡ t ∷ []
+    → Commutes K c blocks s u
 commutes-one K c blocks s u t is =
     subst (λ ts. All (λ t. All (λ v. through K c blocks s t u ≡ through K c blocks s v u) ts) ts) (sym is)
     (All-cons (λ w. All (λ v. through K c blocks s w u ≡ through K c blocks s v u) (t ∷ [])) t []
-    (All-cons (λ v. through K c blocks s t u ≡ through K c blocks s v u) t [] refl (λ k d l. absurd (omega arith))) (λ k d l. absurd (omega arith)))
+    (All-cons (λ v. through K c blocks s t u ≡ through K c blocks s v u) t [] refl (λ k d l. absurd (omega arith)))
+    (λ k d l. absurd (omega arith)))
 
 -- two all_cells between
 module _ (K : Ops) (c : CellComplex) (blocks : List Block) (s u a b : ℕ) (is : middles c s u ≡ a ∷ b ∷ []) where
@@ -97,19 +110,24 @@ module _ (K : Ops) (c : CellComplex) (blocks : List Block) (s u a b : ℕ) (is :
       (All-cons (λ t. All (λ v. at t ≡ at v) (a ∷ b ∷ [])) b [] (with b (sym e) refl) (λ k d l. absurd (omega arith))))
     where
       with : (t : ℕ) → at t ≡ at a → at t ≡ at b → All (λ v. at t ≡ at v) (a ∷ b ∷ [])
-      with t p q = All-cons (λ v. at t ≡ at v) a (b ∷ []) p (All-cons (λ v. at t ≡ at v) b [] q (λ k d l. absurd (omega arith)))
+      with t p q = All-cons (λ v. at t ≡ at v) a (b ∷ []) p
+          (All-cons (λ v. at t ≡ at v) b [] q (λ k d l. absurd (omega arith)))
 
   pair : Commutes K c blocks s u → at a ≡ at b
   pair h = subst (λ ts. All (λ t. All (λ v. at t ≡ at v) ts) ts) is h 0 0 (omega arith) 1 0 (omega arith)
 
-  pub commutes-two : (r : Bool) (up1 low1 up2 low2 : Block) → restriction c blocks a u ≡ Some up1 → restriction c blocks s a ≡ Some low1
+  pub commutes-two : (r : Bool) (up1 low1 up2 low2 : Block) → restriction c blocks a u ≡ Some up1
+      → restriction c blocks s a ≡ Some low1
       → restriction c blocks b u ≡ Some up2 → restriction c blocks s b ≡ Some low2 → low1.cols ≡ low2.cols
-      → IsTrue r ↔ (product K low1.cols (matrix_of up1) (matrix_of low1) ≡ product K low1.cols (matrix_of up2) (matrix_of low2))
+      → IsTrue r ↔ (product K low1.cols (matrix_of up1) (matrix_of low1) ≡ product K low1.cols (matrix_of up2)
+      (matrix_of low2))
       → IsTrue r ↔ Commutes K c blocks s u
   commutes-two r up1 low1 up2 low2 is_up1 is_low1 is_up2 is_low2 cols h =
-      let first : at a ≡ Some (product K low1.cols (matrix_of up1) (matrix_of low1)) = through-is K c blocks s a u low1 up1 is_low1 is_up1 in
+      let first : at a ≡ Some (product K low1.cols (matrix_of up1) (matrix_of low1)) = through-is K c blocks s a u low1
+      up1 is_low1 is_up1 in
       let second : at b ≡ Some (product K low1.cols (matrix_of up2) (matrix_of low2)) =
-      through-is K c blocks s b u low2 up2 is_low2 is_up2 ∙ ap (λ n. Some (product K n (matrix_of up2) (matrix_of low2))) (sym cols) in (
+      through-is K c blocks s b u low2 up2 is_low2 is_up2
+      ∙ ap (λ n. Some (product K n (matrix_of up2) (matrix_of low2))) (sym cols) in (
         λ yes. both (first ∙ ap Some (h.0 yes) ∙ sym second),
         λ all. h.1 (inside _ _ (sym first ∙ pair all ∙ second)),
       )

@@ -1,5 +1,7 @@
 -- The places of faces, and the blocks there.
-use Rattle.std.proofs.Common.{◌≡◌, ℕ, suc, ◌+◌, ◌<◌, ◌≤◌, Bool, true, false, cond, not, ◌||◌, nat_eq, nat_lt, List, [], ◌∷◌, length, get_or, slice_get, slice_index, Option, None, Some, All, refl, sym, ap, ◌∙◌, subst, arith}
+use Rattle.std.proofs.Common.{◌≡◌, ℕ, suc, ◌+◌, ◌<◌, ◌≤◌, Bool, true, false, cond, not, ◌||◌, nat_eq, nat_lt, List, []}
+use Rattle.std.proofs.Common.{◌∷◌, length, get_or, slice_get, slice_index, Option, None, Some, All, refl, sym, ap, ◌∙◌}
+use Rattle.std.proofs.Common.{subst, arith}
 use Rattle.std.specs.List.{list_any, filter_map, cons_option, prefix_len}
 use Rattle.std.specs.Option.{option_and_then}
 use Rattle.std.proofs.lemmas.Bool.{true≢false, cond-true, lt-ltb, and_parts, eqb-true}
@@ -39,8 +41,14 @@ first-passing {X} p (x ∷ xs) h = by (p x) refl h (first-passing p xs)
     n : ℕ
     n = prefix_len (λ x. not (p x)) xs
 
-    by : (b : Bool) → p x ≡ b → (b || list_any p xs) ≡ true → (list_any p xs ≡ true → FirstPassing p xs) → FirstPassing p (x ∷ xs)
-    by true e h later = record { element = x; found = ap (λ b. slice_get (x ∷ xs) (cond (not b) (1 + n) 0)) e; passes = e }
+    by : (b : Bool) → p x ≡ b → (b || list_any p xs) ≡ true → (list_any p xs ≡ true → FirstPassing p xs)
+        → FirstPassing p (x ∷ xs)
+    by true e h later = record {
+      element = x;
+      found = ap (λ b. slice_get (x ∷ xs) (cond (not b) (1 + n) 0)) e;
+      passes =
+          e;
+    }
     by false e h later =
         let r = later h in
         let step : 1 + n ≡ suc n = omega arith in
@@ -51,7 +59,8 @@ first-passing {X} p (x ∷ xs) h = by (p x) refl h (first-passing p xs)
         }
 
 -- what holds at each index holds of each listed number
-pub all-listed : (Q : ℕ → Type 0) (xs : List ℕ) (n : ℕ) → length xs ≤ n → ((k : ℕ) → k < n → Q (get_or xs k 0)) → (x : ℕ) → list_any (nat_eq x) xs ≡ true → Q x
+pub all-listed : (Q : ℕ → Type 0) (xs : List ℕ) (n : ℕ) → length xs ≤ n → ((k : ℕ) → k < n → Q (get_or xs k 0))
+    → (x : ℕ) → list_any (nat_eq x) xs ≡ true → Q x
 all-listed Q xs n enough h x e =
     let f = first-passing (nat_eq x) xs e in
     let i : ℕ = prefix_len (λ y. not (nat_eq x y)) xs in
@@ -93,7 +102,8 @@ pub record FitsFace (K : Ops) (stalks : List ℕ) (s t : ℕ) (b : Block) : Type
   pub rows : b.rows ≡ slice_index stalks t
   pub scalars : AllScalars K b.entries
 
-pub restriction-fits : (K : Ops) (c : CellComplex) (blocks : List Block) (r : AreRestrictions K c blocks) (s t : ℕ) (b : Block) → is_face c s t ≡ true
+pub restriction-fits : (K : Ops) (c : CellComplex) (blocks : List Block) (r : AreRestrictions K c blocks) (s t : ℕ)
+    (b : Block) → is_face c s t ≡ true
     → restriction c blocks s t ≡ Some b → FitsFace K r.stalks s t b
 restriction-fits K c blocks r s t b h e =
     let p = placed c s t h in
@@ -104,5 +114,6 @@ restriction-fits K c blocks r s t b h e =
       scalars = all-at (λ b. AllScalars K b.entries) blocks p.at b r.scalars here;
     }
 
-pub face-fits : (c : CellComplex) → IsComplex c → (p : ℕ) (f : Face) → slice_get c.faces p ≡ Some f → JoinsCells c.dims f
+pub face-fits : (c : CellComplex) → IsComplex c → (p : ℕ) (f : Face) → slice_get c.faces p ≡ Some f
+    → JoinsCells c.dims f
 face-fits c h p f e = all-at (JoinsCells c.dims) c.faces p f h.fit e

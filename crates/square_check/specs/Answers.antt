@@ -1,5 +1,6 @@
 -- The first pair that fails, in order of the first number and then of the second.
-use Rattle.std.specs.Prelude.{◌≡◌, ℕ, ◌<◌, Bool, true, Option, None, Some, nat_lt, ◌||◌, ◌==◌, ◌&&◌, if◌then◌else◌, MatchOption}
+use Rattle.std.specs.Prelude.{◌≡◌, ℕ, ◌<◌, Bool, true, Option, None, Some, nat_lt, ◌||◌, ◌==◌, ◌&&◌, if◌then◌else◌}
+use Rattle.std.specs.Prelude.{MatchOption}
 
 -- whether p comes before q
 abbrev pub is_before : ℕ × ℕ → ℕ × ℕ → Bool

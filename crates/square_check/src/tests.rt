@@ -33,8 +33,8 @@ const TRIANGLE: [Triple; 9] = [
 
 const TRIANGLE_DIMS: [u8; 7] = [0, 0, 0, 1, 1, 1, 2];
 
-// The boundary of a tetrahedron: the edges of its vertices 0 to 3 are 4 to 9; a triangle a < b < c is given by its edges
-// ab, ac and bc.
+// The boundary of a tetrahedron: the edges of its vertices 0 to 3 are 4 to 9; a triangle a < b < c is given by its
+// edges ab, ac and bc.
 const TETRAHEDRON_EDGES: [(u32, u32); 6] = [(0, 1), (0, 2), (0, 3), (1, 2), (1, 3), (2, 3)];
 
 const TETRAHEDRON_TRIANGLES: [[u32; 3]; 4] = [[4, 5, 7], [4, 6, 8], [5, 6, 9], [7, 8, 9]];

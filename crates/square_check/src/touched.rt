@@ -22,8 +22,8 @@ pub enum Touched<'a> {
 /// The first pair of cells, in order of the lower cell and then of the upper one, whose square does not commute; none
 /// exactly where all squares commute.
 ///
-/// The blocks stand in the order of the faces of the complex. Where faces are named, only their squares are visited, and
-/// the answer is still that of all squares. Takes no memory.
+/// The blocks stand in the order of the faces of the complex. Where faces are named, only their squares are visited,
+/// and the answer is still that of all squares. Takes no memory.
 pub fn first_bad<F: Scalars>(
     f: &F,
     c: &Complex,

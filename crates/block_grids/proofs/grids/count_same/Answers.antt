@@ -15,7 +15,13 @@ is_corner-requires-clause-cols c =
 pub overflow_add-col : goal.overflow_add-col
 overflow_add-col c =
     let inside : c.loop-i.i < length c.args.left.now = omega (arith, c.requires.within) in
-    omega (arith, c.loop-i.invariant.col, width-within c.args.left.now c.loop-i.i inside, c.requires.cols, c.args.joined.now.cols_fit)
+    omega (
+      arith,
+      c.loop-i.invariant.col,
+      width-within c.args.left.now c.loop-i.i inside,
+      c.requires.cols,
+      c.args.joined.now.cols_fit,
+    )
 
 pub loop-i-preserved : goal.loop-i-preserved
 loop-i-preserved c =
@@ -28,10 +34,12 @@ loop-i-preserved c =
     let passed : c.is_corner.result ≡ true = search rules in
     record {
       col = omega (arith, c.loop-i.invariant.col, width-next left i inside);
-      within = subst (λ ks. c.place_from-at.result ≤ length ks) c.cells-cells.ensures.cells c.place_from-at.ensures.within;
+      within = subst (λ ks. c.place_from-at.result ≤ length ks) c.cells-cells.ensures.cells
+          c.place_from-at.ensures.within;
       passed = next-passed left line.cells c.place_from-at.result i c.requires.rising
           (all-passed line.cells c.loop-i.at c.place_from-at.result x.0 (λ a l. c.loop-i.invariant.passed a l inside)
-          (subst (λ ks. (a : ℕ) → c.loop-i.at ≤ a → a < c.place_from-at.result → get_or ks a 0 < x.0) c.cells-cells.ensures.cells c.place_from-at.ensures.passed));
+          (subst (λ ks. (a : ℕ) → c.loop-i.at ≤ a → a < c.place_from-at.result → get_or ks a 0 < x.0)
+          c.cells-cells.ensures.cells c.place_from-at.ensures.passed));
       same = λ k l. elim (cases_lt k i) [
         | inl u ↦ c.loop-i.invariant.same k u
         | inr u ↦

@@ -18,7 +18,8 @@ count_same-same-requires-clause-shaped c =
     let j : ℕ = c.loop-j.j in
     let inside : j < length below = omega arith in
     subst (λ l. AreShaped l (get_or below j (0, 0)).1 left) (sym c.line.ensures)
-    (rows-shaped c.args.b.now left below c.live-cells.ensures.sound c.requires.left_sized c.requires.below_sized j (0, 0) inside)
+    (rows-shaped c.args.b.now left below c.live-cells.ensures.sound c.requires.left_sized c.requires.below_sized j
+    (0, 0) inside)
 
 pub count_same-same-requires-clause-rows : goal.count_same-same-requires-clause-rows
 count_same-same-requires-clause-rows c =
@@ -48,25 +49,31 @@ loop-j-preserved c =
     let line_is = c.line.ensures in
     let row_is = c.loop-j.invariant.row in
     let are : (i : ℕ) → i < same → Same i j = λ i l.
-    subst (λ r. IsSamePart (line_of v.rows x.0) left A r x.1 i) row_is (subst (λ m. IsSamePart m left A c.loop-j.row x.1 i) line_is (c.count_same-same.ensures.same i l)) in
+    subst (λ r. IsSamePart (line_of v.rows x.0) left A r x.1 i) row_is
+    (subst (λ m. IsSamePart m left A c.loop-j.row x.1 i) line_is (c.count_same-same.ensures.same i l)) in
     record {
       row = omega (arith, row_is, width-next below j inside);
       first = elim c.if-same-end.branch [
         | then-same-end w ↦ subst (IsEarliest Same (length left) (j + 1) same) (sym w.at-is)
-            (earliest-less Same (length left) j c.loop-j.end c.loop-j.at same c.loop-j.invariant.first w.if-same-end.true are
+            (earliest-less Same (length left) j c.loop-j.end c.loop-j.at same c.loop-j.invariant.first
+            w.if-same-end.true are
             (λ h. c.count_same-same.ensures.other w.if-same-end.true
-            (subst (λ m. IsSamePart m left A c.loop-j.row x.1 same) (sym line_is) (subst (λ r. IsSamePart (line_of v.rows x.0) left A r x.1 same) (sym row_is) h))))
+            (subst (λ m. IsSamePart m left A c.loop-j.row x.1 same) (sym line_is)
+            (subst (λ r. IsSamePart (line_of v.rows x.0) left A r x.1 same) (sym row_is) h))))
         | else-same-end w ↦ subst (IsEarliest Same (length left) (j + 1) same) (sym w.at-is)
-            (earliest-kept Same (length left) j c.loop-j.end c.loop-j.at same c.loop-j.invariant.first (omega (arith, c.count_same-same.ensures.within, w.if-same-end.false)) are)
+            (earliest-kept Same (length left) j c.loop-j.end c.loop-j.at same c.loop-j.invariant.first
+            (omega (arith, c.count_same-same.ensures.within, w.if-same-end.false)) are)
       ];
     }
 
 pub returns-then-end-left : goal.returns-then-end-left
 returns-then-end-left c =
-    first-other c.args.b.now c.args.left.now c.args.below.now (matrix_of c.args.joined.now) c.requires.left_rises c.requires.below_rises c.requires.left_sized c.requires.below_sized
+    first-other c.args.b.now c.args.left.now c.args.below.now (matrix_of c.args.joined.now) c.requires.left_rises
+    c.requires.below_rises c.requires.left_sized c.requires.below_sized
     c.loop-j.j c.loop-j.end c.loop-j.at c.loop-j.invariant.first (omega arith) (omega arith) c.if-end-left.true
 
 pub returns-else-end-left : goal.returns-else-end-left
 returns-else-end-left c =
-    no-other c.args.b.now c.args.left.now c.args.below.now (matrix_of c.args.joined.now) c.requires.left_rises c.requires.below_rises c.requires.left_sized c.requires.below_sized
+    no-other c.args.b.now c.args.left.now c.args.below.now (matrix_of c.args.joined.now) c.requires.left_rises
+    c.requires.below_rises c.requires.left_sized c.requires.below_sized
     c.loop-j.j c.loop-j.end c.loop-j.at c.loop-j.invariant.first (omega arith) c.if-end-left.false

@@ -10,13 +10,22 @@ pub total-cols-requires : goal.total-cols-requires
 total-cols-requires c =
     let v = c.args.b.now in
     let sound = c.live-cells.ensures.sound in
-    omega (arith, width-live v.live c.args.left.now sound.live_cells.rising c.requires.left_rises c.requires.left_sized, sound.live_cells.total)
+    omega (
+      arith,
+      width-live v.live c.args.left.now sound.live_cells.rising c.requires.left_rises c.requires.left_sized,
+      sound.live_cells.total,
+    )
 
 pub total-rows-requires : goal.total-rows-requires
 total-rows-requires c =
     let v = c.args.b.now in
     let sound = c.live-cells.ensures.sound in
-    omega (arith, width-live v.live c.args.below.now sound.live_cells.rising c.requires.below_rises c.requires.below_sized, sound.live_cells.total)
+    omega (
+      arith,
+      width-live v.live c.args.below.now sound.live_cells.rising c.requires.below_rises
+          c.requires.below_sized,
+      sound.live_cells.total,
+    )
 
 pub line-requires : goal.line-requires
 line-requires c = (c.requires.below_sized c.loop-cell.cell-index (0, 0) (omega arith)).0
@@ -28,7 +37,8 @@ push_rows-requires-clause-shaped c =
     let i : ℕ = c.loop-cell.cell-index in
     let inside : i < length below = omega arith in
     subst (λ l. AreShaped l (get_or below i (0, 0)).1 left) (sym c.line.ensures)
-    (rows-shaped c.args.b.now left below c.live-cells.ensures.sound c.requires.left_sized c.requires.below_sized i (0, 0) inside)
+    (rows-shaped c.args.b.now left below c.live-cells.ensures.sound c.requires.left_sized c.requires.below_sized i
+    (0, 0) inside)
 
 pub loop-cell-preserved : goal.loop-cell-preserved
 loop-cell-preserved c =
@@ -52,8 +62,20 @@ invariant_of-result c =
     let sound = c.live-cells.ensures.sound in
     let end : length below ≤ c.loop-cell.cell-index = omega arith in
     record {
-      rows_fit = omega (arith, c.total-rows.ensures, width-live v.live below sound.live_cells.rising c.requires.below_rises c.requires.below_sized, sound.live_cells.total);
-      cols_fit = omega (arith, c.total-cols.ensures, width-live v.live left sound.live_cells.rising c.requires.left_rises c.requires.left_sized, sound.live_cells.total);
+      rows_fit = omega (
+        arith,
+        c.total-rows.ensures,
+        width-live v.live below sound.live_cells.rising
+            c.requires.below_rises c.requires.below_sized,
+        sound.live_cells.total,
+      );
+      cols_fit = omega (
+        arith,
+        c.total-cols.ensures,
+        width-live v.live left sound.live_cells.rising
+            c.requires.left_rises c.requires.left_sized,
+        sound.live_cells.total,
+      );
       full = entries-full v left below sound c.requires.left_sized c.requires.below_sized c.loop-cell.entries
           (c.loop-cell.invariant ∙ ap (joined_entries v.rows left) (take_all c.loop-cell.cell-index below end))
           ∙ sym (ap₂ (λ m n. m * n) c.total-rows.ensures c.total-cols.ensures);
@@ -66,5 +88,6 @@ returns-clause-parts c =
     let left = c.args.left.now in
     let sound = c.live-cells.ensures.sound in
     let end : length below ≤ c.loop-cell.cell-index = omega arith in
-    joined-parts v left below sound c.requires.left_sized c.requires.below_sized c.total-rows.result c.total-cols.result c.loop-cell.entries c.total-rows.ensures c.total-cols.ensures
+    joined-parts v left below sound c.requires.left_sized c.requires.below_sized c.total-rows.result c.total-cols.result
+    c.loop-cell.entries c.total-rows.ensures c.total-cols.ensures
     (c.loop-cell.invariant ∙ ap (joined_entries v.rows left) (take_all c.loop-cell.cell-index below end))

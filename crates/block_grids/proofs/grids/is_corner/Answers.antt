@@ -10,4 +10,5 @@ is_same_at-requires-clause-width c = (c.requires.shaped c.in-Some.b.now (ap opti
 
 pub returns-in-None : goal.returns-in-None
 returns-in-None c =
-    zero-part (option_copied c.args.block) c.args.joined.now c.args.row c.args.height c.args.col c.args.width c.is_zero_at.result (ap option_copied c.in-None.is) c.requires.rows c.requires.cols c.is_zero_at.ensures
+    zero-part (option_copied c.args.block) c.args.joined.now c.args.row c.args.height c.args.col c.args.width
+    c.is_zero_at.result (ap option_copied c.in-None.is) c.requires.rows c.requires.cols c.is_zero_at.ensures

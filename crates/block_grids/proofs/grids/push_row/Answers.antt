@@ -18,8 +18,11 @@ loop-cell-preserved c =
           ∙ ap (λ e. e ++ piece x) c.loop-cell.invariant.entries
           ∙ append_assoc c.args.entries.now (joined_row line (take i left) c.args.k) (piece x)
           ∙ ap (λ e. c.args.entries.now ++ e) (sym (pieces-next piece left i (0, 0) inside));
-      within = subst (λ ks. c.place_from-at.result ≤ length ks) c.cells-cells.ensures.cells c.place_from-at.ensures.within;
+      within = subst (λ ks. c.place_from-at.result ≤ length ks) c.cells-cells.ensures.cells
+          c.place_from-at.ensures.within;
       passed = next-passed left line.cells c.place_from-at.result i c.requires.rising
-          (all-passed line.cells c.loop-cell.at c.place_from-at.result x.0 (λ a l. c.loop-cell.invariant.passed a l inside)
-          (subst (λ ks. (a : ℕ) → c.loop-cell.at ≤ a → a < c.place_from-at.result → get_or ks a 0 < x.0) c.cells-cells.ensures.cells c.place_from-at.ensures.passed));
+          (all-passed line.cells c.loop-cell.at c.place_from-at.result x.0
+          (λ a l. c.loop-cell.invariant.passed a l inside)
+          (subst (λ ks. (a : ℕ) → c.loop-cell.at ≤ a → a < c.place_from-at.result → get_or ks a 0 < x.0)
+          c.cells-cells.ensures.cells c.place_from-at.ensures.passed));
     }

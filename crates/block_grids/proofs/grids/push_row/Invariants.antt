@@ -6,5 +6,6 @@ abbrev pub invariant-loop-cell : goal.invariant-loop-cell
 invariant-loop-cell l = record {
   entries : l.entries ≡ l.initial.entries ++ joined_row l.line (take l.cell-index l.left) l.k;
   within : l.at ≤ length l.line.cells;
-  passed : (a : ℕ) → a < l.at → l.cell-index < length l.left → get_or l.line.cells a 0 < (get_or l.left l.cell-index (0, 0)).0;
+  passed : (a : ℕ) → a < l.at → l.cell-index < length l.left → get_or l.line.cells a 0
+      < (get_or l.left l.cell-index (0, 0)).0;
 }

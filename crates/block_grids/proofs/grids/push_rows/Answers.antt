@@ -4,7 +4,8 @@ use Rattle.block_grids.proofs.JoinLaws.{joined_rows-next, shaped-row}
 use Rattle.block_grids.proofs.grids.push_rows.Goals as goal
 
 pub push_row-requires-clause-row : goal.push_row-requires-clause-row
-push_row-requires-clause-row c = shaped-row c.args.line.now c.args.height c.loop-k.k c.args.left.now c.requires.shaped (omega arith)
+push_row-requires-clause-row c = shaped-row c.args.line.now c.args.height c.loop-k.k c.args.left.now c.requires.shaped
+    (omega arith)
 
 pub loop-k-preserved : goal.loop-k-preserved
 loop-k-preserved c =

@@ -2,22 +2,28 @@ use Rattle.std.proofs.Common.{◌≡◌, ◌≢◌, ◌<◌, ◌≤◌, ap, ◌�
 use Rattle.rising_lists.proofs.Keyed.{look-found, look-absent}
 use Rattle.block_grids.proofs.WalkLaws.{absent-from}
 use Rattle.block_grids.proofs.grids.value_at.Goals as goal
-use Rattle.block_grids.proofs.grids.value_at.Goals.{else-at-cells-via-then-at-cells+else-cells-at, else-at-cells-via-else-at-cells}
+use Rattle.block_grids.proofs.grids.value_at.Goals.{else-at-cells-via-then-at-cells+else-cells-at}
+use Rattle.block_grids.proofs.grids.value_at.Goals.{else-at-cells-via-else-at-cells}
 
 pub returns-then-cells-at : goal.returns-then-cells-at
 returns-then-cells-at c =
     let line = c.args.line.now in
     let is = c.cells-cells.ensures.cells in
-    sym (look-found line.cells line.values c.args.c c.args.at c.index-values-at.result c.cells-cells.ensures.line.full c.cells-cells.ensures.line.rising
-    (subst (λ ks. c.args.at < length ks) is c.if-at-cells.true) (subst (λ ks. get_or ks c.args.at 0 ≡ c.args.c) is c.if-cells-at.true)
+    sym (look-found line.cells line.values c.args.c c.args.at c.index-values-at.result c.cells-cells.ensures.line.full
+    c.cells-cells.ensures.line.rising
+    (subst (λ ks. c.args.at < length ks) is c.if-at-cells.true)
+    (subst (λ ks. get_or ks c.args.at 0 ≡ c.args.c) is c.if-cells-at.true)
     (c.index-values-at.is ∙ ap (λ vs. get_or vs c.args.at c.index-values-at.result) c.values.ensures.values))
 
 pub returns-else-at-cells : goal.returns-else-at-cells
 returns-else-at-cells c =
     let line = c.args.line.now in
     let is = c.cells-cells.ensures.cells in
-    sym (look-absent c.args.c line.cells line.values (absent-from line.cells c.args.at c.args.c c.cells-cells.ensures.line.rising c.requires.passed c.requires.here
+    sym (look-absent c.args.c line.cells line.values
+    (absent-from line.cells c.args.at c.args.c c.cells-cells.ensures.line.rising c.requires.passed c.requires.here
     (elim c.else-at-cells.branch [
-      | else-at-cells-via-then-at-cells+else-cells-at w ↦ λ l. subst (λ ks. get_or ks c.args.at 0 ≢ c.args.c) is w.if-cells-at.false
-      | else-at-cells-via-else-at-cells w ↦ λ l. absurd (let m = subst (λ ks. length ks ≤ c.args.at) is w.if-at-cells.false in omega arith)
+      | else-at-cells-via-then-at-cells+else-cells-at w ↦ λ l. subst (λ ks. get_or ks c.args.at 0 ≢ c.args.c) is
+          w.if-cells-at.false
+      | else-at-cells-via-else-at-cells w ↦ λ l.
+          absurd (let m = subst (λ ks. length ks ≤ c.args.at) is w.if-at-cells.false in omega arith)
     ])))

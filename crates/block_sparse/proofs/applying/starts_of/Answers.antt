@@ -11,7 +11,15 @@ overflow_add-start c =
     let live = c.args.live.now in
     let i : ℕ = c.loop-cell.cell-index in
     let inside : i < length live = omega arith in
-    omega (arith, c.loop-cell.invariant.start, c.size_at-start.ensures, start-next c.args.degree live i (0, 0, 0) inside, start-within c.args.degree live (i + 1), c.requires.total)
+    omega (
+      arith,
+      c.loop-cell.invariant.start,
+      c.size_at-start.ensures,
+      start-next c.args.degree live i (0, 0, 0)
+          inside,
+      start-within c.args.degree live (i + 1),
+      c.requires.total,
+    )
 
 pub loop-cell-preserved : goal.loop-cell-preserved
 loop-cell-preserved c =
@@ -21,11 +29,17 @@ loop-cell-preserved c =
     let old = c.loop-cell.places.items in
     let full : length old ≡ i = c.loop-cell.invariant.count in
     record {
-      start = omega (arith, c.loop-cell.invariant.start, c.size_at-start.ensures, start-next c.args.degree live i (0, 0, 0) inside);
+      start = omega (
+        arith,
+        c.loop-cell.invariant.start,
+        c.size_at-start.ensures,
+        start-next c.args.degree live i (0, 0, 0) inside,
+      );
       count = ap length c.in_ok-push.ensures.items ∙ omega (arith, length-append old (c.loop-cell.start ∷ []), full);
       each = λ j l. ap (λ ms. get_or ms j 0) c.in_ok-push.ensures.items
           ∙ elim (cases_lt j i) [
-            | inl u ↦ get_or_append_left old (c.loop-cell.start ∷ []) 0 j (omega (arith, u, full)) ∙ c.loop-cell.invariant.each j u
+            | inl u ↦ get_or_append_left old (c.loop-cell.start ∷ []) 0 j (omega (arith, u, full))
+                ∙ c.loop-cell.invariant.each j u
             | inr u ↦
                 let e : i ≡ j = omega arith in
                 get_or_push old c.loop-cell.start 0 j (omega (arith, full, e)) ∙ c.loop-cell.invariant.start

@@ -10,7 +10,14 @@ overflow_add-total c =
     let live = c.args.live.now in
     let i : ℕ = c.loop-cell.cell-index in
     let inside : i < length live = omega arith in
-    omega (arith, c.loop-cell.invariant, c.size_at-total.ensures, start-next c.args.degree live i (0, 0, 0) inside, start-within c.args.degree live (i + 1), c.requires.total)
+    omega (
+      arith,
+      c.loop-cell.invariant,
+      c.size_at-total.ensures,
+      start-next c.args.degree live i (0, 0, 0) inside,
+      start-within c.args.degree live (i + 1),
+      c.requires.total,
+    )
 
 pub loop-cell-preserved : goal.loop-cell-preserved
 loop-cell-preserved c =

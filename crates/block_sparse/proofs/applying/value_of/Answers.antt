@@ -13,10 +13,12 @@ part-requires c =
     let places = c.args.starts.now.places.items in
     let i : ℕ = c.unwrap-at.result in
     let found = rw c.unwrap-at.ensures at c.find.ensures in
-    let degree : (get_or live i (0, 0, 0)).1 ≡ k = sym (of_cell-at (λ l. l.1) live i c.args.s c.requires.live_cells.rising found.0 found.1) ∙ c.requires.degree in
+    let degree : (get_or live i (0, 0, 0)).1 ≡ k =
+    sym (of_cell-at (λ l. l.1) live i c.args.s c.requires.live_cells.rising found.0 found.1) ∙ c.requires.degree in
     let inside : i < length places = omega (arith, found.0, c.requires.starts.count) in
     let start : c.index.result.now ≡ total_size (of_degree k (take i live)) =
-    get_or_read_under places i (length places) c.index.result.now 0 c.index.ensures inside refl ∙ c.requires.starts.each i found.0 in
+    get_or_read_under places i (length places) c.index.result.now 0 c.index.ensures inside refl
+    ∙ c.requires.starts.each i found.0 in
     omega (arith, c.requires.size, value-within k live i found.0 degree, start)
 
 pub returns-clause-value : goal.returns-clause-value
@@ -26,10 +28,12 @@ returns-clause-value c =
     let places = c.args.starts.now.places.items in
     let i : ℕ = c.unwrap-at.result in
     let found = rw c.unwrap-at.ensures at c.find.ensures in
-    let degree : (get_or live i (0, 0, 0)).1 ≡ k = sym (of_cell-at (λ l. l.1) live i c.args.s c.requires.live_cells.rising found.0 found.1) ∙ c.requires.degree in
+    let degree : (get_or live i (0, 0, 0)).1 ≡ k =
+    sym (of_cell-at (λ l. l.1) live i c.args.s c.requires.live_cells.rising found.0 found.1) ∙ c.requires.degree in
     let inside : i < length places = omega (arith, found.0, c.requires.starts.count) in
     let start : c.index.result.now ≡ total_size (of_degree k (take i live)) =
-    get_or_read_under places i (length places) c.index.result.now 0 c.index.ensures inside refl ∙ c.requires.starts.each i found.0 in
+    get_or_read_under places i (length places) c.index.result.now 0 c.index.ensures inside refl
+    ∙ c.requires.starts.each i found.0 in
     c.part.ensures.part
     ∙ ap (λ n. take (get_or live i (0, 0, 0)).2 (drop n c.args.z.now)) start
     ∙ sym (value-place k live c.args.z.now i c.requires.live_cells.rising found.0 degree)
@@ -38,4 +42,5 @@ returns-clause-value c =
 pub returns-clause-size : goal.returns-clause-size
 returns-clause-size c =
     let found = rw c.unwrap-at.ensures at c.find.ensures in
-    c.part.ensures.size ∙ sym (of_cell-at (λ l. l.2) c.args.live.now c.unwrap-at.result c.args.s c.requires.live_cells.rising found.0 found.1)
+    c.part.ensures.size ∙ sym (of_cell-at (λ l. l.2) c.args.live.now c.unwrap-at.result c.args.s
+    c.requires.live_cells.rising found.0 found.1)

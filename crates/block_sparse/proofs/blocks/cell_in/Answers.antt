@@ -10,7 +10,8 @@ returns-in-Some c =
     let live = c.args.live.now in
     let i = c.in-Some.at in
     let h = c.in-Some.ensures in (
-      ap (λ k. has k (cells live)) (sym (cell-at live i h.0 ∙ h.1)) ∙ has-at (cells live) i (omega (arith, h.0, length-cells live)),
+      ap (λ k. has k (cells live)) (sym (cell-at live i h.0 ∙ h.1))
+          ∙ has-at (cells live) i (omega (arith, h.0, length-cells live)),
       of_cell-at (λ l. l.1) live i c.args.c c.requires h.0 h.1,
       of_cell-at (λ l. l.2) live i c.args.c c.requires h.0 h.1,
     )

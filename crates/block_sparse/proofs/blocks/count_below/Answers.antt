@@ -12,7 +12,13 @@ loop-low-preserved-then-live-middle c =
     record {
       order = omega arith;
       within = c.loop-low.invariant.within;
-      below = λ i l. omega (arith, rising_le (cells live) c.requires i middle (omega arith) (omega (arith, inside, length-cells live)), cell-at live middle inside, c.if-live-middle.true);
+      below = λ i l. omega (
+        arith,
+        rising_le (cells live) c.requires i middle (omega arith)
+            (omega (arith, inside, length-cells live)),
+        cell-at live middle inside,
+        c.if-live-middle.true,
+      );
       from = c.loop-low.invariant.from;
     }
 
@@ -25,5 +31,10 @@ loop-low-preserved c =
       order = omega arith;
       within = omega (arith, inside);
       below = c.loop-low.invariant.below;
-      from = λ i l m. omega (arith, rising_le (cells live) c.requires middle i l (omega (arith, m, length-cells live)), cell-at live middle inside, c.if-live-middle.false);
+      from = λ i l m. omega (
+        arith,
+        rising_le (cells live) c.requires middle i l (omega (arith, m, length-cells live)),
+        cell-at live middle inside,
+        c.if-live-middle.false,
+      );
     }

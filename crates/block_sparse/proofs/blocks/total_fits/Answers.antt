@@ -7,11 +7,24 @@ loop-cell-preserved c =
     let live = c.args.live.now in
     let i : ℕ = c.loop-cell.cell-index in
     let inside : i < length live = omega arith in
-    record { total = omega (arith, total-next live i inside, c.loop-cell.invariant.total); most = omega (arith, c.loop-cell.invariant.most) }
+    record {
+      total = omega (arith, total-next live i inside, c.loop-cell.invariant.total);
+      most =
+          omega (arith, c.loop-cell.invariant.most);
+    }
 
 pub returns-then-size-total : goal.returns-then-size-total
 returns-then-size-total c =
     let live = c.args.live.now in
     let i : ℕ = c.loop-cell.cell-index in
-    let inside : i < length live = omega arith in
-    (λ h. let e : false ≡ true = h in cc, λ h. absurd (omega (arith, total-next live i inside, total-take live (i + 1), c.loop-cell.invariant.total, c.loop-cell.invariant.most)))
+    let inside : i < length live = omega arith in (
+      λ h. let e : false ≡ true = h in cc,
+      λ h.
+          absurd (omega (
+            arith,
+            total-next live i inside,
+            total-take live (i + 1),
+            c.loop-cell.invariant.total,
+            c.loop-cell.invariant.most,
+          )),
+    )

@@ -14,7 +14,9 @@ returns-then-not-is_but_or_listed c =
     let k : ℕ = c.loop-cell.cell-index in (
       λ h. let e : false ≡ true = h in cc,
       λ h.
-          let passed : c.is_but_or_listed.result ≡ true = c.is_but_or_listed.ensures.1 (h (get_or c.args.cells.now k 0) (has-at c.args.cells.now k (omega arith))) in
+          let passed : c.is_but_or_listed.result ≡ true =
+          c.is_but_or_listed.ensures.1 (h (get_or c.args.cells.now k 0) (has-at c.args.cells.now k (omega arith)))
+          in
           cc,
     )
 
@@ -22,6 +24,7 @@ pub returns : goal.returns
 returns c = (
   λ e q h ne.
       let p = place_of c.args.cells.now q h in
-      ap (λ x. has x (keys c.args.listed.now)) (sym p.is) ∙ c.loop-cell.invariant p.at (omega (arith, p.inside)) (λ f. ne (sym p.is ∙ f)),
+      ap (λ x. has x (keys c.args.listed.now)) (sym p.is) ∙ c.loop-cell.invariant p.at (omega (arith, p.inside))
+      (λ f. ne (sym p.is ∙ f)),
   λ h. refl,
 )

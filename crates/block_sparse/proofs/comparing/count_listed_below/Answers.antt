@@ -12,7 +12,13 @@ loop-low-preserved-then-listed-middle c =
     record {
       order = omega arith;
       within = c.loop-low.invariant.within;
-      below = λ i l. omega (arith, rising_le (keys listed) c.requires i middle (omega arith) (omega (arith, inside, length-map listed (λ s. s.0))), get_or-map (λ s. s.0) listed middle (0, 0) 0 inside, c.if-listed-middle.true);
+      below = λ i l. omega (
+        arith,
+        rising_le (keys listed) c.requires i middle (omega arith)
+            (omega (arith, inside, length-map listed (λ s. s.0))),
+        get_or-map (λ s. s.0) listed middle (0, 0) 0 inside,
+        c.if-listed-middle.true,
+      );
       from = c.loop-low.invariant.from;
     }
 
@@ -25,5 +31,11 @@ loop-low-preserved c =
       order = omega arith;
       within = omega (arith, inside);
       below = c.loop-low.invariant.below;
-      from = λ i l m. omega (arith, rising_le (keys listed) c.requires middle i l (omega (arith, m, length-map listed (λ s. s.0))), get_or-map (λ s. s.0) listed middle (0, 0) 0 inside, c.if-listed-middle.false);
+      from = λ i l m. omega (
+        arith,
+        rising_le (keys listed) c.requires middle i l
+            (omega (arith, m, length-map listed (λ s. s.0))),
+        get_or-map (λ s. s.0) listed middle (0, 0) 0 inside,
+        c.if-listed-middle.false,
+      );
     }

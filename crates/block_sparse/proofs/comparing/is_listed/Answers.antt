@@ -12,4 +12,5 @@ pub returns-else-at-listed : goal.returns-else-at-listed
 returns-else-at-listed c =
     let at = c.count_listed_below-at in
     le-ltb _ _ c.if-at-listed.false
-    ∙ sym (listed-absent c.args.listed.now c.args.c at.result c.requires at.ensures.below at.ensures.from (λ l. absurd (omega (arith, l, c.if-at-listed.false))))
+    ∙ sym (listed-absent c.args.listed.now c.args.c at.result c.requires at.ensures.below at.ensures.from
+    (λ l. absurd (omega (arith, l, c.if-at-listed.false))))

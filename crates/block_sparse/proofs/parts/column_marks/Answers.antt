@@ -15,7 +15,13 @@ mark-requires-clause-rows c =
 pub overflow_add-row : goal.overflow_add-row
 overflow_add-row c =
     let inside : c.loop-j.j < length c.args.below.now = omega arith in
-    omega (arith, c.loop-j.invariant.row, width-within c.args.below.now c.loop-j.j inside, c.requires.rows, c.args.joined.now.rows_fit)
+    omega (
+      arith,
+      c.loop-j.invariant.row,
+      width-within c.args.below.now c.loop-j.j inside,
+      c.requires.rows,
+      c.args.joined.now.rows_fit,
+    )
 
 pub loop-j-preserved : goal.loop-j-preserved
 loop-j-preserved c =
@@ -35,7 +41,9 @@ loop-j-preserved c =
             | inr u ↦
                 let e : j ≡ k = omega arith in
                 get_or_push old new None k (omega (arith, full, e)) ∙ c.mark.ensures
-                ∙ ap (λ n. mark_of (get_or below j (0, 0)).1 c.args.size (window n (get_or below j (0, 0)).1 c.args.col c.args.size A)) c.loop-j.invariant.row
-                ∙ ap (λ n. mark_of (get_or below n (0, 0)).1 c.args.size (window (width (take n below)) (get_or below n (0, 0)).1 c.args.col c.args.size A)) e
+                ∙ ap (λ n. mark_of (get_or below j (0, 0)).1 c.args.size
+                (window n (get_or below j (0, 0)).1 c.args.col c.args.size A)) c.loop-j.invariant.row
+                ∙ ap (λ n. mark_of (get_or below n (0, 0)).1 c.args.size
+                (window (width (take n below)) (get_or below n (0, 0)).1 c.args.col c.args.size A)) e
           ];
     }

@@ -9,5 +9,6 @@ invariant-loop-j l = record {
   count : length l.marks.items ≡ l.j;
   row : l.row ≡ width (take l.j l.below);
   marks : (k : ℕ) → k < l.j → get_or l.marks.items k None
-      ≡ mark_of (get_or l.below k (0, 0)).1 l.size (window (width (take k l.below)) (get_or l.below k (0, 0)).1 l.col l.size (matrix_of l.joined));
+      ≡ mark_of (get_or l.below k (0, 0)).1 l.size (window (width (take k l.below)) (get_or l.below k (0, 0)).1 l.col
+      l.size (matrix_of l.joined));
 }

@@ -8,7 +8,8 @@ use Rattle.block_sparse.proofs.Windows.{window-next, sized-window, sized-cut}
 use Rattle.block_sparse.proofs.parts.cut.Goals as goal
 
 pub loop-i-init : goal.loop-i-init
-loop-i-init c = c.in_ok-entries.ensures ∙ sym (first_rows-none (window c.args.row c.args.height c.args.col c.args.width (matrix_of c.args.joined.now)))
+loop-i-init c = c.in_ok-entries.ensures
+    ∙ sym (first_rows-none (window c.args.row c.args.height c.args.col c.args.width (matrix_of c.args.joined.now)))
 
 pub loop-i-preserved : goal.loop-i-preserved
 loop-i-preserved c =
@@ -25,7 +26,8 @@ invariant_of-result-clause-full c =
     let W = window c.args.row c.args.height c.args.col c.args.width (matrix_of b) in
     let done : c.loop-i.i ≡ c.args.height = omega arith in
     first_rows-size c.args.height c.args.width c.loop-i.i W c.loop-i.entries
-    (sized-window c.args.row c.args.height c.args.col c.args.width b.rows b.cols (matrix_of b) sized c.requires.rows c.requires.cols) done c.loop-i.invariant
+    (sized-window c.args.row c.args.height c.args.col c.args.width b.rows b.cols (matrix_of b) sized c.requires.rows
+    c.requires.cols) done c.loop-i.invariant
     ∙ ap₂ ◌*◌ (search rules) (search rules)
 
 pub returns : goal.returns
@@ -39,5 +41,6 @@ returns c =
       columns_are = search rules;
       matrix_is = ap₂ (λ m n. cut m n c.loop-i.entries) (search rules) (search rules)
           ∙ cut-first_rows c.args.height c.args.width c.loop-i.i W c.loop-i.entries
-          (sized-window c.args.row c.args.height c.args.col c.args.width b.rows b.cols (matrix_of b) sized c.requires.rows c.requires.cols) done c.loop-i.invariant;
+          (sized-window c.args.row c.args.height c.args.col c.args.width b.rows b.cols (matrix_of b) sized
+          c.requires.rows c.requires.cols) done c.loop-i.invariant;
     }

@@ -1,4 +1,5 @@
-use Rattle.std.proofs.Common.{◌≡◌, ◌<◌, ◌≤◌, ◌+◌, ap, ◌∙◌, sym, refl, true, false, length, get_or, [], arith, below_more, rules}
+use Rattle.std.proofs.Common.{◌≡◌, ◌<◌, ◌≤◌, ◌+◌, ap, ◌∙◌, sym, refl, true, false, length, get_or, [], arith}
+use Rattle.std.proofs.Common.{below_more, rules}
 use Rattle.dense_blocks.specs.Blocks.{matrix_of}
 use Rattle.dense_blocks.proofs.BlockLaws.{block-size}
 use Rattle.block_sparse.specs.Grids.{window}
@@ -13,7 +14,8 @@ loop-i-preserved c =
     let inside : c.loop-i.i < c.args.height = omega arith in
     let passed : c.same_entries.result ≡ true = search rules in
     below_more _ _ c.loop-i.invariant
-    (sym c.row.ensures.row ∙ c.same_entries.ensures.0 passed ∙ c.row_part.ensures ∙ sym (window-row c.args.row c.args.height c.args.col c.args.width A c.loop-i.i size inside))
+    (sym c.row.ensures.row ∙ c.same_entries.ensures.0 passed ∙ c.row_part.ensures
+    ∙ sym (window-row c.args.row c.args.height c.args.col c.args.width A c.loop-i.i size inside))
 
 pub returns-then-not-same_entries : goal.returns-then-not-same_entries
 returns-then-not-same_entries c =
@@ -24,7 +26,8 @@ returns-then-not-same_entries c =
       λ h. let e : false ≡ true = h in cc,
       λ h.
           let passed : c.same_entries.result ≡ true = c.same_entries.ensures.1
-          (c.row.ensures.row ∙ ap (λ M. get_or M c.loop-i.i []) h ∙ window-row c.args.row c.args.height c.args.col c.args.width A c.loop-i.i size inside ∙ sym c.row_part.ensures) in
+          (c.row.ensures.row ∙ ap (λ M. get_or M c.loop-i.i []) h ∙ window-row c.args.row c.args.height c.args.col
+          c.args.width A c.loop-i.i size inside ∙ sym c.row_part.ensures) in
           cc,
     )
 
@@ -34,7 +37,8 @@ returns c =
     let size : c.args.row + c.args.height ≤ length A = omega (arith, block-size c.args.joined.now, c.requires.rows) in
     let W = window c.args.row c.args.height c.args.col c.args.width A in
     let count : length (matrix_of c.args.b.now) ≡ c.args.height = block-size c.args.b.now ∙ c.requires.height in (
-      λ h. rows-same (matrix_of c.args.b.now) W (count ∙ sym (window-size c.args.row c.args.height c.args.col c.args.width A size))
+      λ h. rows-same (matrix_of c.args.b.now) W
+          (count ∙ sym (window-size c.args.row c.args.height c.args.col c.args.width A size))
           (λ k l. c.loop-i.invariant k (omega (arith, l, count))),
       λ h. refl,
     )

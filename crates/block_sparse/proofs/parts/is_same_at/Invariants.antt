@@ -4,4 +4,5 @@ use Rattle.block_sparse.specs.Grids.{window}
 use Rattle.block_sparse.proofs.parts.is_same_at.Given as goal
 
 abbrev pub invariant-loop-i : goal.invariant-loop-i
-invariant-loop-i l = (k : ℕ) → k < l.i → get_or (matrix_of l.b) k [] ≡ get_or (window l.row l.height l.col l.width (matrix_of l.joined)) k []
+invariant-loop-i l = (k : ℕ) → k < l.i → get_or (matrix_of l.b) k []
+    ≡ get_or (window l.row l.height l.col l.width (matrix_of l.joined)) k []

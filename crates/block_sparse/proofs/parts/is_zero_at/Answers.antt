@@ -13,7 +13,8 @@ loop-i-preserved c =
     let inside : c.loop-i.i < c.args.height = omega arith in
     let passed : c.all_zero.result ≡ true = search rules in
     below_more _ _ c.loop-i.invariant
-    (ap (list_all (λ a. eqb a 0)) (window-row c.args.row c.args.height c.args.col c.args.width A c.loop-i.i size inside ∙ sym c.row_part.ensures) ∙ sym c.all_zero.ensures ∙ passed)
+    (ap (list_all (λ a. eqb a 0)) (window-row c.args.row c.args.height c.args.col c.args.width A c.loop-i.i size inside
+    ∙ sym c.row_part.ensures) ∙ sym c.all_zero.ensures ∙ passed)
 
 pub returns-then-not-all_zero : goal.returns-then-not-all_zero
 returns-then-not-all_zero c =
@@ -22,12 +23,15 @@ returns-then-not-all_zero c =
     let inside : c.loop-i.i < c.args.height = omega arith in
     let failed : c.all_zero.result ≡ false = search rules in
     let W = window c.args.row c.args.height c.args.col c.args.width A in
-    sym (not_zero-by_row W c.loop-i.i (omega (arith, inside, window-size c.args.row c.args.height c.args.col c.args.width A size))
-    (ap (list_all (λ a. eqb a 0)) (window-row c.args.row c.args.height c.args.col c.args.width A c.loop-i.i size inside ∙ sym c.row_part.ensures) ∙ sym c.all_zero.ensures ∙ failed))
+    sym (not_zero-by_row W c.loop-i.i
+    (omega (arith, inside, window-size c.args.row c.args.height c.args.col c.args.width A size))
+    (ap (list_all (λ a. eqb a 0)) (window-row c.args.row c.args.height c.args.col c.args.width A c.loop-i.i size inside
+    ∙ sym c.row_part.ensures) ∙ sym c.all_zero.ensures ∙ failed))
 
 pub returns : goal.returns
 returns c =
     let A = matrix_of c.args.joined.now in
     let size : c.args.row + c.args.height ≤ length A = omega (arith, block-size c.args.joined.now, c.requires.rows) in
     let W = window c.args.row c.args.height c.args.col c.args.width A in
-    sym (zero-by_rows W (λ k l. c.loop-i.invariant k (omega (arith, l, window-size c.args.row c.args.height c.args.col c.args.width A size))))
+    sym (zero-by_rows W (λ k l.
+    c.loop-i.invariant k (omega (arith, l, window-size c.args.row c.args.height c.args.col c.args.width A size))))

@@ -5,4 +5,5 @@ use Rattle.block_sparse.specs.Grids.{window}
 use Rattle.block_sparse.proofs.parts.is_zero_at.Given as goal
 
 abbrev pub invariant-loop-i : goal.invariant-loop-i
-invariant-loop-i l = (k : ℕ) → k < l.i → list_all (λ a. eqb a 0) (get_or (window l.row l.height l.col l.width (matrix_of l.joined)) k []) ≡ true
+invariant-loop-i l = (k : ℕ) → k < l.i
+    → list_all (λ a. eqb a 0) (get_or (window l.row l.height l.col l.width (matrix_of l.joined)) k []) ≡ true

@@ -9,5 +9,6 @@ loop-cell-preserved c =
     let dims = c.args.dims.now in
     let stalks = c.args.stalks.now in
     let i = c.loop-cell.cell in
-    ap (λ live. live ++ with_stalks (numbered_cells (i + 1) (drop (i + 1) dims) (drop (i + 1) stalks))) c.in_ok-push_live.ensures
+    ap (λ live. live ++ with_stalks (numbered_cells (i + 1) (drop (i + 1) dims) (drop (i + 1) stalks)))
+    c.in_ok-push_live.ensures
     ∙ with_stalks-next i dims stalks c.loop-cell.live.items _ c.requires.one_each (omega arith) c.loop-cell.invariant

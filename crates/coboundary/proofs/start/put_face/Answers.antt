@@ -16,10 +16,13 @@ returns-then-len-eq0-clause-next g c =
     let K = g.F.Scalars.ops d.field in
     let f = c.face_at-face.result in
     let b = c.index-as_slice-place.result in
-    let next = next_face g.F.Scalars.ops _ d c.args.place f b c.as_slice.result.now c.draft.view_is c.draft.invariant c.face_at-face.ensures c.as_slice.ensures
+    let next = next_face g.F.Scalars.ops _ d c.args.place f b c.as_slice.result.now c.draft.view_is c.draft.invariant
+    c.face_at-face.ensures c.as_slice.ensures
     c.index-as_slice-place.is c.requires.face in
-    first-put-empty K d.complex d.blocks c.args.place f b c.requires.complex.apart next.face_is next.block_is (block_at c.args.blocks.now) c.requires.first
-    (next-as_block K (g.met.F.Scalars.is_field d.field) d c.requires.complex c.args.place f b next (sym c.len.ensures ∙ c.if-len-eq0.true))
+    first-put-empty K d.complex d.blocks c.args.place f b c.requires.complex.apart next.face_is next.block_is
+    (block_at c.args.blocks.now) c.requires.first
+    (next-as_block K (g.met.F.Scalars.is_field d.field) d c.requires.complex c.args.place f b next (sym c.len.ensures
+    ∙ c.if-len-eq0.true))
 
 pub put-requires : goal.put-requires
 put-requires g c =
@@ -27,9 +30,11 @@ put-requires g c =
     let K = g.F.Scalars.ops d.field in
     let f = c.face_at-face.result in
     let b = c.index-as_slice-place.result in
-    let next = next_face g.F.Scalars.ops _ d c.args.place f b c.as_slice.result.now c.draft.view_is c.draft.invariant c.face_at-face.ensures c.as_slice.ensures
+    let next = next_face g.F.Scalars.ops _ d c.args.place f b c.as_slice.result.now c.draft.view_is c.draft.invariant
+    c.face_at-face.ensures c.as_slice.ensures
     c.index-as_slice-place.is c.requires.face in
-    let is = subst (λ (x : SheafData g.row.F.Denot). IsBlock c.in_ok-block.block b.rows b.cols (signed_matrix (g.F.Scalars.ops x.field) f.sign (matrix_of b)))
+    let is = subst (λ (x : SheafData g.row.F.Denot). IsBlock c.in_ok-block.block b.rows b.cols
+    (signed_matrix (g.F.Scalars.ops x.field) f.sign (matrix_of b)))
     c.draft.view_is c.in_ok-block.ensures in
     subst (λ live. FitsPair live f.s f.t c.in_ok-block.block) (sym c.requires.live)
     (next-fits K (g.met.F.Scalars.is_field d.field) d c.requires.complex c.args.place f b next c.in_ok-block.block is
@@ -41,14 +46,17 @@ returns-clause-next g c =
     let K = g.F.Scalars.ops d.field in
     let f = c.face_at-face.result in
     let b = c.index-as_slice-place.result in
-    let next = next_face g.F.Scalars.ops _ d c.args.place f b c.as_slice.result.now c.draft.view_is c.draft.invariant c.face_at-face.ensures c.as_slice.ensures
+    let next = next_face g.F.Scalars.ops _ d c.args.place f b c.as_slice.result.now c.draft.view_is c.draft.invariant
+    c.face_at-face.ensures c.as_slice.ensures
     c.index-as_slice-place.is c.requires.face in
-    let is = subst (λ (x : SheafData g.row.F.Denot). IsBlock c.in_ok-block.block b.rows b.cols (signed_matrix (g.F.Scalars.ops x.field) f.sign (matrix_of b)))
+    let is = subst (λ (x : SheafData g.row.F.Denot). IsBlock c.in_ok-block.block b.rows b.cols
+    (signed_matrix (g.F.Scalars.ops x.field) f.sign (matrix_of b)))
     c.draft.view_is c.in_ok-block.ensures in
     let new = block_at c.put.new.blocks in
     let old = block_at c.args.blocks.now in
     on_ok_weaker c.put.result
     (λ (put : (s t : ℕ) → new s t ≡ with_block old f.s f.t (matrix_of c.in_ok-block.block) s t).
-    first-put-more K d.complex d.blocks c.args.place f b c.requires.complex.apart next.face_is next.block_is old c.requires.first new
+    first-put-more K d.complex d.blocks c.args.place f b c.requires.complex.apart next.face_is next.block_is old
+    c.requires.first new
     (λ s t. put s t ∙ ap (λ A. with_block old f.s f.t A s t) is.matrix_is))
     c.put.ensures.held

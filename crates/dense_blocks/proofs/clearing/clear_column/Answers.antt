@@ -18,10 +18,14 @@ returns-then-not-raise g c =
     let above : List ℕ = c.split_at_mut-above.result.0.now in
     let pivot : List ℕ = c.split_at_mut-pivot.result.0.now in
     let below : List ℕ = c.split_at_mut-pivot.result.1.now in
-    let is : c.args.rows.now ≡ above ++ (pivot ++ below) = c.split_at_mut-above.ensures.value ∙ ap (λ t. above ++ t) c.split_at_mut-pivot.ensures.value in (
-      ap (λ p. cut c.args.size (2 * c.args.size) (above ++ (p ++ below))) c.if-not-raise.ensures.0 ∙ ap (cut c.args.size (2 * c.args.size)) (sym is),
-      column-stuck (g.F.Scalars.ops c.args.f.now) c.args.size c.args.column c.args.rows.now above pivot below c.requires.column is
-          c.split_at_mut-above.ensures.front_len c.split_at_mut-pivot.ensures.front_len c.if-not-raise.ensures.1 c.if-not-raise.ensures.2,
+    let is : c.args.rows.now ≡ above ++ (pivot ++ below) = c.split_at_mut-above.ensures.value
+    ∙ ap (λ t. above ++ t) c.split_at_mut-pivot.ensures.value in (
+      ap (λ p. cut c.args.size (2 * c.args.size) (above ++ (p ++ below))) c.if-not-raise.ensures.0
+          ∙ ap (cut c.args.size (2 * c.args.size)) (sym is),
+      column-stuck (g.F.Scalars.ops c.args.f.now) c.args.size c.args.column c.args.rows.now above pivot below
+          c.requires.column is
+          c.split_at_mut-above.ensures.front_len c.split_at_mut-pivot.ensures.front_len c.if-not-raise.ensures.1
+          c.if-not-raise.ensures.2,
     )
 
 pub clear_rows-requires-2-clause-full : goal.clear_rows-requires-2-clause-full
@@ -41,8 +45,10 @@ returns g c =
     let above : List ℕ = c.split_at_mut-above.result.0.now in
     let pivot : List ℕ = c.split_at_mut-pivot.result.0.now in
     let below : List ℕ = c.split_at_mut-pivot.result.1.now in
-    column-written K h c.args.size c.args.column c.args.rows.now above pivot below c.raise.new.pivot c.scale.new.target c.clear_rows.new.rows c.clear_rows-2.new.rows
+    column-written K h c.args.size c.args.column c.args.rows.now above pivot below c.raise.new.pivot c.scale.new.target
+    c.clear_rows.new.rows c.clear_rows-2.new.rows
     c.inv-inverse.result c.requires.column c.requires.full c.requires.scalars
     (c.split_at_mut-above.ensures.value ∙ ap (λ t. above ++ t) c.split_at_mut-pivot.ensures.value)
     c.split_at_mut-above.ensures.front_len c.split_at_mut-pivot.ensures.front_len
-    c.if-not-raise.ensures c.inv-inverse.ensures c.scale.ensures.product c.clear_rows.ensures c.clear_rows-2.ensures c.clear_rows.auto.rows
+    c.if-not-raise.ensures c.inv-inverse.ensures c.scale.ensures.product c.clear_rows.ensures c.clear_rows-2.ensures
+    c.clear_rows.auto.rows

@@ -7,7 +7,8 @@ use Rattle.dense_blocks.proofs.ClearingRows.{clears_rows-start, clears_rows-next
 use Rattle.dense_blocks.proofs.clearing.clear_rows.Goals as goal
 
 pub loop-i-init : goal.loop-i-init
-loop-i-init g c = clears_rows-start (g.F.Scalars.ops c.args.f.now) c.args.column c.args.pivot.now c.args.count c.args.rows.now c.requires.row_scalars
+loop-i-init g c = clears_rows-start (g.F.Scalars.ops c.args.f.now) c.args.column c.args.pivot.now c.args.count
+    c.args.rows.now c.requires.row_scalars
 
 pub neg-less-requires : goal.neg-less-requires
 neg-less-requires g c =
@@ -16,15 +17,21 @@ neg-less-requires g c =
     let start : ℕ = c.loop-i.i * n in
     let row : List ℕ = take ((start + n) - start) (drop start c.loop-i.rows) in
     All-get_or (λ a. a < K.order) row c.args.column 0
-    (omega (arith, next_row-size c.args.count n c.loop-i.i c.loop-i.rows c.loop-i-test.true (c.loop-i.auto.rows ∙ c.requires.full)))
-    (All-take (λ a. a < K.order) ((start + n) - start) (drop start c.loop-i.rows) (All-drop (λ a. a < K.order) start c.loop-i.rows c.loop-i.invariant.scalars))
+    (omega (
+      arith,
+      next_row-size c.args.count n c.loop-i.i c.loop-i.rows c.loop-i-test.true (c.loop-i.auto.rows
+          ∙ c.requires.full),
+    ))
+    (All-take (λ a. a < K.order) ((start + n) - start) (drop start c.loop-i.rows)
+    (All-drop (λ a. a < K.order) start c.loop-i.rows c.loop-i.invariant.scalars))
 
 pub add_scaled-requires-clause-target_scalars : goal.add_scaled-requires-clause-target_scalars
 add_scaled-requires-clause-target_scalars g c =
     let K : Ops = g.F.Scalars.ops c.args.f.now in
     let n : ℕ = length c.args.pivot.now in
     let start : ℕ = c.loop-i.i * n in
-    All-take (λ a. a < K.order) ((start + n) - start) (drop start c.loop-i.rows) (All-drop (λ a. a < K.order) start c.loop-i.rows c.loop-i.invariant.scalars)
+    All-take (λ a. a < K.order) ((start + n) - start) (drop start c.loop-i.rows)
+    (All-drop (λ a. a < K.order) start c.loop-i.rows c.loop-i.invariant.scalars)
 
 pub loop-i-preserved : goal.loop-i-preserved
 loop-i-preserved g c =
@@ -39,12 +46,15 @@ loop-i-preserved g c =
     let width : part ≡ n = omega arith in
     let cleared : c.add_scaled.new.target ≡ row_remainder K c.args.column pivot row =
     c.add_scaled.ensures.sum ∙ ap (λ k. plus K row (multiple K k pivot)) c.neg-less.ensures in
-    clears_rows-next K h c.args.column pivot c.args.count c.args.rows.now c.requires.full c.requires.pivot_scalars c.requires.row_scalars
-    c.loop-i.i now row (take start now ++ (c.add_scaled.new.target ++ drop part (drop start now))) c.loop-i-test.true c.loop-i.invariant
+    clears_rows-next K h c.args.column pivot c.args.count c.args.rows.now c.requires.full c.requires.pivot_scalars
+    c.requires.row_scalars
+    c.loop-i.i now row (take start now ++ (c.add_scaled.new.target ++ drop part (drop start now))) c.loop-i-test.true
+    c.loop-i.invariant
     (ap (λ k. take k (drop start now)) width)
     (ap₂ (λ r k. take start now ++ (r ++ drop k (drop start now))) cleared width)
 
 pub returns : goal.returns
 returns g c =
-    clears_rows-end (g.F.Scalars.ops c.args.f.now) (g.met.F.Scalars.is_field c.args.f.now) c.args.column c.args.pivot.now c.args.count c.args.rows.now c.requires.full
+    clears_rows-end (g.F.Scalars.ops c.args.f.now) (g.met.F.Scalars.is_field c.args.f.now) c.args.column
+    c.args.pivot.now c.args.count c.args.rows.now c.requires.full
     c.requires.pivot_scalars c.requires.row_scalars c.loop-i.i c.loop-i.rows (omega arith) c.loop-i.invariant

@@ -8,12 +8,14 @@ use Rattle.dense_blocks.proofs.clearing.row_with_entry.Goals as goal
 
 pub returns-then-rows-i-ne0-clause-not_zero : goal.returns-then-rows-i-ne0-clause-not_zero
 returns-then-rows-i-ne0-clause-not_zero c e =
-    c.if-rows-i-ne0.true (sym (cut-at c.args.count c.args.width c.loop-i.i c.args.column c.args.rows.now (omega arith) (omega arith)) ∙ e)
+    c.if-rows-i-ne0.true (sym (cut-at c.args.count c.args.width c.loop-i.i c.args.column c.args.rows.now (omega arith)
+    (omega arith)) ∙ e)
 
 pub loop-i-preserved : goal.loop-i-preserved
 loop-i-preserved c =
     below_more _ _ c.loop-i.invariant
-    (cut-at c.args.count c.args.width c.loop-i.i c.args.column c.args.rows.now (omega arith) (omega arith) ∙ c.if-rows-i-ne0.false)
+    (cut-at c.args.count c.args.width c.loop-i.i c.args.column c.args.rows.now (omega arith) (omega arith)
+    ∙ c.if-rows-i-ne0.false)
 
 pub returns-clause-none : goal.returns-clause-none
 returns-clause-none c =

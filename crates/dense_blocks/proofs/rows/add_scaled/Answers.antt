@@ -21,17 +21,22 @@ loop-i-preserved g c =
     let i : ℕ = c.loop-i.i in
     let target : List ℕ = c.loop-i.target in
     let row : List ℕ = c.args.row.now in
-    let value : c.add.result ≡ K.add (get_or target i 0) (K.mul c.args.k (get_or row i 0)) = c.add.ensures ∙ ap (K.add (get_or target i 0)) c.mul.ensures in
+    let value : c.add.result ≡ K.add (get_or target i 0) (K.mul c.args.k (get_or row i 0)) = c.add.ensures
+    ∙ ap (K.add (get_or target i 0)) c.mul.ensures in
     record {
       now = ap (set target i) value
-          ∙ add_scaled-next K c.args.k i target c.args.target.now row (get_or target i 0) (get_or row i 0) c.requires.sizes (omega arith) c.loop-i.invariant.now refl refl;
-      scalars = All-set (λ a. a < K.order) target i c.add.result (omega (arith, value, h.add_below (get_or target i 0) (K.mul c.args.k (get_or row i 0)))) c.loop-i.invariant.scalars;
+          ∙ add_scaled-next K c.args.k i target c.args.target.now row (get_or target i 0) (get_or row i 0)
+          c.requires.sizes (omega arith) c.loop-i.invariant.now refl refl;
+      scalars = All-set (λ a. a < K.order) target i c.add.result
+          (omega (arith, value, h.add_below (get_or target i 0) (K.mul c.args.k (get_or row i 0))))
+          c.loop-i.invariant.scalars;
     }
 
 pub returns-clause-sum : goal.returns-clause-sum
 returns-clause-sum g c =
     let K : Ops = g.F.Scalars.ops c.args.f.now in
-    add_scaled-all K c.args.k c.loop-i.i c.loop-i.target c.args.target.now c.args.row.now c.requires.sizes (omega arith) c.loop-i.invariant.now
+    add_scaled-all K c.args.k c.loop-i.i c.loop-i.target c.args.target.now c.args.row.now c.requires.sizes (omega arith)
+    c.loop-i.invariant.now
 
 pub returns-then-k-eq0-clause-sum : goal.returns-then-k-eq0-clause-sum
 returns-then-k-eq0-clause-sum g c =
@@ -39,5 +44,6 @@ returns-then-k-eq0-clause-sum g c =
     let h : IsField K = g.met.F.Scalars.is_field c.args.f.now in
     let u : List ℕ = c.args.target.now in
     let row : List ℕ = c.args.row.now in
-    sym (plus-multiple-zero K h (length u) u row (vector_of K (length u) u refl c.requires.target_scalars) (vector_of K (length u) row c.requires.sizes c.requires.row_scalars))
+    sym (plus-multiple-zero K h (length u) u row (vector_of K (length u) u refl c.requires.target_scalars)
+    (vector_of K (length u) row c.requires.sizes c.requires.row_scalars))
     ∙ ap (λ t. plus K u (multiple K t row)) (sym c.if-k-eq0.true)

@@ -18,15 +18,18 @@ loop-i-preserved g c =
     let u : List ℕ = c.args.u.now in
     let v : List ℕ = c.args.v.now in
     let product : ℕ = K.mul (get_or u i 0) (get_or v i 0) in
-    let value : c.add-total.result ≡ K.add c.loop-i.total product = c.add-total.ensures ∙ ap (K.add c.loop-i.total) c.mul.ensures in
+    let value : c.add-total.result ≡ K.add c.loop-i.total product = c.add-total.ensures
+    ∙ ap (K.add c.loop-i.total) c.mul.ensures in
     record {
       scalar = omega (arith, value, h.add_below c.loop-i.total product);
       rest = ap (λ t. K.add t (dot_from K (i + 1) u v)) value
-          ∙ dot_from-next K h i c.loop-i.total (get_or u i 0) (get_or v i 0) u v c.requires.sizes (omega arith) refl refl c.loop-i.invariant.rest;
+          ∙ dot_from-next K h i c.loop-i.total (get_or u i 0) (get_or v i 0) u v c.requires.sizes (omega arith) refl
+          refl c.loop-i.invariant.rest;
     }
 
 pub returns-clause-value : goal.returns-clause-value
 returns-clause-value g c =
     let K : Ops = g.F.Scalars.ops c.args.f.now in
     let h : IsField K = g.met.F.Scalars.is_field c.args.f.now in
-    dot_from-all K h c.loop-i.i c.loop-i.total c.args.u.now c.args.v.now (omega arith) c.loop-i.invariant.scalar c.loop-i.invariant.rest
+    dot_from-all K h c.loop-i.i c.loop-i.total c.args.u.now c.args.v.now (omega arith) c.loop-i.invariant.scalar
+    c.loop-i.invariant.rest

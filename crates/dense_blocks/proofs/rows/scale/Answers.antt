@@ -21,11 +21,14 @@ loop-entry-preserved g c =
     let target : List ℕ = c.loop-entry.target in
     record {
       now = ap (set target i) c.mul.ensures
-          ∙ scale-next K c.args.k i target c.args.target.now (get_or target i 0) (omega arith) c.loop-entry.invariant.now refl;
-      scalars = All-set (λ a. a < K.order) target i c.mul.result (omega (arith, c.mul.ensures, h.mul_below c.args.k (get_or target i 0))) c.loop-entry.invariant.scalars;
+          ∙ scale-next K c.args.k i target c.args.target.now (get_or target i 0) (omega arith)
+          c.loop-entry.invariant.now refl;
+      scalars = All-set (λ a. a < K.order) target i c.mul.result
+          (omega (arith, c.mul.ensures, h.mul_below c.args.k (get_or target i 0))) c.loop-entry.invariant.scalars;
     }
 
 pub returns-clause-product : goal.returns-clause-product
 returns-clause-product g c =
     let K : Ops = g.F.Scalars.ops c.args.f.now in
-    scale-all K c.args.k c.loop-entry.entry-index c.loop-entry.target c.args.target.now (omega arith) c.loop-entry.invariant.now
+    scale-all K c.args.k c.loop-entry.entry-index c.loop-entry.target c.args.target.now (omega arith)
+    c.loop-entry.invariant.now

@@ -13,12 +13,14 @@ use Rattle.dense_blocks.proofs.solving.solve.Goals as goal
 
 pub of-requires : goal.of-requires
 of-requires g c =
-    lists_matrix (g.F.Scalars.ops c.args.f.now) (length c.args.v.now) c.args.columns.now c.requires.sizes c.requires.column_scalars
+    lists_matrix (g.F.Scalars.ops c.args.f.now) (length c.args.v.now) c.args.columns.now c.requires.sizes
+    c.requires.column_scalars
 
 pub combination-requires-clause-columns : goal.combination-requires-clause-columns
 combination-requires-clause-columns g c =
     let K : Ops = g.F.Scalars.ops c.args.f.now in
-    subst (λ n. IsMatrix K (length c.args.columns.now) n (lists c.args.columns.now)) (sym c.in_ok-elimination.ensures.size)
+    subst (λ n. IsMatrix K (length c.args.columns.now) n (lists c.args.columns.now))
+    (sym c.in_ok-elimination.ensures.size)
     (lists_matrix K (length c.args.v.now) c.args.columns.now c.requires.sizes c.requires.column_scalars)
 
 pub combination-requires-clause-parts : goal.combination-requires-clause-parts
@@ -39,17 +41,20 @@ returns-in-None g c =
     let ps : List Pivot = c.in_ok-elimination.elimination.pivots.items in
     let coefficients : List ℕ = c.in_ok-combination-in-None.field-0.items in
     let size : c.in_ok-elimination.elimination.size ≡ n = c.in_ok-elimination.ensures.size in
-    let columns : IsMatrix K (length c.args.columns.now) n vectors = lists_matrix K n c.args.columns.now c.requires.sizes c.requires.column_scalars in
+    let columns : IsMatrix K (length c.args.columns.now) n vectors = lists_matrix K n c.args.columns.now
+    c.requires.sizes c.requires.column_scalars in
     let nothing_left : reduced K ps v ≡ zeros n =
     sym c.in_ok-row.ensures.row ∙ sym c.as_slice.ensures.value ∙ c.in-None.ensures.none
     ∙ ap zeros (ap length c.as_slice.ensures.value ∙ c.in_ok-row.ensures.vector.size ∙ size) in
     record {
-      coefficients = subst (λ m. IsVector K m coefficients) (sym columns.size) c.in_ok-combination-in-None.ensures.scalars;
+      coefficients = subst (λ m. IsVector K m coefficients) (sym columns.size)
+          c.in_ok-combination-in-None.ensures.scalars;
       gives = ap (λ m. combination K m coefficients vectors) (sym size)
           ∙ c.in_ok-combination-in-None.ensures.same
           ∙ ap (λ m. combination K m c.in_ok-row.field-0.parts.items (rows ps)) size
           ∙ ap (λ t. combination K n t (rows ps)) c.in_ok-row.ensures.parts
-          ∙ reduced-none K h n ps v c.in_ok-elimination.ensures.eliminates.fit (record { size = refl; scalars = c.requires.v_scalars }) nothing_left;
+          ∙ reduced-none K h n ps v c.in_ok-elimination.ensures.eliminates.fit
+          (record { size = refl; scalars = c.requires.v_scalars }) nothing_left;
       leading = subst (λ m. IsLeading K m vectors coefficients) size c.in_ok-combination-in-None.ensures.leading;
     }
 
@@ -64,18 +69,23 @@ returns g c =
     let row : List ℕ = c.in_ok-row.field-0.row.items in
     let at : ℕ = c.in-Some.place in
     let p : List ℕ = c.in_ok-functional-in-Some.field-0.items in
-    let columns : IsMatrix K (length c.args.columns.now) n vectors = lists_matrix K n c.args.columns.now c.requires.sizes c.requires.column_scalars in
+    let columns : IsMatrix K (length c.args.columns.now) n vectors = lists_matrix K n c.args.columns.now
+    c.requires.sizes c.requires.column_scalars in
     let all : Eliminates K n vectors (length vectors) ps =
     subst (λ m. Eliminates K n vectors m ps) (sym columns.size) c.in_ok-elimination.ensures.eliminates in
     let inside : at < length row = omega (arith, c.in-Some.ensures.inside, ap length c.as_slice.ensures.value) in
     let entry : get_or row at 0 ≡ get_or (reduced K ps v) at 0 = ap (λ t. get_or t at 0) c.in_ok-row.ensures.row in
     let is_v : IsVector K n v = record { size = refl; scalars = c.requires.v_scalars } in
     let pulls : PullsBack K n ps at c.inv.result p =
-    subst (λ m. PullsBack K m ps at c.inv.result p) c.in_ok-elimination.ensures.size c.in_ok-functional-in-Some.ensures in
+    subst (λ m. PullsBack K m ps at c.inv.result p) c.in_ok-elimination.ensures.size c.in_ok-functional-in-Some.ensures
+    in
     let apart : Separates K vectors v p =
     pulls_back-separates K h n vectors ps v p at c.inv.result refl is_v columns.rows_are all
     (omega (arith, inside, c.in_ok-row.ensures.vector.size, c.in_ok-elimination.ensures.size))
     (ap (take at) (sym c.in_ok-row.ensures.row ∙ sym c.as_slice.ensures.value) ∙ c.in-Some.ensures.first)
     (λ e. c.in-Some.ensures.not_zero (ap (λ t. get_or t at 0) c.as_slice.ensures.value ∙ entry ∙ e))
-    (c.inv.ensures ∙ ap K.inv (get_or_read row at c.index.result.now inside c.index.ensures 0 ∙ entry)) pulls in
-    (apart, λ d. separates-none K h (length c.args.columns.now) vectors v p d (to_matrix K (length c.args.columns.now) n vectors columns) apart)
+    (c.inv.ensures ∙ ap K.inv (get_or_read row at c.index.result.now inside c.index.ensures 0 ∙ entry)) pulls in (
+      apart,
+      λ d. separates-none K h (length c.args.columns.now) vectors v p d
+          (to_matrix K (length c.args.columns.now) n vectors columns) apart,
+    )

@@ -13,4 +13,5 @@ returns-clause-told g c =
     let r = c.apply_sets.result in
     tells K sheaf c.args.edit.now.sets r
     (subst (λ sets. OnOk r (IsVerdict K sheaf sets Accepted)) c.as_slice.ensures c.apply_sets.ensures.accepted)
-    (subst (λ sets. (cause : Cause) → IsErrOf r (refused cause) → IsVerdict K sheaf sets (Refused cause)) c.as_slice.ensures c.apply_sets.ensures.refused)
+    (subst (λ sets. (cause : Cause) → IsErrOf r (refused cause) → IsVerdict K sheaf sets (Refused cause))
+    c.as_slice.ensures c.apply_sets.ensures.refused)

@@ -15,7 +15,8 @@ returns-in-Ok-clause-accepted g c =
       blocks = c.args.work.blocks.items;
       same = refl;
       bad = None;
-      first = subst (λ bs. IsFirstFailure (Commutes K complex bs) (length complex.dims) None) c.of-2.ensures (c.in-Ok.ensures.commute.0 refl);
+      first = subst (λ bs. IsFirstFailure (Commutes K complex bs) (length complex.dims) None) c.of-2.ensures
+          (c.in-Ok.ensures.commute.0 refl);
       verdict = refl;
     }
 
@@ -29,6 +30,7 @@ returns-clause-refused g c = λ cause e.
       blocks = c.args.work.blocks.items;
       same = refl;
       bad = Some (c.in-Err.s, c.in-Err.u);
-      first = subst (λ bs. IsFirstFailure (Commutes K complex bs) (length complex.dims) (Some (c.in-Err.s, c.in-Err.u))) c.of-2.ensures c.in-Err.ensures.refused;
+      first = subst (λ bs. IsFirstFailure (Commutes K complex bs) (length complex.dims) (Some (c.in-Err.s, c.in-Err.u)))
+          c.of-2.ensures c.in-Err.ensures.refused;
       verdict = refl;
     })

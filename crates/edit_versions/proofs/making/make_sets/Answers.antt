@@ -16,10 +16,12 @@ loop-i-preserved g c =
     let within : i < length sets = omega arith in
     record {
       rest =
-          sets_made-next K c.args.c.now (work_lists c.loop-i.work) (work_lists c.make_set.new.work) i x (drop (i + 1) sets) made.judged made.made.lists
+          sets_made-next K c.args.c.now (work_lists c.loop-i.work) (work_lists c.make_set.new.work) i x
+          (drop (i + 1) sets) made.judged made.made.lists
           ∙ ap (λ y. sets_made K c.args.c.now (work_lists c.loop-i.work) i (y ∷ drop (i + 1) sets)) c.index-sets-i.is
           ∙ sym (at_drop_more (sets_made K c.args.c.now (work_lists c.loop-i.work) i) sets i x within)
           ∙ c.loop-i.invariant.rest;
-      work = takes-work K (omega (arith, field.order_low)) c.args.c.now i x c.loop-i.work c.make_set.new.work made.judged made.made c.loop-i.invariant.work;
+      work = takes-work K (omega (arith, field.order_low)) c.args.c.now i x c.loop-i.work c.make_set.new.work
+          made.judged made.made c.loop-i.invariant.work;
       touched = λ start w. made.made.touched start (c.loop-i.invariant.touched start w);
     }

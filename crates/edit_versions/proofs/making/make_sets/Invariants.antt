@@ -6,7 +6,8 @@ use Rattle.edit_versions.proofs.making.make_sets.Given as goal
 
 abbrev pub invariant-loop-i : goal.invariant-loop-i
 invariant-loop-i g l = record {
-  rest : sets_made (g.F.Scalars.ops l.f) l.c (work_lists l.work) l.i (drop l.i l.sets) ≡ sets_made (g.F.Scalars.ops l.f) l.c (work_lists l.initial.work) 0 l.sets;
+  rest : sets_made (g.F.Scalars.ops l.f) l.c (work_lists l.work) l.i (drop l.i l.sets) ≡ sets_made (g.F.Scalars.ops l.f)
+      l.c (work_lists l.initial.work) 0 l.sets;
   work : IsWork (g.F.Scalars.ops l.f) l.c l.work;
   touched : (start : List Block) → IsTouched l.c start l.initial.work → IsTouched l.c start l.work;
 }

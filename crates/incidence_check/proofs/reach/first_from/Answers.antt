@@ -11,5 +11,7 @@ returns c =
     let from : ℕ = c.args.from in
     let i : ℕ = c.partition_point-at.result in
     let point : AllWithin (λ y. nat_lt y from ≡ true) xs 0 i × AllWithin (λ y. nat_lt y from ≡ false) xs i (length xs) =
-    IsPartitionPoint-from_clause (λ y. nat_lt y from) xs i c.partition_point-at.ensures.partitioned (IsPartitionedBy-ltb (λ y. y) xs from c.requires) (λ a r q k. search rules) in
-    subst (IsLeastFrom (λ u. list_any (nat_eq u) xs) from) (copied-get xs i c.get.result c.get.ensures.lookup ∙ sym c.copied.ensures) (least-point xs from i c.requires point.0 point.1)
+    IsPartitionPoint-from_clause (λ y. nat_lt y from) xs i c.partition_point-at.ensures.partitioned
+    (IsPartitionedBy-ltb (λ y. y) xs from c.requires) (λ a r q k. search rules) in
+    subst (IsLeastFrom (λ u. list_any (nat_eq u) xs) from) (copied-get xs i c.get.result c.get.ensures.lookup
+    ∙ sym c.copied.ensures) (least-point xs from i c.requires point.0 point.1)

@@ -24,7 +24,10 @@ loop-t-preserved c =
     let from : ℕ = c.args.from in
     let above : List ℕ = cofaces_of all (get_or ts i 0) in
     let found : IsLeastFrom (λ u. list_any (nat_eq u) above) from c.first_from.result =
-    subst (λ us. IsLeastFrom (λ u. list_any (nat_eq u) us) from c.first_from.result) c.cofaces_of.ensures.cells c.first_from.ensures in
+    subst (λ us. IsLeastFrom (λ u. list_any (nat_eq u) us) from c.first_from.result) c.cofaces_of.ensures.cells
+    c.first_from.ensures in
     subst (IsLeastFrom (reaches all (take (i + 1) ts)) from) (sym c.lesser-least.ensures)
-    (least_agree _ (reaches all (take (i + 1) ts)) from _ (λ u. reaches-more all c.requires.complex ts i 0 u (omega arith))
-    (lesser-least (reaches all (take i ts)) (λ u. list_any (nat_eq u) above) from c.loop-t.least c.first_from.result c.loop-t.invariant found))
+    (least_agree _ (reaches all (take (i + 1) ts)) from _
+    (λ u. reaches-more all c.requires.complex ts i 0 u (omega arith))
+    (lesser-least (reaches all (take i ts)) (λ u. list_any (nat_eq u) above) from c.loop-t.least c.first_from.result
+    c.loop-t.invariant found))

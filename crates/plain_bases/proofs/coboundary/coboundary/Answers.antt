@@ -5,7 +5,8 @@ use Rattle.plain_bases.proofs.PartLaws.{image-next, vector-next}
 use Rattle.plain_bases.proofs.coboundary.coboundary.Goals as goal
 
 pub part_at-requires-clause-rows : goal.part_at-requires-clause-rows
-part_at-requires-clause-rows g c = λ k d l e. (c.requires.target_fits k d l).rows c.loop-t.t-index _ c.loop-t-test.true e
+part_at-requires-clause-rows g c = λ k d l e. (c.requires.target_fits k d l).rows c.loop-t.t-index _ c.loop-t-test.true
+    e
 
 pub loop-t-preserved : goal.loop-t-preserved
 loop-t-preserved g c =
@@ -17,7 +18,9 @@ loop-t-preserved g c =
     let grown : c.extend_from_slice.new.self.items ≡ c.loop-t.all.items ++ c.in_ok-part.part.items =
     c.in_ok-extend_from_slice.ensures.items ∙ ap (λ p. c.loop-t.all.items ++ p) c.deref.ensures.value in
     record {
-      image = grown ∙ ap₂ ◌++◌ kept.image c.in_ok-part.ensures.part ∙ sym (image-next K c.args.arrows.now c.args.source.now ts c.args.z.now i _ c.loop-t-test.true);
+      image = grown ∙ ap₂ ◌++◌ kept.image c.in_ok-part.ensures.part
+          ∙ sym (image-next K c.args.arrows.now c.args.source.now ts c.args.z.now i _ c.loop-t-test.true);
       vector = subst (IsVector K (total_size (take (i + 1) ts))) (sym grown)
-          (vector-next K ts i (record { cell = 0; degree = 0; size = 0 }) c.loop-t.all.items c.in_ok-part.part.items c.loop-t-test.true kept.vector c.in_ok-part.ensures.vector);
+          (vector-next K ts i (record { cell = 0; degree = 0; size = 0 }) c.loop-t.all.items c.in_ok-part.part.items
+          c.loop-t-test.true kept.vector c.in_ok-part.ensures.vector);
     }

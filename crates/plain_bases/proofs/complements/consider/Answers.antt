@@ -6,7 +6,8 @@ pub solve-requires-clause-sizes : goal.solve-requires-clause-sizes
 solve-requires-clause-sizes g c =
     let K = g.F.Scalars.ops c.args.f.now in
     let taken = c.args.taken.now in
-    subst (λ (vs : List (Vec ℕ Global)). All (λ v. length v.items ≡ length c.args.candidate.now) vs) (sym c.deref.ensures.value)
+    subst (λ (vs : List (Vec ℕ Global)). All (λ v. length v.items ≡ length c.args.candidate.now) vs)
+    (sym c.deref.ensures.value)
     (λ k d l. all_sizes K _ taken.size taken.all.items c.requires.taken k d l ∙ sym c.requires.candidate.size)
 
 pub solve-requires-clause-column_scalars : goal.solve-requires-clause-column_scalars

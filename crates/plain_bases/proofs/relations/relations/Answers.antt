@@ -11,4 +11,5 @@ returns-clause-spans g c =
     let vs = lists c.args.vectors.now.all.items in
     let end : c.loop-j.j ≡ length vs = omega (arith, lists-size c.args.vectors.now.all.items) in
     relations_all K (g.met.F.Scalars.is_field c.args.f.now) c.args.vectors.now.size vs (lists c.loop-j.found.items)
-    (subst (λ (k : ℕ). SpansRelationsBelow K c.args.vectors.now.size vs k (lists c.loop-j.found.items)) end c.loop-j.invariant.spans)
+    (subst (λ (k : ℕ). SpansRelationsBelow K c.args.vectors.now.size vs k (lists c.loop-j.found.items)) end
+    c.loop-j.invariant.spans)

@@ -18,10 +18,13 @@ loop-place-preserved g c =
     let grown = c.in_ok-push.ensures.items in
     record {
       arrows =
-          ap (map arrow_of) grown ∙ map-append arrow_of before (new ∷ []) ∙ ap (λ (front : List complexes.Arrow). front ++ arrow_of new ∷ []) c.loop-place.invariant.arrows
+          ap (map arrow_of) grown ∙ map-append arrow_of before (new ∷ [])
+          ∙ ap (λ (front : List complexes.Arrow). front ++ arrow_of new ∷ []) c.loop-place.invariant.arrows
           ∙ sym (take_next_known all c.loop-place.place (arrow_of new) c.in_ok-arrow.ensures.arrow);
-      fits = subst (λ (arrows : List Arrow). All (FitsCells K (numbered_cells 0 d.complex.dims d.stalks)) arrows) (sym grown)
-          (All-push (FitsCells K (numbered_cells 0 d.complex.dims d.stalks)) before new c.loop-place.invariant.fits c.in_ok-arrow.ensures.fits);
+      fits = subst (λ (arrows : List Arrow). All (FitsCells K (numbered_cells 0 d.complex.dims d.stalks)) arrows)
+          (sym grown)
+          (All-push (FitsCells K (numbered_cells 0 d.complex.dims d.stalks)) before new c.loop-place.invariant.fits
+          c.in_ok-arrow.ensures.fits);
     }
 
 pub returns-clause-arrows : goal.returns-clause-arrows
@@ -30,4 +33,5 @@ returns-clause-arrows g c =
     let K = g.F.Scalars.ops inside.field in
     let size = length-arrows K inside.complex.faces inside.blocks c.draft.invariant.blocks_fit.shapes.count in
     let whole : length (arrows_of K inside.complex.faces inside.blocks) ≤ c.loop-place.place = omega arith in
-    c.loop-place.invariant.arrows ∙ rw (← c.draft.view_is) (take_all c.loop-place.place (arrows_of K inside.complex.faces inside.blocks) whole)
+    c.loop-place.invariant.arrows
+    ∙ rw (← c.draft.view_is) (take_all c.loop-place.place (arrows_of K inside.complex.faces inside.blocks) whole)

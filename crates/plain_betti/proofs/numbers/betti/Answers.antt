@@ -19,16 +19,21 @@ loop-degree-preserved g c =
     let k = c.loop-degree.degree in
     let before = c.loop-degree.numbers.items in
     let basis = c.in_ok-basis.basis.items in
-    let field : g.F.Scalars.ops c.draft.inside.field ≡ K = ap (λ (x : SheafData _). g.F.Scalars.ops x.field) c.draft.view_is in
+    let field : g.F.Scalars.ops c.draft.inside.field ≡ K = ap (λ (x : SheafData _). g.F.Scalars.ops x.field)
+    c.draft.view_is in
     let is_basis : IsBasis K C k (lists basis) =
     subst (λ (D : CellularComplex). IsBasis K D k (lists basis)) c.in_ok-complex.ensures.complex
-    (subst (λ (L : Ops). IsBasis L (plain_complex_of c.in_ok-complex.complex) k (lists basis)) field c.in_ok-basis.ensures.basis) in
+    (subst (λ (L : Ops). IsBasis L (plain_complex_of c.in_ok-complex.complex) k (lists basis)) field
+    c.in_ok-basis.ensures.basis) in
     let size : length (lists basis) ≡ c.len.result = length-map basis (λ v. v.items) ∙ search rules in
     let last : HasDimension K C (length before) c.len.result =
-    subst (λ (j : ℕ). HasDimension K C j c.len.result) (sym c.loop-degree.invariant.one_each) (lists basis, size, is_basis) in
+    subst (λ (j : ℕ). HasDimension K C j c.len.result) (sym c.loop-degree.invariant.one_each)
+    (lists basis, size, is_basis) in
     let grown = c.in_ok-push.ensures.items in
     record {
-      one_each = ap length grown ∙ length-append before (c.len.result ∷ []) ∙ ap (λ n. n + 1) c.loop-degree.invariant.one_each;
-      dimensions = subst (λ (numbers : List ℕ). EachIndex numbers (λ j. HasDimension K C j (slice_index numbers j))) (sym grown)
+      one_each = ap length grown ∙ length-append before (c.len.result ∷ [])
+          ∙ ap (λ n. n + 1) c.loop-degree.invariant.one_each;
+      dimensions = subst (λ (numbers : List ℕ). EachIndex numbers (λ j. HasDimension K C j (slice_index numbers j)))
+          (sym grown)
           (each_next (HasDimension K C) before c.len.result c.loop-degree.invariant.dimensions last);
     }

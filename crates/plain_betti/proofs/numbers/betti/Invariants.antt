@@ -7,5 +7,7 @@ use Rattle.plain_betti.proofs.numbers.betti.Given as goal
 abbrev pub invariant-loop-degree : goal.invariant-loop-degree
 invariant-loop-degree g l = let K = g.F.Scalars.ops l.draft.field in record {
   one_each : length l.numbers.items ≡ l.degree;
-  dimensions : EachIndex l.numbers.items (λ k. HasDimension K (cochain_complex_of K l.draft.complex l.draft.stalks l.draft.blocks) k (slice_index l.numbers.items k));
+  dimensions : EachIndex l.numbers.items
+      (λ k. HasDimension K (cochain_complex_of K l.draft.complex l.draft.stalks l.draft.blocks) k
+      (slice_index l.numbers.items k));
 }

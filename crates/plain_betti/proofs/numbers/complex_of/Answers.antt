@@ -15,11 +15,14 @@ returns-clause-over g c =
     let own = numbered_cells 0 d.complex.dims d.stalks in
     let stalks = c.draft.invariant.stalks_fit in
     let cells : c.of.result ≡ own =
-    c.of.ensures ∙ c.in_ok-cells.ensures ∙ ap₂ (numbered_cells 0) c.dims.ensures.dims c.as_slice.ensures ∙ ap (λ (x : SheafData _). numbered_cells 0 x.complex.dims x.stalks) c.draft.view_is in
+    c.of.ensures ∙ c.in_ok-cells.ensures ∙ ap₂ (numbered_cells 0) c.dims.ensures.dims c.as_slice.ensures
+    ∙ ap (λ (x : SheafData _). numbered_cells 0 x.complex.dims x.stalks) c.draft.view_is in
     let few : total_size own ≤ 4096 =
-    subst (λ (x : SheafData _). total_size (numbered_cells 0 x.complex.dims x.stalks) ≤ 4096) c.draft.view_is (few_coordinates c.draft.inside.complex.dims c.draft.inside.stalks stalks.one_each stalks.few) in
+    subst (λ (x : SheafData _). total_size (numbered_cells 0 x.complex.dims x.stalks) ≤ 4096) c.draft.view_is
+    (few_coordinates c.draft.inside.complex.dims c.draft.inside.stalks stalks.one_each stalks.few) in
     record {
       few = subst (λ (cs : List Cell). total_size cs ≤ 4096) (sym cells) few;
       fits = subst (λ (cs : List Cell). All (FitsCells K cs) c.of-2.result) (sym cells)
-          (subst (λ (arrows : List Arrow). All (FitsCells K own) arrows) (sym c.of-2.ensures) c.in_ok-arrows.ensures.fits);
+          (subst (λ (arrows : List Arrow). All (FitsCells K own) arrows) (sym c.of-2.ensures)
+          c.in_ok-arrows.ensures.fits);
     }

@@ -13,7 +13,9 @@ returns c =
     let gained = c.first_gained-gained in
     let Kept : ℕ → ℕ → Type 0 = λ s t. IsResized v foot s t ⊎ IsReached v foot s t in
     found-all (IsSameAt v foot) (λ s t. Kept s t ⊎ IsGained v foot s t) (λ _ _. Unit {0}) c.earlier-2.result
-    (found-either (IsSameAt v foot) Kept (IsGained v foot) c.earlier.result gained.result c.earlier-2.result c.earlier-2.ensures
-    (found-either (IsSameAt v foot) (IsResized v foot) (IsReached v foot) resized.result other.result c.earlier.result c.earlier.ensures resized.ensures other.ensures)
+    (found-either (IsSameAt v foot) Kept (IsGained v foot) c.earlier.result gained.result c.earlier-2.result
+    c.earlier-2.ensures
+    (found-either (IsSameAt v foot) (IsResized v foot) (IsReached v foot) resized.result other.result c.earlier.result
+    c.earlier.ensures resized.ensures other.ensures)
     gained.ensures)
     (λ s t _. all-pairs v foot s t)

@@ -3,7 +3,9 @@ use Rattle.std.proofs.lemmas.Bool.Decides.{nat_tests}
 use Rattle.reduce_step.specs.Differences.{IsSized}
 use Rattle.reduce_step.proofs.DifferenceLaws.{not-both, first-later, first-none, first-one}
 use Rattle.reduce_step.proofs.differing.resized_cell.Goals as goal
-use Rattle.reduce_step.proofs.differing.resized_cell.Goals.{else-at-listed-via-then-at-listed+else-listed-at, then-is_live, else-is_live, else-at-listed-via-else-at-listed}
+use Rattle.reduce_step.proofs.differing.resized_cell.Goals.{else-at-listed-via-then-at-listed+else-listed-at}
+use Rattle.reduce_step.proofs.differing.resized_cell.Goals.{then-is_live, else-is_live}
+use Rattle.reduce_step.proofs.differing.resized_cell.Goals.{else-at-listed-via-else-at-listed}
 
 pub returns-then-listed-at : goal.returns-then-listed-at
 returns-then-listed-at c =
@@ -16,7 +18,8 @@ returns-then-listed-at c =
       | then-is_live w ↦ inl (c.is_live_as-is_live.ensures.0 w.if-is_live.true)
       | else-is_live w ↦ inr (grind (arith, nat_tests))
     ] in
-    first-later live x n ls c.requires.rising c.requires.apart at.result at.ensures.within at.ensures.live at.ensures.other c.if-at-listed.true one
+    first-later live x n ls c.requires.rising c.requires.apart at.result at.ensures.within at.ensures.live
+    at.ensures.other c.if-at-listed.true one
 
 pub returns-then-is_live-2 : goal.returns-then-is_live-2
 returns-then-is_live-2 c =
@@ -33,7 +36,8 @@ returns-then-is_live-2 c =
       ]
       | else-at-listed-via-else-at-listed w ↦ absurd (omega arith)
     ] in
-    first-none live x n ls c.requires.rising c.requires.apart at.result at.ensures.within at.ensures.live at.ensures.other (c.is_live_as-is_live.ensures.0 yes) none
+    first-none live x n ls c.requires.rising c.requires.apart at.result at.ensures.within at.ensures.live
+    at.ensures.other (c.is_live_as-is_live.ensures.0 yes) none
 
 pub returns-else-is_live-2 : goal.returns-else-is_live-2
 returns-else-is_live-2 c =
@@ -50,5 +54,6 @@ returns-else-is_live-2 c =
       ]
       | else-at-listed-via-else-at-listed w ↦ absurd (omega arith)
     ] in
-    first-one live x n ls c.requires.rising c.requires.apart at.result at.ensures.within at.ensures.live at.ensures.other
+    first-one live x n ls c.requires.rising c.requires.apart at.result at.ensures.within at.ensures.live
+    at.ensures.other
     (λ s. not-both c.is_live_as-is_live.result (c.is_live_as-is_live.ensures.1 s) not) up

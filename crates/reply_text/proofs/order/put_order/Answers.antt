@@ -7,11 +7,13 @@ use Rattle.reply_text.proofs.order.put_order.Goals as goal
 pub number_of-number-requires-clause-fits : goal.number_of-number-requires-clause-fits
 number_of-number-requires-clause-fits c =
     subst (λ counts. All (λ n. n + 1 < 2 ^ 32) counts) (sym c.as_slice.ensures.value)
-    (counts-fit c.loop-event.event-index c.args.events.now c.loop-event.counts.items c.loop-event.invariant.1 c.loop-event-test.true c.requires.few)
+    (counts-fit c.loop-event.event-index c.args.events.now c.loop-event.counts.items c.loop-event.invariant.1
+    c.loop-event-test.true c.requires.few)
 
 pub count_event-requires-clause-fits : goal.count_event-requires-clause-fits
 count_event-requires-clause-fits c =
-    counts-fit c.loop-event.event-index c.args.events.now c.loop-event.counts.items c.loop-event.invariant.1 c.loop-event-test.true c.requires.few
+    counts-fit c.loop-event.event-index c.args.events.now c.loop-event.counts.items c.loop-event.invariant.1
+    c.loop-event-test.true c.requires.few
 
 pub loop-event-preserved : goal.loop-event-preserved
 loop-event-preserved c =
@@ -19,10 +21,14 @@ loop-event-preserved c =
     let i = c.loop-event.event-index in
     let item = c.event-item.result in
     let inv = c.loop-event.invariant in
-    let next : take (i + 1) events ≡ take i events ++ item ∷ [] = take_next events i item c.loop-event-test.true c.event-item.is in
-    let counted : AreCounted (take i events) c.as_slice.result.now = subst (AreCounted (take i events)) (sym c.as_slice.ensures.value) inv.1 in (
-      ordered-more events i item c.number_of-number.result c.args.out.now.items c.loop-event.out.items c.event_line.new.out.items
+    let next : take (i + 1) events ≡ take i events ++ item ∷ [] = take_next events i item c.loop-event-test.true
+    c.event-item.is in
+    let counted : AreCounted (take i events) c.as_slice.result.now = subst (AreCounted (take i events))
+    (sym c.as_slice.ensures.value) inv.1 in (
+      ordered-more events i item c.number_of-number.result c.args.out.now.items c.loop-event.out.items
+          c.event_line.new.out.items
           inv.0 c.in_ok-event_line.ensures.ok (c.number_of-number.ensures (take i events) counted) next,
-      subst (λ es. AreCounted es c.count_event.new.counts.items) (sym next) (c.count_event.ensures.counted (take i events) inv.1),
+      subst (λ es. AreCounted es c.count_event.new.counts.items) (sym next)
+          (c.count_event.ensures.counted (take i events) inv.1),
       c.count_event.ensures.len ∙ inv.2,
     )

@@ -8,5 +8,6 @@ use Rattle.reply_text.proofs.replies.reply.Goals as goal
 pub returns : goal.returns
 returns c =
     let words = (118 ∷ decimal c.args.v) ∷ command_word c.args.command.now ∷ answer_words c.args.event.now in
-    let written : c.push-2.new.self.items ≡ (decimal c.args.number ++ spaced_words words) ++ 10 ∷ [] = search (rules, append_assoc) in
+    let written : c.push-2.new.self.items ≡ (decimal c.args.number ++ spaced_words words) ++ 10 ∷ [] =
+    search (rules, append_assoc) in
     written ∙ one_line (decimal c.args.number) words

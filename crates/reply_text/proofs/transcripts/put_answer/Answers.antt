@@ -6,6 +6,8 @@ use Rattle.reply_text.proofs.transcripts.put_answer.Goals as goal
 pub returns : goal.returns
 returns c = λ events h.
     let there : slice_get c.args.script.now c.args.counts.ended ≡ Some c.in-Some.command.now = c.in-Some.ensures in
-    let is = answer-is c.args.client c.args.script.now events c.args.event.now c.in-Some.command.now c.args.counts c.version_named-version.result
+    let is = answer-is c.args.client c.args.script.now events c.args.event.now c.in-Some.command.now c.args.counts
+    c.version_named-version.result
     (search rules) h there (c.version_named-version.ensures events c.args.client (search rules) h) in
-    subst (λ lines. OnOk c.reply_lines.result (c.reply_lines.new.out.items ≡ c.args.out.now.items ++ lines_text lines)) (sym is) c.reply_lines.ensures.ok
+    subst (λ lines. OnOk c.reply_lines.result (c.reply_lines.new.out.items ≡ c.args.out.now.items ++ lines_text lines))
+    (sym is) c.reply_lines.ensures.ok

@@ -14,8 +14,10 @@ pub put_answer-requires-clause-answers : goal.put_answer-requires-clause-answers
 put_answer-requires-clause-answers c = λ ends.
     let events = c.args.events.now in
     let i = c.loop-event.event-index in
-    let there = slice_get_read events (length events) i c.event-item.result refl c.loop-event-test.true c.event-item.is in
-    subst (λ k. IfPresent (slice_get c.args.script.now k) (λ command. IsAnswerTo command c.event-item.result)) (sym c.loop-event.invariant.1.ended_is)
+    let there = slice_get_read events (length events) i c.event-item.result refl c.loop-event-test.true c.event-item.is
+    in
+    subst (λ k. IfPresent (slice_get c.args.script.now k) (λ command. IsAnswerTo command c.event-item.result))
+    (sym c.loop-event.invariant.1.ended_is)
     (c.requires.answers i c.event-item.result there ends)
 
 pub loop-event-preserved : goal.loop-event-preserved
@@ -23,8 +25,11 @@ loop-event-preserved c =
     let events = c.args.events.now in
     let i = c.loop-event.event-index in
     let item = c.event-item.result in
-    let next : take (i + 1) events ≡ take i events ++ item ∷ [] = take_next events i item c.loop-event-test.true c.event-item.is in (
-      written-more c.args.client c.args.script.now events i item c.args.out.now.items c.loop-event.out.items c.put_answer.new.out.items
+    let next : take (i + 1) events ≡ take i events ++ item ∷ [] = take_next events i item c.loop-event-test.true
+    c.event-item.is in (
+      written-more c.args.client c.args.script.now events i item c.args.out.now.items c.loop-event.out.items
+          c.put_answer.new.out.items
           c.loop-event.invariant.0 (c.in_ok-put_answer.ensures (take i events) c.loop-event.invariant.1) next,
-      subst (λ es. IsCountOf c.args.client es c.after-counts.result) (sym next) (c.after-counts.ensures (take i events) c.loop-event.invariant.1),
+      subst (λ es. IsCountOf c.args.client es c.after-counts.result) (sym next)
+          (c.after-counts.ensures (take i events) c.loop-event.invariant.1),
     )

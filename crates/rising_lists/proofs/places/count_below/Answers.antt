@@ -5,10 +5,12 @@ use Rattle.rising_lists.proofs.places.count_below.Goals as goal
 
 pub returns-in-Err-clause-below : goal.returns-in-Err-clause-below
 returns-in-Err-clause-below c =
-    let f : _ = searched c.args.cells.now c.args.c (Err c.in-Err.at) c.in-Err.ensures.position (rising_le c.args.cells.now c.requires) in
+    let f : _ = searched c.args.cells.now c.args.c (Err c.in-Err.at) c.in-Err.ensures.position
+    (rising_le c.args.cells.now c.requires) in
     f.1
 
 pub returns-in-Err-clause-from : goal.returns-in-Err-clause-from
 returns-in-Err-clause-from c = λ i l m.
-    let f : _ = searched c.args.cells.now c.args.c (Err c.in-Err.at) c.in-Err.ensures.position (rising_le c.args.cells.now c.requires) in
+    let f : _ = searched c.args.cells.now c.args.c (Err c.in-Err.at) c.in-Err.ensures.position
+    (rising_le c.args.cells.now c.requires) in
     omega (arith, f.2 i l m)

@@ -10,6 +10,8 @@ pub returns : goal.returns
 returns g c =
     let s = c.args.sheaf.now in
     let K = g.F.Scalars.ops s.field in
-    same-block_complex K (start_complex K s.complex s.stalks s.blocks) (complex_in c.in_ok-blocks.blocks) c.in_ok-blocks.ensures.same
+    same-block_complex K (start_complex K s.complex s.stalks s.blocks) (complex_in c.in_ok-blocks.blocks)
+    c.in_ok-blocks.ensures.same
     (c.start_is_block_complex.ensures K s.complex s.stalks s.blocks (g.met.F.Scalars.is_field s.field)
-    (subst (λ (x : SheafData g.row.F.Denot). IsComplex x.complex) (c.behind-sheaf.view_is ∙ c.draft.ensures.draft) c.dims-cells.ensures.complex) c.draft.ensures.sheaf)
+    (subst (λ (x : SheafData g.row.F.Denot). IsComplex x.complex) (c.behind-sheaf.view_is ∙ c.draft.ensures.draft)
+    c.dims-cells.ensures.complex) c.draft.ensures.sheaf)

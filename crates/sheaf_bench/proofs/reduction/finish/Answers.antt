@@ -16,4 +16,5 @@ pub finish-requires : goal.finish-requires
 finish-requires g c = c.in_ok-foot.ensures.over (g.F.Scalars.ops c.args.f.now) c.requires.over
 
 pub returns-in-Ok : goal.returns-in-Ok
-returns-in-Ok g c = finishes-field (g.F.Scalars.ops c.args.f.now) c.args.f.now c.in_ok-foot.foot c.in-Ok.finish c.in-Ok.ensures.finish
+returns-in-Ok g c = finishes-field (g.F.Scalars.ops c.args.f.now) c.args.f.now c.in_ok-foot.foot c.in-Ok.finish
+    c.in-Ok.ensures.finish

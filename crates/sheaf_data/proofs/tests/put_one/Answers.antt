@@ -13,5 +13,6 @@ put_all-requires-clause-others g c =
     let new = ap blocks_of (c.draft-2.view_is ∙ c.put.ensures.put) in
     λ p e.
     ap (λ bs. slice_get bs p) (sym old)
-    ∙ others-written c.in_ok-draft.draft.blocks c.args.place p c.args.b (eqb-false p c.args.place (or_parts (nat_eq p c.args.place) false e).0)
+    ∙ others-written c.in_ok-draft.draft.blocks c.args.place p c.args.b
+    (eqb-false p c.args.place (or_parts (nat_eq p c.args.place) false e).0)
     ∙ ap (λ bs. slice_get bs p) (sym new)

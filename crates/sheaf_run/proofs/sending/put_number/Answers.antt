@@ -12,5 +12,6 @@ returns-in_err-write_all-2-clause-err g c =
     let new = taken c.write_all-2.new.sink in
     let digits : c.as_bytes.result.now ≡ decimal c.args.number = search rules in
     on_err c.from_residual-in_err-write_all-2.result
-    (took_front_then (taken c.args.sink.now) between new (codes " ") (decimal c.args.number) c.in_ok-write_all.ensures.ok
+    (took_front_then (taken c.args.sink.now) between new (codes " ") (decimal c.args.number)
+    c.in_ok-write_all.ensures.ok
     (subst (TookPrefix between new) digits c.in_err-write_all-2.ensures.err))

@@ -18,5 +18,6 @@ returns-in-Ok-clause-ran g c =
 pub returns-in-Err-TooLong-clause-ran : goal.returns-in-Err-TooLong-clause-ran
 returns-in-Err-TooLong-clause-ran g c =
     ran_unread (λ (b : List ℕ). AnswersReading c.args.job (reading b)) (λ (a : Outcome). a ≡ over_limit 0 limits.Bytes)
-    (over_bytes c.args.job (g.S.Source.left c.args.source.now) (c.in-Err-TooLong.ensures.long (cc c.in-Err-TooLong.field-0-is)))
+    (over_bytes c.args.job (g.S.Source.left c.args.source.now)
+    (c.in-Err-TooLong.ensures.long (cc c.in-Err-TooLong.field-0-is)))
     (λ a e done. let limit = ap (λ (o : Outcome). o.status) e in absurd cc) c.refuse_limit.ensures

@@ -9,4 +9,5 @@ use Rattle.sheaf_text.proofs.judging.field_refusal.Goals as goal
 pub returns-in-None : goal.returns-in-None
 returns-in-None c =
     let absent = no_order c.value_at.result (λ h. let is_some = c.in-None.ensures.known.1 h in cc) in
-    sym (ap (λ (b : Bool). cond b None (Some (Bad causes.Field))) (ap (λ q. list_any (nat_eq q) orders) (sym c.value_at.ensures) ∙ absent))
+    sym (ap (λ (b : Bool). cond b None (Some (Bad causes.Field)))
+    (ap (λ q. list_any (nat_eq q) orders) (sym c.value_at.ensures) ∙ absent))

@@ -9,7 +9,9 @@ pub returns-then-bytes-gt-MOST_BYTES-clause-gives : goal.returns-then-bytes-gt-M
 returns-then-bytes-gt-MOST_BYTES-clause-gives c = reading-long c.args.bytes.now c.if-bytes-gt-MOST_BYTES.true
 
 pub returns-clause-gives : goal.returns-clause-gives
-returns-clause-gives c = subst (λ (r : Reading). Gives c.read_lines.result r) (sym (reading_is_run c.args.bytes.now c.if-bytes-gt-MOST_BYTES.false)) c.read_lines.ensures
+returns-clause-gives c = subst (λ (r : Reading). Gives c.read_lines.result r)
+    (sym (reading_is_run c.args.bytes.now c.if-bytes-gt-MOST_BYTES.false)) c.read_lines.ensures
 
 pub returns-clause-few : goal.returns-clause-few
-returns-clause-few c = few_given c.args.bytes.now c.read_lines.result c.if-bytes-gt-MOST_BYTES.false c.read_lines.ensures
+returns-clause-few c = few_given c.args.bytes.now c.read_lines.result c.if-bytes-gt-MOST_BYTES.false
+    c.read_lines.ensures

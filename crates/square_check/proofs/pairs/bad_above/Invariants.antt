@@ -6,5 +6,6 @@ use Rattle.square_check.proofs.pairs.bad_above.Given as goal
 abbrev pub invariant-loop-u : goal.invariant-loop-u
 invariant-loop-u g l = record {
   fails : Fails (Commutes (g.F.Scalars.ops l.f) l.c l.blocks) l.least;
-  clears : (k : ℕ) → k < l.u-index → PassesBefore (Commutes (g.F.Scalars.ops l.f) l.c l.blocks) l.least l.s (get_or l.u-items k 0);
+  clears : (k : ℕ) → k < l.u-index → PassesBefore (Commutes (g.F.Scalars.ops l.f) l.c l.blocks) l.least l.s
+      (get_or l.u-items k 0);
 }

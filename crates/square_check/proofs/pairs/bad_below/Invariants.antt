@@ -6,5 +6,6 @@ use Rattle.square_check.proofs.pairs.bad_below.Given as goal
 abbrev pub invariant-loop-s : goal.invariant-loop-s
 invariant-loop-s g l = record {
   fails : Fails (Commutes (g.F.Scalars.ops l.f) l.c l.blocks) l.least;
-  clears : (k : ℕ) → k < l.s-index → PassesBefore (Commutes (g.F.Scalars.ops l.f) l.c l.blocks) l.least (get_or l.s-items k 0) l.u;
+  clears : (k : ℕ) → k < l.s-index → PassesBefore (Commutes (g.F.Scalars.ops l.f) l.c l.blocks) l.least
+      (get_or l.s-items k 0) l.u;
 }

@@ -6,24 +6,33 @@ use Rattle.square_check.proofs.Commuting.{IsBetween, between-head, between-secon
 use Rattle.square_check.proofs.pairs.commutes.Goals as goal
 
 -- the first two cells between s and u
-two : (c : CellComplex) (s u a b : ℕ) (all some rest : List ℕ) → all ≡ middles c s u → all ≡ a ∷ some → some ≡ b ∷ rest → middles c s u ≡ a ∷ b ∷ rest
+two : (c : CellComplex) (s u a b : ℕ) (all some rest : List ℕ) → all ≡ middles c s u → all ≡ a ∷ some → some ≡ b ∷ rest
+    → middles c s u ≡ a ∷ b ∷ rest
 two c s u a b all some rest is first second = sym is ∙ first ∙ ap (λ ts. a ∷ ts) second
 
 pub restriction-requires-clause-face : goal.restriction-requires-clause-face
 restriction-requires-clause-face g c =
-    (between-head c.args.c.now c.args.s c.args.u c.in-Some.first _ (two c.args.c.now c.args.s c.args.u _ _ _ _ _ c.middles-middles.ensures c.in-Some.ensures.steps c.in-Some-next.ensures.steps)).upper
+    (between-head c.args.c.now c.args.s c.args.u c.in-Some.first _
+    (two c.args.c.now c.args.s c.args.u _ _ _ _ _ c.middles-middles.ensures c.in-Some.ensures.steps
+    c.in-Some-next.ensures.steps)).upper
 
 pub restriction-requires-2-clause-face : goal.restriction-requires-2-clause-face
 restriction-requires-2-clause-face g c =
-    (between-head c.args.c.now c.args.s c.args.u c.in-Some.first _ (two c.args.c.now c.args.s c.args.u _ _ _ _ _ c.middles-middles.ensures c.in-Some.ensures.steps c.in-Some-next.ensures.steps)).lower
+    (between-head c.args.c.now c.args.s c.args.u c.in-Some.first _
+    (two c.args.c.now c.args.s c.args.u _ _ _ _ _ c.middles-middles.ensures c.in-Some.ensures.steps
+    c.in-Some-next.ensures.steps)).lower
 
 pub restriction-requires-3-clause-face : goal.restriction-requires-3-clause-face
 restriction-requires-3-clause-face g c =
-    (between-second c.args.c.now c.args.s c.args.u c.in-Some.first c.in-Some-next.second _ (two c.args.c.now c.args.s c.args.u _ _ _ _ _ c.middles-middles.ensures c.in-Some.ensures.steps c.in-Some-next.ensures.steps)).upper
+    (between-second c.args.c.now c.args.s c.args.u c.in-Some.first c.in-Some-next.second _
+    (two c.args.c.now c.args.s c.args.u _ _ _ _ _ c.middles-middles.ensures c.in-Some.ensures.steps
+    c.in-Some-next.ensures.steps)).upper
 
 pub restriction-requires-4-clause-face : goal.restriction-requires-4-clause-face
 restriction-requires-4-clause-face g c =
-    (between-second c.args.c.now c.args.s c.args.u c.in-Some.first c.in-Some-next.second _ (two c.args.c.now c.args.s c.args.u _ _ _ _ _ c.middles-middles.ensures c.in-Some.ensures.steps c.in-Some-next.ensures.steps)).lower
+    (between-second c.args.c.now c.args.s c.args.u c.in-Some.first c.in-Some-next.second _
+    (two c.args.c.now c.args.s c.args.u _ _ _ _ _ c.middles-middles.ensures c.in-Some.ensures.steps
+    c.in-Some-next.ensures.steps)).lower
 
 pub square-requires : goal.square-requires
 square-requires g c =
@@ -38,10 +47,14 @@ square-requires g c =
     let is = two all s u a b _ _ _ c.middles-middles.ensures c.in-Some.ensures.steps c.in-Some-next.ensures.steps in
     let first : IsBetween all s u a = between-head all s u a _ is in
     let second : IsBetween all s u b = between-second all s u a b _ is in
-    let up1 : FitsFace K r.stalks a u c.restriction.result.now = restriction-fits K all blocks r a u _ first.upper c.restriction.ensures in
-    let low1 : FitsFace K r.stalks s a c.restriction-2.result.now = restriction-fits K all blocks r s a _ first.lower c.restriction-2.ensures in
-    let up2 : FitsFace K r.stalks b u c.restriction-3.result.now = restriction-fits K all blocks r b u _ second.upper c.restriction-3.ensures in
-    let low2 : FitsFace K r.stalks s b c.restriction-4.result.now = restriction-fits K all blocks r s b _ second.lower c.restriction-4.ensures in
+    let up1 : FitsFace K r.stalks a u c.restriction.result.now = restriction-fits K all blocks r a u _ first.upper
+    c.restriction.ensures in
+    let low1 : FitsFace K r.stalks s a c.restriction-2.result.now = restriction-fits K all blocks r s a _ first.lower
+    c.restriction-2.ensures in
+    let up2 : FitsFace K r.stalks b u c.restriction-3.result.now = restriction-fits K all blocks r b u _ second.upper
+    c.restriction-3.ensures in
+    let low2 : FitsFace K r.stalks s b c.restriction-4.result.now = restriction-fits K all blocks r s b _ second.lower
+    c.restriction-4.ensures in
     record {
       inner1 = up1.cols ∙ sym low1.rows;
       inner2 = up2.cols ∙ sym low2.rows;
@@ -66,8 +79,12 @@ returns g c =
     let is = two all s u a b _ _ _ c.middles-middles.ensures c.in-Some.ensures.steps c.in-Some-next.ensures.steps in
     let first : IsBetween all s u a = between-head all s u a _ is in
     let second : IsBetween all s u b = between-second all s u a b _ is in
-    let low1 : FitsFace K r.stalks s a c.restriction-2.result.now = restriction-fits K all blocks r s a _ first.lower c.restriction-2.ensures in
-    let low2 : FitsFace K r.stalks s b c.restriction-4.result.now = restriction-fits K all blocks r s b _ second.lower c.restriction-4.ensures in
-    commutes-two K all blocks s u a b (middles-two all c.requires.complex c.requires.regular s u a b _ is) c.square.result
+    let low1 : FitsFace K r.stalks s a c.restriction-2.result.now = restriction-fits K all blocks r s a _ first.lower
+    c.restriction-2.ensures in
+    let low2 : FitsFace K r.stalks s b c.restriction-4.result.now = restriction-fits K all blocks r s b _ second.lower
+    c.restriction-4.ensures in
+    commutes-two K all blocks s u a b (middles-two all c.requires.complex c.requires.regular s u a b _ is)
+    c.square.result
     c.restriction.result.now c.restriction-2.result.now c.restriction-3.result.now c.restriction-4.result.now
-    c.restriction.ensures c.restriction-2.ensures c.restriction-3.ensures c.restriction-4.ensures (low1.cols ∙ sym low2.cols) c.square.ensures
+    c.restriction.ensures c.restriction-2.ensures c.restriction-3.ensures c.restriction-4.ensures
+    (low1.cols ∙ sym low2.cols) c.square.ensures

@@ -19,6 +19,7 @@ first_bad-requires g c =
       touched = (
         All-cons (λ p. p < length c.args.c.now.faces) place [] c.is_place.ensures (λ k d l. absurd (omega arith)),
         others-commute (ops_of c.args.f) c.args.c.now old (set old place c.args.change) (place ∷ [])
-            (λ p e. others-written old place p c.args.change (eqb-false p place (or_parts (nat_eq p place) false e).0)) c.commute.ensures,
+            (λ p e. others-written old place p c.args.change (eqb-false p place (or_parts (nat_eq p place) false e).0))
+            c.commute.ensures,
       );
     }

@@ -19,9 +19,11 @@ returns g c =
       shapes = record {
         count = eqb-true (length blocks) c.face_count-count.result yes ∙ c.face_count-count.ensures.count;
         cols = λ p f b e i. (h p b (omega (arith, slice_get_within blocks p b i)) i).1
-            ∙ sym (get_or-replicate (length all.dims) f.s n 0 (face-fits all c.face_count-count.ensures.complex p f e).s_is_cell);
+            ∙ sym (get_or-replicate (length all.dims) f.s n 0
+            (face-fits all c.face_count-count.ensures.complex p f e).s_is_cell);
         rows = λ p f b e i. (h p b (omega (arith, slice_get_within blocks p b i)) i).0
-            ∙ sym (get_or-replicate (length all.dims) f.t n 0 (face-fits all c.face_count-count.ensures.complex p f e).t_is_cell);
+            ∙ sym (get_or-replicate (length all.dims) f.t n 0
+            (face-fits all c.face_count-count.ensures.complex p f e).t_is_cell);
       };
       scalars = λ k d l. (h k (get_or blocks k d) (omega arith) (slice_get-get_or blocks k d l)).2;
     }

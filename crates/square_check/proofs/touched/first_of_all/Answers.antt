@@ -24,7 +24,8 @@ loop-place-preserved g c =
       fails = subst (Fails (Commutes K all blocks)) (sym c.earlier-least.ensures)
           (earlier-fails (Commutes K all blocks) old bad c.loop-place.invariant.fails c.bad_above.ensures.fails);
       clears = λ k f l e. subst (λ r. ClearsAbove K all blocks r f) (sym c.earlier-least.ensures)
-          (⊎_elim (λ (before : k < place). above-first K all blocks old bad f (c.loop-place.invariant.clears k f before e))
+          (⊎_elim (λ (before : k < place). above-first K all blocks old bad f
+          (c.loop-place.invariant.clears k f before e))
           (λ (after : place ≤ k).
           let here : place ≡ k = omega arith in
           let same : face ≡ f = some-same face f (sym c.face_at-face.ensures ∙ ap (slice_get all.faces) here ∙ e) in
@@ -34,5 +35,6 @@ loop-place-preserved g c =
 
 pub returns : goal.returns
 returns g c =
-    first-of_all (g.F.Scalars.ops c.args.f.now) c.args.c.now c.requires.complex c.args.blocks.now c.loop-place.least c.loop-place.place
+    first-of_all (g.F.Scalars.ops c.args.f.now) c.args.c.now c.requires.complex c.args.blocks.now c.loop-place.least
+    c.loop-place.place
     (omega (arith, c.requires.count)) c.loop-place.invariant.fails c.loop-place.invariant.clears

@@ -8,5 +8,6 @@ use Rattle.square_check.proofs.touched.first_of_all.Given as goal
 abbrev pub invariant-loop-place : goal.invariant-loop-place
 invariant-loop-place g l = record {
   fails : Fails (Commutes (g.F.Scalars.ops l.f) l.c l.blocks) l.least;
-  clears : (k : ℕ) (f : Face) → k < l.place → slice_get l.c.faces k ≡ Some f → ClearsAbove (g.F.Scalars.ops l.f) l.c l.blocks l.least f;
+  clears : (k : ℕ) (f : Face) → k < l.place → slice_get l.c.faces k ≡ Some f
+      → ClearsAbove (g.F.Scalars.ops l.f) l.c l.blocks l.least f;
 }

@@ -8,7 +8,8 @@ use Rattle.square_check.specs.Answers.{earlier_pair, Fails}
 use Rattle.square_check.specs.Squares.{Commutes}
 use Rattle.square_check.proofs.Clearing.{earlier-fails}
 use Rattle.square_check.proofs.Placed.{some-same}
-use Rattle.square_check.proofs.Visited.{ClearsAbove, ClearsBelow, above-first, above-second, below-first, below-second, first-touched}
+use Rattle.square_check.proofs.Visited.{ClearsAbove, ClearsBelow, above-first, above-second, below-first, below-second}
+use Rattle.square_check.proofs.Visited.{first-touched}
 use Rattle.square_check.proofs.touched.first_touched.Goals as goal
 
 pub loop-place-preserved : goal.loop-place-preserved
@@ -26,7 +27,8 @@ loop-place-preserved g c =
     record {
       fails = subst (Fails (Commutes K all blocks)) (sym now)
           (earlier-fails (Commutes K all blocks) (earlier_pair old above) below
-          (earlier-fails (Commutes K all blocks) old above c.loop-place.invariant.fails c.bad_above.ensures.fails) c.bad_below.ensures.fails);
+          (earlier-fails (Commutes K all blocks) old above c.loop-place.invariant.fails c.bad_above.ensures.fails)
+          c.bad_below.ensures.fails);
       clears = λ k f l e. subst (λ r. ClearsAbove K all blocks r f × ClearsBelow K all blocks r f) (sym now)
           (⊎_elim
           (λ (before : k < index).
@@ -36,14 +38,19 @@ loop-place-preserved g c =
           ))
           (λ (after : index ≤ k).
           let here : index ≡ k = omega arith in
-          let same : face ≡ f = some-same face f (sym c.face_at-face.ensures ∙ ap (λ i. slice_get all.faces (get_or places i 0)) here ∙ e) in (
-            above-first K all blocks (earlier_pair old above) below f (above-second K all blocks old above f (subst (ClearsAbove K all blocks above) same c.bad_above.ensures.clears)),
-            below-second K all blocks (earlier_pair old above) below f (subst (ClearsBelow K all blocks below) same c.bad_below.ensures.clears),
+          let same : face ≡ f = some-same face f (sym c.face_at-face.ensures
+          ∙ ap (λ i. slice_get all.faces (get_or places i 0)) here ∙ e) in (
+            above-first K all blocks (earlier_pair old above) below f
+                (above-second K all blocks old above f
+                (subst (ClearsAbove K all blocks above) same c.bad_above.ensures.clears)),
+            below-second K all blocks (earlier_pair old above) below f
+                (subst (ClearsBelow K all blocks below) same c.bad_below.ensures.clears),
           ))
           (cases_lt k index));
     }
 
 pub returns : goal.returns
 returns g c =
-    first-touched (g.F.Scalars.ops c.args.f.now) c.args.c.now c.requires.complex c.args.blocks.now c.loop-place.least c.args.places.now c.loop-place.place-index
+    first-touched (g.F.Scalars.ops c.args.f.now) c.args.c.now c.requires.complex c.args.blocks.now c.loop-place.least
+    c.args.places.now c.loop-place.place-index
     (omega arith) c.requires.others c.loop-place.invariant.fails c.loop-place.invariant.clears

@@ -9,5 +9,6 @@ abbrev pub invariant-loop-place : goal.invariant-loop-place
 invariant-loop-place g l = record {
   fails : Fails (Commutes (g.F.Scalars.ops l.f) l.c l.blocks) l.least;
   clears : (k : ℕ) (f : Face) → k < l.place-index → slice_get l.c.faces (get_or l.places k 0) ≡ Some f
-      → ClearsAbove (g.F.Scalars.ops l.f) l.c l.blocks l.least f × ClearsBelow (g.F.Scalars.ops l.f) l.c l.blocks l.least f;
+      → ClearsAbove (g.F.Scalars.ops l.f) l.c l.blocks l.least f × ClearsBelow (g.F.Scalars.ops l.f) l.c l.blocks
+      l.least f;
 }

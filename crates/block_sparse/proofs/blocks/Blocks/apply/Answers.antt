@@ -1,5 +1,6 @@
 -- The live cells one by one, and all of them.
-use Rattle.std.proofs.Common.{◌≡◌, ◌∙◌, ◌≤◌, ◌<◌, ◌+◌, ℕ, suc, List, ap, sym, subst, length, get_or, arith, ◌++◌, ◌∷◌, [], refl, add-one}
+use Rattle.std.proofs.Common.{◌≡◌, ◌∙◌, ◌≤◌, ◌<◌, ◌+◌, ℕ, suc, List, ap, sym, subst, length, get_or, arith, ◌++◌, ◌∷◌}
+use Rattle.std.proofs.Common.{[], refl, add-one}
 use Rattle.std.specs.List.{flat_map}
 use Rattle.std.proofs.lemmas.List.{take_all}
 use Rattle.cochain_vec.specs.declared.cell.Cell.{Cell}
@@ -55,9 +56,11 @@ loop-cell-preserved g c =
     let inside : i < length live = omega arith in
     let cell = get_or live i (0, 0, 0) in
     let old = c.loop-cell.all.items in
-    let piece : ℕ → Cell → List ℕ = λ j t. sum_into K (complex_of (complex_in v)).arrows (value_at (of_degree j v.live) c.args.z.now) t.size t.cell in
+    let piece : ℕ → Cell → List ℕ = λ j t. sum_into K (complex_of (complex_in v)).arrows
+    (value_at (of_degree j v.live) c.args.z.now) t.size t.cell in
     let grown : c.add_part.new.all.items ≡ old ++ flat_map (piece k) (of_degree (k + 1) (cell ∷ [])) =
-    c.in_ok-add_part.ensures ∙ ap (λ j. old ++ flat_map (piece j) (of_degree (j + 1) (cell ∷ []))) c.in_ok-starts.ensures.degree in
+    c.in_ok-add_part.ensures ∙ ap (λ j. old ++ flat_map (piece j) (of_degree (j + 1) (cell ∷ [])))
+    c.in_ok-starts.ensures.degree in
     grown
     ∙ ap (λ u. u ++ flat_map (piece k) (of_degree (k + 1) (cell ∷ []))) c.loop-cell.invariant
     ∙ sym (parts-next (piece k) (k + 1) live i (0, 0, 0) inside)
@@ -69,9 +72,11 @@ returns-clause-coboundary g c =
     let k = c.args.k in
     let live = c.live-live.result.now in
     let end : length live ≤ c.loop-cell.cell-index = omega arith in
-    let piece : Cell → List ℕ = λ t. sum_into K (complex_of (complex_in v)).arrows (value_at (of_degree k v.live) c.args.z.now) t.size t.cell in
+    let piece : Cell → List ℕ = λ t. sum_into K (complex_of (complex_in v)).arrows
+    (value_at (of_degree k v.live) c.args.z.now) t.size t.cell in
     c.loop-cell.invariant
-    ∙ ap (λ l. flat_map piece (of_degree (k + 1) l)) (take_all c.loop-cell.cell-index live end ∙ c.live-live.ensures.live)
+    ∙ ap (λ l. flat_map piece (of_degree (k + 1) l)) (take_all c.loop-cell.cell-index live end
+    ∙ c.live-live.ensures.live)
     ∙ ap (λ j. flat_map piece (of_degree j v.live)) (add-one k)
 
 pub returns-clause-cochain : goal.returns-clause-cochain
@@ -82,7 +87,9 @@ returns-clause-cochain g c =
     let k = c.args.k in
     let z = c.args.z.now in
     let C = complex_of (complex_in v) in
-    let sound : IsSound v.live v.rows v.columns = subst (λ (v : StoredBlocks). IsSound v.live v.rows v.columns) c.self.view_is c.self.invariant in
+    let sound : IsSound v.live v.rows v.columns = subst (λ (v : StoredBlocks). IsSound v.live v.rows v.columns)
+    c.self.view_is c.self.invariant in
     let fits = rows_fit (complex_in v) sound.live_cells.rising (matrix-size_of v sound) in
     subst (λ j. IsCochain K C j c.loop-cell.all.items) (sym (add-one k))
-    (subst (IsCochain K C (suc k)) (sym (returns-clause-coboundary g c)) (from_vector K (coordinates C (suc k)) (coboundary K C k z) (coboundary-cochain K F C fits k z)))
+    (subst (IsCochain K C (suc k)) (sym (returns-clause-coboundary g c))
+    (from_vector K (coordinates C (suc k)) (coboundary K C k z) (coboundary-cochain K F C fits k z)))

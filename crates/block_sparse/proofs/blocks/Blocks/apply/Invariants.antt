@@ -7,5 +7,6 @@ use Rattle.block_sparse.specs.StoredBlocks.{complex_in}
 
 abbrev pub invariant-loop-cell : goal.invariant-loop-cell
 invariant-loop-cell g l = l.all.items ≡ flat_map
-    (λ t. sum_into (g.F.Scalars.ops l.f) (complex_of (complex_in l.self)).arrows (value_at (cells_of (complex_of (complex_in l.self)) l.k) l.z) t.size t.cell)
+    (λ t. sum_into (g.F.Scalars.ops l.f) (complex_of (complex_in l.self)).arrows
+    (value_at (cells_of (complex_of (complex_in l.self)) l.k) l.z) t.size t.cell)
     (of_degree (l.k + 1) (take l.cell-index l.live))

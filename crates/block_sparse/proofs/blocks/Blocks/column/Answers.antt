@@ -9,4 +9,5 @@ pub returns-clause-blocks : goal.returns-clause-blocks
 returns-clause-blocks c =
     let v = c.args.self.now in
     let sound = subst (λ v. IsSound v.live v.rows v.columns) c.self.view_is c.self.invariant in
-    λ s h. column-between v sound c.args.x s (sym (c.cells.ensures.cells s ∙ ap (λ v. is_some (entry_of v.columns c.args.x s)) c.self.view_is) ∙ h)
+    λ s h. column-between v sound c.args.x s
+    (sym (c.cells.ensures.cells s ∙ ap (λ v. is_some (entry_of v.columns c.args.x s)) c.self.view_is) ∙ h)

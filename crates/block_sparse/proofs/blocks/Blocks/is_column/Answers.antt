@@ -1,4 +1,5 @@
-use Rattle.std.proofs.Common.{◌≡◌, ◌≢◌, ◌<◌, ℕ, ap, ap₂, ◌∙◌, sym, subst, refl, true, false, length, get_or, take, arith, inl, inr, rules}
+use Rattle.std.proofs.Common.{◌≡◌, ◌≢◌, ◌<◌, ℕ, ap, ap₂, ◌∙◌, sym, subst, refl, true, false, length, get_or, take}
+use Rattle.std.proofs.Common.{arith, inl, inr, rules}
 use Rattle.std.proofs.lemmas.Bool.{cases_lt}
 use Rattle.dense_blocks.specs.Blocks.{matrix_of}
 use Rattle.block_complexes.specs.BlockComplexes.{size_of}
@@ -15,7 +16,8 @@ is_column_part-requires-clause-height c = sym (c.requires.sized c.loop-j.j (0, 0
 
 pub is_column_part-requires-clause-cols : goal.is_column_part-requires-clause-cols
 is_column_part-requires-clause-cols c =
-    let w : c.size_in-size.result ≡ size_of c.args.self.now.live c.args.x = c.size_in-size.ensures ∙ ap (λ l. size_of l c.args.x) c.live.ensures.live in
+    let w : c.size_in-size.result ≡ size_of c.args.self.now.live c.args.x = c.size_in-size.ensures
+    ∙ ap (λ l. size_of l c.args.x) c.live.ensures.live in
     omega (arith, w, c.requires.cols)
 
 pub is_column_part-requires-clause-rows : goal.is_column_part-requires-clause-rows
@@ -26,7 +28,13 @@ is_column_part-requires-clause-rows c =
 pub overflow_add-row : goal.overflow_add-row
 overflow_add-row c =
     let inside : c.loop-j.j < length c.args.below.now = omega arith in
-    omega (arith, c.loop-j.invariant.row, width-within c.args.below.now c.loop-j.j inside, c.requires.rows, c.args.joined.now.rows_fit)
+    omega (
+      arith,
+      c.loop-j.invariant.row,
+      width-within c.args.below.now c.loop-j.j inside,
+      c.requires.rows,
+      c.args.joined.now.rows_fit,
+    )
 
 pub loop-j-preserved : goal.loop-j-preserved
 loop-j-preserved c =
@@ -34,7 +42,8 @@ loop-j-preserved c =
     let j : ℕ = c.loop-j.j in
     let inside : j < length below = omega arith in
     let A = matrix_of c.args.joined.now in
-    let w : c.size_in-size.result ≡ c.args.joined.now.cols = c.size_in-size.ensures ∙ ap (λ l. size_of l c.args.x) c.live.ensures.live ∙ sym c.requires.cols in
+    let w : c.size_in-size.result ≡ c.args.joined.now.cols = c.size_in-size.ensures
+    ∙ ap (λ l. size_of l c.args.x) c.live.ensures.live ∙ sym c.requires.cols in
     let passed : c.is_column_part.result ≡ true = search rules in
     record {
       row = omega (arith, c.loop-j.invariant.row, width-next below j inside);
@@ -42,9 +51,11 @@ loop-j-preserved c =
         | inl u ↦ c.loop-j.invariant.same k u ne
         | inr u ↦
             let e : j ≡ k = omega arith in
-            subst (λ n. (get_or below n (0, 0)).0 ≢ c.args.y → block_matrix (block_at c.args.self.now c.args.x (get_or below n (0, 0)).0)
+            subst (λ n. (get_or below n (0, 0)).0 ≢ c.args.y
+            → block_matrix (block_at c.args.self.now c.args.x (get_or below n (0, 0)).0)
             ≡ nonzero (window (width (take n below)) (get_or below n (0, 0)).1 0 c.args.joined.now.cols A)) e
-            (λ d. c.is_column_part.ensures.0 passed d ∙ ap₂ (λ m n. nonzero (window n (get_or below j (0, 0)).1 0 m A)) w c.loop-j.invariant.row) ne
+            (λ d. c.is_column_part.ensures.0 passed d ∙ ap₂ (λ m n. nonzero (window n (get_or below j (0, 0)).1 0 m A))
+            w c.loop-j.invariant.row) ne
       ];
     }
 
@@ -54,12 +65,14 @@ returns-then-not-is_column_part c =
     let j : ℕ = c.loop-j.j in
     let inside : j < length below = omega arith in
     let A = matrix_of c.args.joined.now in
-    let w : c.size_in-size.result ≡ c.args.joined.now.cols = c.size_in-size.ensures ∙ ap (λ l. size_of l c.args.x) c.live.ensures.live ∙ sym c.requires.cols in
+    let w : c.size_in-size.result ≡ c.args.joined.now.cols = c.size_in-size.ensures
+    ∙ ap (λ l. size_of l c.args.x) c.live.ensures.live ∙ sym c.requires.cols in
     let failed : c.is_column_part.result ≡ false = search rules in (
       λ a. let e : false ≡ true = a in cc,
       λ a.
           let passed : c.is_column_part.result ≡ true = c.is_column_part.ensures.1
-          (λ d. a j inside d ∙ sym (ap₂ (λ m n. nonzero (window n (get_or below j (0, 0)).1 0 m A)) w c.loop-j.invariant.row)) in
+          (λ d. a j inside d ∙ sym (ap₂ (λ m n. nonzero (window n (get_or below j (0, 0)).1 0 m A)) w
+          c.loop-j.invariant.row)) in
           cc,
     )
 

@@ -19,12 +19,14 @@ returns g c =
     let v = c.args.self.now in
     let live = c.deref.result.now in
     let is : live ≡ v.live = c.deref.ensures.value ∙ ap (λ (v : StoredBlocks). v.live) c.self.view_is in
-    let sound : IsSound v.live v.rows v.columns = subst (λ (v : StoredBlocks). IsSound v.live v.rows v.columns) c.self.view_is c.self.invariant in (
+    let sound : IsSound v.live v.rows v.columns = subst (λ (v : StoredBlocks). IsSound v.live v.rows v.columns)
+    c.self.view_is c.self.invariant in (
       λ h. stored-block_complex K F v sound (λ s t. elim (cases_Bool (is_some (block_at v s t))) [
         | inl e ↦
             let p = place_of (cells live) t (ap (λ l. has t (cells l)) is ∙ (block_at-between v sound s t e).to) in
             let l : p.at < length live = omega (arith, p.inside, length-cells live) in
-            subst (λ q. All (AllScalars K) (matrix v s q)) (sym (cell-at live p.at l) ∙ p.is) (c.rows_are_over.ensures.0 h p.at (0, 0, 0) l s)
+            subst (λ q. All (AllScalars K) (matrix v s q)) (sym (cell-at live p.at l) ∙ p.is)
+            (c.rows_are_over.ensures.0 h p.at (0, 0, 0) l s)
         | inr e ↦ none-scalars K v s t F (not-block_at (block_at v s t) e)
       ]),
       λ is. c.rows_are_over.ensures.1 (λ i d l s. all-scalars K F v sound is s _),

@@ -1,4 +1,5 @@
-use Rattle.std.proofs.Common.{◌≡◌, ◌≢◌, ◌<◌, ℕ, ap, ap₂, ◌∙◌, sym, subst, refl, true, false, length, get_or, take, arith, inl, inr, rules}
+use Rattle.std.proofs.Common.{◌≡◌, ◌≢◌, ◌<◌, ℕ, ap, ap₂, ◌∙◌, sym, subst, refl, true, false, length, get_or, take}
+use Rattle.std.proofs.Common.{arith, inl, inr, rules}
 use Rattle.std.proofs.lemmas.Bool.{cases_lt}
 use Rattle.dense_blocks.specs.Blocks.{matrix_of}
 use Rattle.block_complexes.specs.BlockComplexes.{size_of}
@@ -15,7 +16,8 @@ is_row_part-requires-clause-width c = sym (c.requires.sized c.loop-i.i (0, 0) (o
 
 pub is_row_part-requires-clause-rows : goal.is_row_part-requires-clause-rows
 is_row_part-requires-clause-rows c =
-    let h : c.size_in-height.result ≡ size_of c.args.self.now.live c.args.y = c.size_in-height.ensures ∙ ap (λ l. size_of l c.args.y) c.live.ensures.live in
+    let h : c.size_in-height.result ≡ size_of c.args.self.now.live c.args.y = c.size_in-height.ensures
+    ∙ ap (λ l. size_of l c.args.y) c.live.ensures.live in
     omega (arith, h, c.requires.rows)
 
 pub is_row_part-requires-clause-cols : goal.is_row_part-requires-clause-cols
@@ -26,7 +28,13 @@ is_row_part-requires-clause-cols c =
 pub overflow_add-col : goal.overflow_add-col
 overflow_add-col c =
     let inside : c.loop-i.i < length c.args.left.now = omega arith in
-    omega (arith, c.loop-i.invariant.col, width-within c.args.left.now c.loop-i.i inside, c.requires.cols, c.args.joined.now.cols_fit)
+    omega (
+      arith,
+      c.loop-i.invariant.col,
+      width-within c.args.left.now c.loop-i.i inside,
+      c.requires.cols,
+      c.args.joined.now.cols_fit,
+    )
 
 pub loop-i-preserved : goal.loop-i-preserved
 loop-i-preserved c =
@@ -34,7 +42,8 @@ loop-i-preserved c =
     let i : ℕ = c.loop-i.i in
     let inside : i < length left = omega arith in
     let A = matrix_of c.args.joined.now in
-    let h : c.size_in-height.result ≡ c.args.joined.now.rows = c.size_in-height.ensures ∙ ap (λ l. size_of l c.args.y) c.live.ensures.live ∙ sym c.requires.rows in
+    let h : c.size_in-height.result ≡ c.args.joined.now.rows = c.size_in-height.ensures
+    ∙ ap (λ l. size_of l c.args.y) c.live.ensures.live ∙ sym c.requires.rows in
     let passed : c.is_row_part.result ≡ true = search rules in
     record {
       col = omega (arith, c.loop-i.invariant.col, width-next left i inside);
@@ -42,9 +51,11 @@ loop-i-preserved c =
         | inl u ↦ c.loop-i.invariant.same k u ne
         | inr u ↦
             let e : i ≡ k = omega arith in
-            subst (λ n. (get_or left n (0, 0)).0 ≢ c.args.x → block_matrix (block_at c.args.self.now (get_or left n (0, 0)).0 c.args.y)
+            subst (λ n. (get_or left n (0, 0)).0 ≢ c.args.x
+            → block_matrix (block_at c.args.self.now (get_or left n (0, 0)).0 c.args.y)
             ≡ nonzero (window 0 c.args.joined.now.rows (width (take n left)) (get_or left n (0, 0)).1 A)) e
-            (λ d. c.is_row_part.ensures.0 passed d ∙ ap₂ (λ m n. nonzero (window 0 m n (get_or left i (0, 0)).1 A)) h c.loop-i.invariant.col) ne
+            (λ d. c.is_row_part.ensures.0 passed d ∙ ap₂ (λ m n. nonzero (window 0 m n (get_or left i (0, 0)).1 A)) h
+            c.loop-i.invariant.col) ne
       ];
     }
 
@@ -54,12 +65,14 @@ returns-then-not-is_row_part c =
     let i : ℕ = c.loop-i.i in
     let inside : i < length left = omega arith in
     let A = matrix_of c.args.joined.now in
-    let h : c.size_in-height.result ≡ c.args.joined.now.rows = c.size_in-height.ensures ∙ ap (λ l. size_of l c.args.y) c.live.ensures.live ∙ sym c.requires.rows in
+    let h : c.size_in-height.result ≡ c.args.joined.now.rows = c.size_in-height.ensures
+    ∙ ap (λ l. size_of l c.args.y) c.live.ensures.live ∙ sym c.requires.rows in
     let failed : c.is_row_part.result ≡ false = search rules in (
       λ a. let e : false ≡ true = a in cc,
       λ a.
           let passed : c.is_row_part.result ≡ true = c.is_row_part.ensures.1
-          (λ d. a i inside d ∙ sym (ap₂ (λ m n. nonzero (window 0 m n (get_or left i (0, 0)).1 A)) h c.loop-i.invariant.col)) in
+          (λ d. a i inside d ∙ sym (ap₂ (λ m n. nonzero (window 0 m n (get_or left i (0, 0)).1 A)) h
+          c.loop-i.invariant.col)) in
           cc,
     )
 

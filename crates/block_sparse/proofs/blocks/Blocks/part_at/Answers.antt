@@ -20,7 +20,12 @@ loop-s-init g c =
     let K = g.F.Scalars.ops c.args.f.now in
     let n = size_of c.args.self.now.live c.args.t in
     let none : c.in_ok-sum.sum.items ≡ zeros n = c.in_ok-sum.ensures.items ∙ ap zeros c.size.ensures in
-    record { sum = none; vector = subst (IsVector K n) (sym none) (from_vector K n (zeros n) (zeros-vector K (g.met.F.Scalars.is_field c.args.f.now) n)) }
+    record {
+      sum = none;
+      vector =
+          subst (IsVector K n) (sym none)
+          (from_vector K n (zeros n) (zeros-vector K (g.met.F.Scalars.is_field c.args.f.now) n));
+    }
 
 pub loop-s-preserved : goal.loop-s-preserved
 loop-s-preserved g c =
@@ -31,7 +36,8 @@ loop-s-preserved g c =
     let row = c.row-s-items.result.now in
     let i : ℕ = c.loop-s.s-index in
     let inside : i < length row = omega arith in
-    let image : ℕ → List ℕ = λ s. image_of K (matrix v s t) (value_at (of_degree c.args.starts.now.degree v.live) c.args.z.now s) in
+    let image : ℕ → List ℕ = λ s.
+    image_of K (matrix v s t) (value_at (of_degree c.args.starts.now.degree v.live) c.args.z.now s) in
     record {
       sum = c.in_ok-add_image.ensures.sum ∙ ap (λ u. plus K u (image (get_or row i 0))) c.loop-s.invariant.sum
           ∙ sym (sum_over-next K (g.met.F.Scalars.is_field c.args.f.now) n image row i 0 inside);
@@ -46,7 +52,9 @@ returns g c =
     let row = c.row-s-items.result.now in
     let end : length row ≤ c.loop-s.s-index = omega arith in
     let value : ℕ → List ℕ = value_at (of_degree c.args.starts.now.degree v.live) c.args.z.now in
-    let sound : IsSound v.live v.rows v.columns = subst (λ (v : StoredBlocks). IsSound v.live v.rows v.columns) c.self.view_is c.self.invariant in
+    let sound : IsSound v.live v.rows v.columns = subst (λ (v : StoredBlocks). IsSound v.live v.rows v.columns)
+    c.self.view_is c.self.invariant in
     c.loop-s.invariant.sum
     ∙ ap (sum_over K (size_of v.live t) (λ s. image_of K (matrix v s t) (value s))) (take_all c.loop-s.s-index row end)
-    ∙ sym (sum_into-row K (g.met.F.Scalars.is_field c.args.f.now) v sound value t row c.requires.live c.row-s-items.ensures.rising c.row-s-items.ensures.cells)
+    ∙ sym (sum_into-row K (g.met.F.Scalars.is_field c.args.f.now) v sound value t row c.requires.live
+    c.row-s-items.ensures.rising c.row-s-items.ensures.cells)

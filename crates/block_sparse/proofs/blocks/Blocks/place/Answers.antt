@@ -18,10 +18,13 @@ returns-clause-held c = λ p q.
     let A = matrix_of b in
     let left : List (ℕ × ℕ) = (s, m) ∷ [] in
     let below : List (ℕ × ℕ) = (t, n) ∷ [] in
-    let rows : b.rows ≡ n = c.requires.rows ∙ sym (c.size_in-to.ensures ∙ ap (λ l. size_of l t) c.live-2.ensures.live) in
-    let cols : b.cols ≡ m = c.requires.cols ∙ sym (c.size_in-from.ensures ∙ ap (λ l. size_of l s) c.live.ensures.live) in
+    let rows : b.rows ≡ n = c.requires.rows ∙ sym (c.size_in-to.ensures ∙ ap (λ l. size_of l t) c.live-2.ensures.live)
+    in
+    let cols : b.cols ≡ m = c.requires.cols ∙ sym (c.size_in-from.ensures ∙ ap (λ l. size_of l s) c.live.ensures.live)
+    in
     let whole : Sized b.rows b.cols A = sized-cut b.rows b.cols b.entries (omega (arith, b.full)) in
     let sized : Sized n m A = subst (λ k. Sized n k A) cols (subst (λ k. Sized k b.cols A) rows whole) in
     c.in_ok-set_grid.ensures.held p q
     ∙ at_pair s t p q (as_block (part left below A p q)) (as_block A) (block_at c.args.self.now p q)
-    (λ e f. ap (λ x. as_block (part left below A x q)) e ∙ ap (λ y. as_block (part left below A s y)) f ∙ ap as_block (part-whole s t m n A sized))
+    (λ e f. ap (λ x. as_block (part left below A x q)) e ∙ ap (λ y. as_block (part left below A s y)) f
+    ∙ ap as_block (part-whole s t m n A sized))

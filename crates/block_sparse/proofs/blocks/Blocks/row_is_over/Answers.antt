@@ -14,8 +14,10 @@ returns g c =
     let t = c.args.t in
     let row = c.row.result.now in (
       λ h s. elim (cases_Bool (has s row)) [
-        | inl e ↦ let p = place_of row s e in subst (λ q. All (AllScalars K) (matrix v q t)) p.is (c.blocks_are_over.ensures.0 h p.at 0 p.inside)
-        | inr e ↦ none-scalars K v s t (g.met.F.Scalars.is_field c.args.f.now) (not-block_at (block_at v s t) (sym (c.row.ensures.cells s) ∙ e))
+        | inl e ↦ let p = place_of row s e in subst (λ q. All (AllScalars K) (matrix v q t)) p.is
+            (c.blocks_are_over.ensures.0 h p.at 0 p.inside)
+        | inr e ↦ none-scalars K v s t (g.met.F.Scalars.is_field c.args.f.now)
+            (not-block_at (block_at v s t) (sym (c.row.ensures.cells s) ∙ e))
       ],
       λ all. c.blocks_are_over.ensures.1 (λ i d l. all _),
     )

@@ -16,10 +16,14 @@ returns-then-is_column c =
     let b = c.args.joined.now in
     let sized : Sized b.rows b.cols A = sized-cut b.rows b.cols b.entries (omega (arith, b.full)) in
     let fits : width below ≤ b.rows = omega (arith, c.requires.rows) in (
-      λ h. all-same below (λ s. block_at v x s) (λ s. nonzero (segment below A s)) c.args.y c.column.result.now c.column.ensures.cells (rows-absent below A)
-          (λ i l ne. c.is_column.ensures.0 c.if-is_column.true i l ne ∙ ap nonzero (rows-window below A c.args.joined.now.rows c.args.joined.now.cols i c.requires.rising sized fits l))
+      λ h. all-same below (λ s. block_at v x s) (λ s. nonzero (segment below A s)) c.args.y c.column.result.now
+          c.column.ensures.cells (rows-absent below A)
+          (λ i l ne. c.is_column.ensures.0 c.if-is_column.true i l ne
+          ∙ ap nonzero (rows-window below A c.args.joined.now.rows c.args.joined.now.cols i c.requires.rising sized
+          fits l))
           (c.are_listed.ensures.0 h),
-      λ all. c.are_listed.ensures.1 (same-listed below (λ s. block_at v x s) (λ s. nonzero (segment below A s)) c.args.y c.column.result.now c.column.ensures.cells (rows-absent below A) all),
+      λ all. c.are_listed.ensures.1 (same-listed below (λ s. block_at v x s) (λ s. nonzero (segment below A s)) c.args.y
+          c.column.result.now c.column.ensures.cells (rows-absent below A) all),
     )
 
 pub returns-else-is_column : goal.returns-else-is_column
@@ -34,5 +38,6 @@ returns-else-is_column c =
       λ h. let e : false ≡ true = sym c.if-is_column.false ∙ h in cc,
       λ all. c.is_column.ensures.1 (λ i l ne.
           same-at below (λ s. block_at v x s) (λ s. nonzero (segment below A s)) c.args.y all i l ne
-          ∙ ap nonzero (sym (rows-window below A c.args.joined.now.rows c.args.joined.now.cols i c.requires.rising sized fits l))),
+          ∙ ap nonzero (sym (rows-window below A c.args.joined.now.rows c.args.joined.now.cols i c.requires.rising sized
+          fits l))),
     )

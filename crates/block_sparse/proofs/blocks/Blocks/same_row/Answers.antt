@@ -13,10 +13,13 @@ returns-then-is_row c =
     let y : ℕ = c.args.y in
     let v = c.args.self.now in
     let size : length A ≡ c.args.joined.now.rows = block-size c.args.joined.now in (
-      λ h. all-same left (λ s. block_at v s y) (λ s. nonzero (columns_of left A s)) c.args.x c.row.result.now c.row.ensures.cells (columns-absent left A)
-          (λ i l ne. c.is_row.ensures.0 c.if-is_row.true i l ne ∙ ap nonzero (columns-window left A c.args.joined.now.rows i c.requires.rising size l))
+      λ h. all-same left (λ s. block_at v s y) (λ s. nonzero (columns_of left A s)) c.args.x c.row.result.now
+          c.row.ensures.cells (columns-absent left A)
+          (λ i l ne. c.is_row.ensures.0 c.if-is_row.true i l ne
+          ∙ ap nonzero (columns-window left A c.args.joined.now.rows i c.requires.rising size l))
           (c.are_listed.ensures.0 h),
-      λ all. c.are_listed.ensures.1 (same-listed left (λ s. block_at v s y) (λ s. nonzero (columns_of left A s)) c.args.x c.row.result.now c.row.ensures.cells (columns-absent left A) all),
+      λ all. c.are_listed.ensures.1 (same-listed left (λ s. block_at v s y) (λ s. nonzero (columns_of left A s))
+          c.args.x c.row.result.now c.row.ensures.cells (columns-absent left A) all),
     )
 
 pub returns-else-is_row : goal.returns-else-is_row

@@ -6,27 +6,39 @@ use Rattle.cell_complex.specs.Complexes.{CellComplex, faces_of, cofaces_of}
 use Rattle.cell_complex.specs.Fields.{face_of_entry, complex_from}
 use Rattle.cell_complex.proofs.Numbers.{non_decreasing}
 use Rattle.cell_complex.proofs.Entries.{none-lookup}
-use Rattle.cell_complex.proofs.Faults.{IsNew, new_shown, below-size, above-size, below-at, above-at, faces_of-rise, cofaces_of-rise, kept-with_face}
+use Rattle.cell_complex.proofs.Faults.{IsNew, new_shown, below-size, above-size, below-at, above-at, faces_of-rise}
+use Rattle.cell_complex.proofs.Faults.{cofaces_of-rise, kept-with_face}
 use Rattle.cell_complex.proofs.complex.Complex.append.Goals as goal
 
 pub keep_face-requires-clause-s_is_cell : goal.keep_face-requires-clause-s_is_cell
 keep_face-requires-clause-s_is_cell c =
     let all : CellComplex = complex_from c.self.inside.dims.items c.self.inside.signs.entries in
     let new : IsNew all c.args.face = new_shown all c.args.self.now c.args.face c.self.view_is c.requires in
-    omega (arith, new.fits.s_is_cell, above-size all (neighbour_lists c.self.inside.below) (neighbour_lists c.self.inside.above) c.self.invariant)
+    omega (
+      arith,
+      new.fits.s_is_cell,
+      above-size all (neighbour_lists c.self.inside.below)
+          (neighbour_lists c.self.inside.above) c.self.invariant,
+    )
 
 pub keep_face-requires-clause-t_is_cell : goal.keep_face-requires-clause-t_is_cell
 keep_face-requires-clause-t_is_cell c =
     let all : CellComplex = complex_from c.self.inside.dims.items c.self.inside.signs.entries in
     let new : IsNew all c.args.face = new_shown all c.args.self.now c.args.face c.self.view_is c.requires in
-    omega (arith, new.fits.t_is_cell, below-size all (neighbour_lists c.self.inside.below) (neighbour_lists c.self.inside.above) c.self.invariant)
+    omega (
+      arith,
+      new.fits.t_is_cell,
+      below-size all (neighbour_lists c.self.inside.below)
+          (neighbour_lists c.self.inside.above) c.self.invariant,
+    )
 
 pub keep_face-requires-clause-below_rises : goal.keep_face-requires-clause-below_rises
 keep_face-requires-clause-below_rises c =
     let all : CellComplex = complex_from c.self.inside.dims.items c.self.inside.signs.entries in
     let new : IsNew all c.args.face = new_shown all c.args.self.now c.args.face c.self.view_is c.requires in
     subst IsNonDecreasing
-    (sym (below-at all (neighbour_lists c.self.inside.below) (neighbour_lists c.self.inside.above) c.self.invariant c.args.face.t new.fits.t_is_cell))
+    (sym (below-at all (neighbour_lists c.self.inside.below) (neighbour_lists c.self.inside.above) c.self.invariant
+    c.args.face.t new.fits.t_is_cell))
     (non_decreasing (faces_of all c.args.face.t) (faces_of-rise all c.args.face.t))
 
 pub keep_face-requires-clause-above_rises : goal.keep_face-requires-clause-above_rises
@@ -34,7 +46,8 @@ keep_face-requires-clause-above_rises c =
     let all : CellComplex = complex_from c.self.inside.dims.items c.self.inside.signs.entries in
     let new : IsNew all c.args.face = new_shown all c.args.self.now c.args.face c.self.view_is c.requires in
     subst IsNonDecreasing
-    (sym (above-at all (neighbour_lists c.self.inside.below) (neighbour_lists c.self.inside.above) c.self.invariant c.args.face.s new.fits.s_is_cell))
+    (sym (above-at all (neighbour_lists c.self.inside.below) (neighbour_lists c.self.inside.above) c.self.invariant
+    c.args.face.s new.fits.s_is_cell))
     (non_decreasing (cofaces_of all c.args.face.s) (cofaces_of-rise all c.args.face.s))
 
 pub keep_face-requires-clause-absent : goal.keep_face-requires-clause-absent

@@ -17,9 +17,11 @@ returns-in-Some-clause-refused c at fault e =
     let is : c.loop-face.complex ≡ first = c.loop-face.invariant.is in
     let none : Face = record { s = 0; t = 0; sign = Plus } in
     let face : Face = get_or faces n none in
-    let answered : face_fault first face ≡ Some c.in-Some.fault = ap (λ all. face_fault all face) (sym is) ∙ sym c.in-Some.ensures in
+    let answered : face_fault first face ≡ Some c.in-Some.fault = ap (λ all. face_fault all face) (sym is)
+    ∙ sym c.in-Some.ensures in
     let here : IsFirstFault dims faces n c.in-Some.fault =
-    first_fault dims faces n face c.in-Some.fault (subst IsComplex is c.loop-face.invariant.complex) (slice_get-get_or faces n none (omega arith)) answered in
+    first_fault dims faces n face c.in-Some.fault (subst IsComplex is c.loop-face.invariant.complex)
+    (slice_get-get_or faces n none (omega arith)) answered in
     let size : length first.faces ≡ n = length-take-le n faces (omega arith) in
     let place : n ≡ at = sym (c.face_count-place.ensures.count ∙ ap (λ all. length all.faces) is ∙ size) ∙ cc in
     let same : c.in-Some.fault ≡ fault = cc in
@@ -29,5 +31,7 @@ pub returns-clause-accepted : goal.returns-clause-accepted
 returns-clause-accepted c =
     let faces : List Face = c.args.faces.now in
     let all : take c.loop-face.face-index faces ≡ faces = take_all c.loop-face.face-index faces (omega arith) in
-    let complex : IsComplex (with_first_faces c.args.dims.now faces c.loop-face.face-index) = subst IsComplex c.loop-face.invariant.is c.loop-face.invariant.complex in
-    subst (AllAccepted c.args.dims.now) all (accepted-complex (with_first_faces c.args.dims.now faces c.loop-face.face-index) complex)
+    let complex : IsComplex (with_first_faces c.args.dims.now faces c.loop-face.face-index) =
+    subst IsComplex c.loop-face.invariant.is c.loop-face.invariant.complex in
+    subst (AllAccepted c.args.dims.now) all
+    (accepted-complex (with_first_faces c.args.dims.now faces c.loop-face.face-index) complex)

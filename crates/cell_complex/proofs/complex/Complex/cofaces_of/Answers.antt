@@ -9,14 +9,16 @@ pub list-requires : goal.list-requires
 list-requires c =
     let below = neighbour_lists c.self.inside.below in
     let above = neighbour_lists c.self.inside.above in
-    let kept : AreNeighbourLists c.args.self.now below above = subst (λ all. AreNeighbourLists all below above) c.self.view_is c.self.invariant in
+    let kept : AreNeighbourLists c.args.self.now below above = subst (λ all. AreNeighbourLists all below above)
+    c.self.view_is c.self.invariant in
     omega (arith, above-size c.args.self.now below above kept)
 
 pub returns-clause-cells : goal.returns-clause-cells
 returns-clause-cells c =
     let below = neighbour_lists c.self.inside.below in
     let above = neighbour_lists c.self.inside.above in
-    let kept : AreNeighbourLists c.args.self.now below above = subst (λ all. AreNeighbourLists all below above) c.self.view_is c.self.invariant in
+    let kept : AreNeighbourLists c.args.self.now below above = subst (λ all. AreNeighbourLists all below above)
+    c.self.view_is c.self.invariant in
     c.list.ensures ∙ above-at c.args.self.now below above kept c.args.s c.requires
 
 pub returns-clause-rising : goal.returns-clause-rising

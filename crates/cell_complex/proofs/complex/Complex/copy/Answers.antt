@@ -7,7 +7,8 @@ use Rattle.cell_complex.proofs.complex.Complex.copy.Goals as goal
 pub append-requires : goal.append-requires
 append-requires c =
     ap (λ all. face_fault all c.face_at.result) c.loop-place.invariant
-    ∙ accepted-complex c.args.self.now c.face_count-place-end.ensures.complex c.loop-place.place c.face_at.result c.face_at.ensures
+    ∙ accepted-complex c.args.self.now c.face_count-place-end.ensures.complex c.loop-place.place c.face_at.result
+    c.face_at.ensures
 
 pub loop-place-preserved : goal.loop-place-preserved
 loop-place-preserved c =

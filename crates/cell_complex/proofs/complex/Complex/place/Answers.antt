@@ -15,7 +15,12 @@ returns-in_err-place c =
 pub overflow_cast-result : goal.overflow_cast-result
 overflow_cast-result c =
     let all = complex_from c.self.inside.dims.items c.self.inside.signs.entries in
-    omega (arith, length-faces all c.self.invariant.complex, length-map c.self.inside.signs.entries face_of_entry, c.in_ok-place.ensures.within)
+    omega (
+      arith,
+      length-faces all c.self.invariant.complex,
+      length-map c.self.inside.signs.entries face_of_entry,
+      c.in_ok-place.ensures.within,
+    )
 
 pub returns : goal.returns
 returns c =

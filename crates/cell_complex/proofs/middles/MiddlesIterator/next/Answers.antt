@@ -7,14 +7,16 @@ use Rattle.cell_complex.proofs.middles.MiddlesIterator.next.Goals as goal
 pub returns-in_err-v-clause-steps : goal.returns-in_err-v-clause-steps
 returns-in_err-v-clause-steps c =
     let xs = c.merge.self-inside.cofaces.now in
-    let none : common xs c.merge.self-inside.faces.now ≡ [] = common-none xs c.merge.self-inside.faces.now c.in_err-v.ensures.cases in
+    let none : common xs c.merge.self-inside.faces.now ≡ [] = common-none xs c.merge.self-inside.faces.now
+    c.in_err-v.ensures.cases in
     rw c.from_residual-in_err-v.ensures (sym c.merge.invariant.same ∙ none, none)
 
 pub merge-preserved-in-Less : goal.merge-preserved-in-Less
 merge-preserved-in-Less c =
     let l : c.in_ok-t.field-0-0.now < c.in_ok-v.field-0-0.now = grind (arith, nat_tests) in
     record {
-      same = sym (common-less _ _ _ _ _ _ c.in_ok-t.ensures.cases.0 c.in_ok-v.ensures.cases.0 c.merge.invariant.faces_rise l) ∙ c.merge.invariant.same;
+      same = sym (common-less _ _ _ _ _ _ c.in_ok-t.ensures.cases.0 c.in_ok-v.ensures.cases.0
+          c.merge.invariant.faces_rise l) ∙ c.merge.invariant.same;
       cofaces_rise = rising-rest _ _ _ c.in_ok-t.ensures.cases.0 c.merge.invariant.cofaces_rise;
       faces_rise = c.merge.invariant.faces_rise;
     }
@@ -23,14 +25,17 @@ pub merge-preserved : goal.merge-preserved
 merge-preserved c =
     let l : c.in_ok-v.field-0-0.now < c.in_ok-t.field-0-0.now = grind (arith, nat_tests) in
     record {
-      same = sym (common-greater _ _ _ _ _ _ c.in_ok-t.ensures.cases.0 c.in_ok-v.ensures.cases.0 c.merge.invariant.cofaces_rise l) ∙ c.merge.invariant.same;
+      same = sym (common-greater _ _ _ _ _ _ c.in_ok-t.ensures.cases.0 c.in_ok-v.ensures.cases.0
+          c.merge.invariant.cofaces_rise l) ∙ c.merge.invariant.same;
       cofaces_rise = c.merge.invariant.cofaces_rise;
       faces_rise = rising-rest _ _ _ c.in_ok-v.ensures.cases.0 c.merge.invariant.faces_rise;
     }
 
 pub invariant_of-self-in-Equal : goal.invariant_of-self-in-Equal
-invariant_of-self-in-Equal c =
-    (rising-rest _ _ _ c.in_ok-t.ensures.cases.0 c.merge.invariant.cofaces_rise, rising-rest _ _ _ c.in_ok-v.ensures.cases.0 c.merge.invariant.faces_rise)
+invariant_of-self-in-Equal c = (
+  rising-rest _ _ _ c.in_ok-t.ensures.cases.0 c.merge.invariant.cofaces_rise,
+  rising-rest _ _ _ c.in_ok-v.ensures.cases.0 c.merge.invariant.faces_rise,
+)
 
 pub returns-in-Equal-clause-steps : goal.returns-in-Equal-clause-steps
 returns-in-Equal-clause-steps c =

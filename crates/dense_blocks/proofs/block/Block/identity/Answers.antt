@@ -5,11 +5,13 @@ use Rattle.dense_blocks.proofs.block.Block.identity.Goals as goal
 
 pub invariant_of-result-clause-full : goal.invariant_of-result-clause-full
 invariant_of-result-clause-full c =
-    first_rows-size c.args.n c.args.n c.loop-i.i (identity c.args.n) c.loop-i.entries (sized-identity c.args.n) (omega arith) c.loop-i.invariant
+    first_rows-size c.args.n c.args.n c.loop-i.i (identity c.args.n) c.loop-i.entries (sized-identity c.args.n)
+    (omega arith) c.loop-i.invariant
 
 pub returns : goal.returns
 returns c = record {
   rows_are = refl;
   columns_are = refl;
-  matrix_is = cut-first_rows c.args.n c.args.n c.loop-i.i (identity c.args.n) c.loop-i.entries (sized-identity c.args.n) (omega arith) c.loop-i.invariant;
+  matrix_is = cut-first_rows c.args.n c.args.n c.loop-i.i (identity c.args.n) c.loop-i.entries (sized-identity c.args.n)
+      (omega arith) c.loop-i.invariant;
 }

@@ -12,9 +12,11 @@ pub reduce-requires-clause-vector : goal.reduce-requires-clause-vector
 reduce-requires-clause-vector g c =
     let K : Ops = g.F.Scalars.ops c.args.f.now in
     let is : c.as_slice.result.now ≡ get_or (lists c.args.columns.now) c.args.source [] =
-    c.as_slice.ensures.value ∙ list_at c.args.columns.now c.args.source c.index-columns-source.result c.requires.source c.index-columns-source.is in
+    c.as_slice.ensures.value ∙ list_at c.args.columns.now c.args.source c.index-columns-source.result c.requires.source
+    c.index-columns-source.is in
     subst (IsVector K c.args.self.now.size) (sym is)
-    (All-get_or (IsVector K c.args.self.now.size) (lists c.args.columns.now) c.args.source [] (omega (arith, c.requires.columns.size)) c.requires.columns.rows_are)
+    (All-get_or (IsVector K c.args.self.now.size) (lists c.args.columns.now) c.args.source []
+    (omega (arith, c.requires.columns.size)) c.requires.columns.rows_are)
 
 pub returns-in_ok-push-clause-after : goal.returns-in_ok-push-clause-after
 returns-in_ok-push-clause-after g c =
@@ -28,12 +30,20 @@ returns-in_ok-push-clause-after g c =
     let at : ℕ = c.in-Some.place in
     let row : List ℕ = c.in_ok-reduced.reduced.row.items in
     let is : c.as_slice.result.now ≡ get_or vectors q.source [] =
-    c.as_slice.ensures.value ∙ list_at c.args.columns.now j c.index-columns-source.result c.requires.source c.index-columns-source.is
+    c.as_slice.ensures.value ∙ list_at c.args.columns.now j c.index-columns-source.result c.requires.source
+    c.index-columns-source.is
     ∙ ap (λ t. get_or vectors t []) (sym c.of-pivot.ensures.source) in
     let place_is : get_or row at 0 ≡ get_or q.row.items q.place 0 =
-    ap (λ t. get_or t at 0) (sym c.of-pivot.ensures.row) ∙ ap (λ t. get_or q.row.items t 0) (sym c.of-pivot.ensures.place) in
+    ap (λ t. get_or t at 0) (sym c.of-pivot.ensures.row)
+    ∙ ap (λ t. get_or q.row.items t 0) (sym c.of-pivot.ensures.place) in
     let fit : IsPivot K n q = record {
-      place = omega (arith, c.of-pivot.ensures.place, c.in-Some.ensures.inside, ap length c.as_slice-2.ensures.value, c.in_ok-reduced.ensures.vector.size);
+      place = omega (
+        arith,
+        c.of-pivot.ensures.place,
+        c.in-Some.ensures.inside,
+        ap length c.as_slice-2.ensures.value,
+        c.in_ok-reduced.ensures.vector.size,
+      );
       row = subst (IsVector K n) (sym c.of-pivot.ensures.row) c.in_ok-reduced.ensures.vector;
       first = ap₂ take c.of-pivot.ensures.place (c.of-pivot.ensures.row ∙ sym c.as_slice-2.ensures.value)
           ∙ c.in-Some.ensures.first ∙ ap zeros (sym c.of-pivot.ensures.place);
@@ -57,7 +67,8 @@ returns-in_default-clause-after g c =
     let vectors : List (List ℕ) = lists c.args.columns.now in
     let j : ℕ = c.args.source in
     let is : c.as_slice.result.now ≡ get_or vectors j [] =
-    c.as_slice.ensures.value ∙ list_at c.args.columns.now j c.index-columns-source.result c.requires.source c.index-columns-source.is in
+    c.as_slice.ensures.value ∙ list_at c.args.columns.now j c.index-columns-source.result c.requires.source
+    c.index-columns-source.is in
     eliminates-zero K h c.args.self.now.size vectors j c.args.self.now.pivots.items c.requires.before
     (ap (reduced K c.args.self.now.pivots.items) (sym is)
     ∙ sym c.in_ok-reduced.ensures.row

@@ -19,11 +19,14 @@ size_at-cols-requires c =
 pub returns : goal.returns
 returns c =
     let stalks = c.args.self.now.stalks.items in
-    on_ok c.put.result (Puts c.args.c.now (joins c.args.s c.args.t) (λ f. written_matrix c.in_ok-block.block) c.args.self.now c.put.new.self)
+    on_ok c.put.result (Puts c.args.c.now (joins c.args.s c.args.t) (λ f. written_matrix c.in_ok-block.block)
+    c.args.self.now c.put.new.self)
     (Puts c.args.c.now (joins c.args.s c.args.t) (zero_at stalks) c.args.self.now c.put.new.self)
     c.put.ensures
-    (puts-agree c.args.c.now (joins c.args.s c.args.t) (λ f. written_matrix c.in_ok-block.block) (zero_at stalks) c.args.self.now c.put.new.self
-    (λ f e. zero-written stalks c.args.s c.args.t c.size_at-rows.result c.size_at-cols.result c.in_ok-block.block c.in_ok-block.ensures
+    (puts-agree c.args.c.now (joins c.args.s c.args.t) (λ f. written_matrix c.in_ok-block.block) (zero_at stalks)
+    c.args.self.now c.put.new.self
+    (λ f e. zero-written stalks c.args.s c.args.t c.size_at-rows.result c.size_at-cols.result c.in_ok-block.block
+    c.in_ok-block.ensures
     (c.size_at-rows.ensures.value ∙ ap (λ xs. slice_index xs c.args.t) c.deref.ensures.value)
     (c.size_at-cols.ensures.value ∙ ap (λ xs. slice_index xs c.args.s) c.deref-2.ensures.value)
     ∙ zero-joined stalks c.args.s c.args.t f e))

@@ -7,7 +7,8 @@ use Rattle.edit_versions.proofs.Putting.{on_ok, puts-count, puts-puts, puts-same
 use Rattle.edit_versions.proofs.work.Work.clear_at.Goals as goal
 
 pub clear_above-requires-clause-count : goal.clear_above-requires-clause-count
-clear_above-requires-clause-count c = puts-count c.args.c.now _ _ c.args.self.now c.clear_below.new.self c.requires.count c.in_ok-clear_below.ensures
+clear_above-requires-clause-count c = puts-count c.args.c.now _ _ c.args.self.now c.clear_below.new.self
+    c.requires.count c.in_ok-clear_below.ensures
 
 pub returns : goal.returns
 returns c =
@@ -21,5 +22,6 @@ returns c =
     c.clear_above.ensures
     (λ h.
     puts-same K _ (is_end s) (zero_at stalks) c.args.self.now new (ends-at K c.requires.complex s)
-    (puts-puts K (is_from (faces_of K s) s) (is_to (cofaces_of K s) s) (zero_at stalks) c.args.self.now mid new c.in_ok-clear_below.ensures
+    (puts-puts K (is_from (faces_of K s) s) (is_to (cofaces_of K s) s) (zero_at stalks) c.args.self.now mid new
+    c.in_ok-clear_below.ensures
     (subst (λ xs. Puts K (is_to (cofaces_of K s) s) (zero_at xs) mid new) c.in_ok-clear_below.ensures.stalks h)))

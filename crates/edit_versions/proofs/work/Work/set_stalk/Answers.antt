@@ -8,7 +8,8 @@ use Rattle.edit_versions.proofs.work.Work.set_stalk.Goals as goal
 pub returns : goal.returns
 returns c =
     on_ok c.clear_at.result
-    (Puts c.args.c.now (is_end c.args.s) (zero_at (set c.args.self.now.stalks.items c.args.s c.args.n)) _ c.clear_at.new.self)
+    (Puts c.args.c.now (is_end c.args.s) (zero_at (set c.args.self.now.stalks.items c.args.s c.args.n)) _
+    c.clear_at.new.self)
     (TakesSet c.args.c.now (Stalk c.args.s c.args.n) c.args.self.now c.clear_at.new.self)
     c.clear_at.ensures
     (λ h. record {

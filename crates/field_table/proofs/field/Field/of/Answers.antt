@@ -1,5 +1,6 @@
 use Rattle.std.proofs.Common.{arith}
-use Rattle.field_table.specs.declared.field.Field.TheVariants.{Five, Seven, Eleven, Thirteen, Seventeen, Nineteen, TwentyThree, TwentyNine}
+use Rattle.field_table.specs.declared.field.Field.TheVariants.{Five, Seven, Eleven, Thirteen, Seventeen, Nineteen}
+use Rattle.field_table.specs.declared.field.Field.TheVariants.{TwentyThree, TwentyNine}
 use Rattle.field_table.proofs.Known.{known_at}
 use Rattle.field_table.proofs.field.Field.of.Goals as goal
 

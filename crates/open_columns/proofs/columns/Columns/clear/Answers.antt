@@ -9,7 +9,8 @@ pub invariant_of-self : goal.invariant_of-self
 invariant_of-self c =
     let marks = c.self.inside.marks in
     let x = c.args.x in
-    first-replaced marks c.clear.new.self c.self.inside.firsts c.put.new.self x None c.self.invariant c.clear.ensures.cells
+    first-replaced marks c.clear.new.self c.self.inside.firsts c.put.new.self x None c.self.invariant
+    c.clear.ensures.cells
     (λ k n t. c.clear.ensures.entries k t ∙ ap (λ b. cond b None (entry_of marks k t)) (ne_eqb k x n))
     c.put.ensures
     (λ h t l. ap is_open (c.clear.ensures.entries x t ∙ ap (λ b. cond b None (entry_of marks x t)) (eq-eqb x x refl)))

@@ -5,5 +5,6 @@ use Rattle.open_columns.proofs.columns.Columns.remove_all.Given as goal
 abbrev pub invariant-loop-x : goal.invariant-loop-x
 invariant-loop-x l = record {
   cells : l.self.cells ≡ l.initial.self.cells;
-  entries : (k p : ℕ) → entry_of l.self k p ≡ cond (has k (take l.x-index l.listed) && eqb p l.t) None (entry_of l.initial.self k p);
+  entries : (k p : ℕ) → entry_of l.self k p ≡ cond (has k (take l.x-index l.listed) && eqb p l.t) None
+      (entry_of l.initial.self k p);
 }

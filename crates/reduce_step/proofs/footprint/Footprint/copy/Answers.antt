@@ -16,10 +16,12 @@ below-listed c =
     c.column.ensures.rising (λ t m. (c.column.ensures.blocks t m).between.to)
 
 from-listed : (c : In_ok-pivot) → AreListed c.args.b.now.live c.in_ok-from.from
-from-listed c = one-listed c.args.b.now.live c.args.x c.in_ok-from.from c.in_ok-from.ensures c.in_ok-pivot.ensures.fits.between.from
+from-listed c = one-listed c.args.b.now.live c.args.x c.in_ok-from.from c.in_ok-from.ensures
+    c.in_ok-pivot.ensures.fits.between.from
 
 to-listed : (c : In_ok-pivot) → AreListed c.args.b.now.live c.in_ok-to.to
-to-listed c = one-listed c.args.b.now.live c.args.y c.in_ok-to.to c.in_ok-to.ensures c.in_ok-pivot.ensures.fits.between.to
+to-listed c = one-listed c.args.b.now.live c.args.y c.in_ok-to.to c.in_ok-to.ensures
+    c.in_ok-pivot.ensures.fits.between.to
 
 pub joined-requires : goal.joined-requires
 joined-requires c =
@@ -39,9 +41,11 @@ joined-requires-3 c =
     let below = below-listed (goal.at.joined-requires-3 c).In_ok-pivot in
     record { left_rises = left.rise; below_rises = below.rise; left_sized = left.sized; below_sized = below.sized }
 
-copied : (c : In_ok-corners) → AreListed c.args.b.now.live c.in_ok-left.left → AreListed c.args.b.now.live c.in_ok-below.below
+copied : (c : In_ok-corners) → AreListed c.args.b.now.live c.in_ok-left.left
+    → AreListed c.args.b.now.live c.in_ok-below.below
     → IsCopy c.args.b.now c.args.x c.args.y c.row.result.now c.column.result.now
-    c.in_ok-left.left c.in_ok-below.below c.in_ok-pivot.pivot c.in_ok-row.row c.in_ok-column.column c.in_ok-corners.corners
+    c.in_ok-left.left c.in_ok-below.below c.in_ok-pivot.pivot c.in_ok-row.row c.in_ok-column.column
+    c.in_ok-corners.corners
 copied c left below = record {
   row_has = c.row.ensures.cells;
   row_blocks = c.row.ensures.blocks;
@@ -53,8 +57,10 @@ copied c left below = record {
   below_listed = below;
   stands = c.in_ok-pivot.ensures;
   square = c.requires.square;
-  row_is = subst (λ ts. IsJoinedBlock c.args.b.now c.in_ok-left.left ts c.in_ok-row.row) c.in_ok-to.ensures c.in_ok-row.ensures;
-  column_is = subst (λ ss. IsJoinedBlock c.args.b.now ss c.in_ok-below.below c.in_ok-column.column) c.in_ok-from.ensures c.in_ok-column.ensures;
+  row_is = subst (λ ts. IsJoinedBlock c.args.b.now c.in_ok-left.left ts c.in_ok-row.row) c.in_ok-to.ensures
+      c.in_ok-row.ensures;
+  column_is = subst (λ ss. IsJoinedBlock c.args.b.now ss c.in_ok-below.below c.in_ok-column.column) c.in_ok-from.ensures
+      c.in_ok-column.ensures;
   corners_are = c.in_ok-corners.ensures;
 }
 

@@ -33,10 +33,13 @@ set_grid-requires-clause-degrees g c = λ s t hs ht.
     let K = g.F.Scalars.ops r.f in
     let fits = subst (λ r. Fits v r.foot) (sym c.self.view_is) c.requires.fits in
     let sound = c.live-live.ensures.sound in
-    let stands = fit-stands K v r.foot fits (g.met.F.Scalars.is_field r.f) (matrix_of r.inverse) sound.live_cells c.self.invariant.inverse_is.inverse in
+    let stands = fit-stands K v r.foot fits (g.met.F.Scalars.is_field r.f) (matrix_of r.inverse) sound.live_cells
+    c.self.invariant.inverse_is.inverse in
     let is = fit-footprint K v r.foot fits in
-    listed-degrees v sound r.foot.x r.foot.y r.foot.left r.foot.below (record { stands = stands; on_left = is.left; is_below = is.below }) s t
-    (ap (λ ls. has s (keys ls)) (sym c.as_slice.ensures) ∙ hs) (ap (λ ls. has t (keys ls)) (sym c.as_slice-2.ensures) ∙ ht)
+    listed-degrees v sound r.foot.x r.foot.y r.foot.left r.foot.below
+    (record { stands = stands; on_left = is.left; is_below = is.below }) s t
+    (ap (λ ls. has s (keys ls)) (sym c.as_slice.ensures) ∙ hs) (ap (λ ls. has t (keys ls)) (sym c.as_slice-2.ensures)
+    ∙ ht)
 
 pub returns-clause-removed : goal.returns-clause-removed
 returns-clause-removed g c =
@@ -48,10 +51,13 @@ returns-clause-removed g c =
     let fits = subst (λ r. Fits v r.foot) (sym c.self.view_is) c.requires.fits in
     let over = subst (λ r. IsBlockComplex (g.F.Scalars.ops r.f) (complex_in v)) (sym c.self.view_is) c.requires.over in
     let sound = c.live-live.ensures.sound in
-    let stands = fit-stands K v r.foot fits F (matrix_of r.inverse) sound.live_cells c.self.invariant.inverse_is.inverse in
-    subst (λ r. IsRemoval (g.F.Scalars.ops r.f) (complex_in v) r.foot.x r.foot.y (matrix_of r.inverse) (complex_in w) × KeepsFlags v r.foot.x r.foot.y w) c.self.view_is
+    let stands = fit-stands K v r.foot fits F (matrix_of r.inverse) sound.live_cells c.self.invariant.inverse_is.inverse
+    in
+    subst (λ r. IsRemoval (g.F.Scalars.ops r.f) (complex_in v) r.foot.x r.foot.y (matrix_of r.inverse) (complex_in w)
+    × KeepsFlags v r.foot.x r.foot.y w) c.self.view_is
     (record-removed K F v sound over r.foot stands (fit-footprint K v r.foot fits)
-    r.inverse r.new_corners c.self.invariant c.as_slice.result.now c.as_slice-2.result.now c.as_slice.ensures c.as_slice-2.ensures
+    r.inverse r.new_corners c.self.invariant c.as_slice.result.now c.as_slice-2.result.now c.as_slice.ensures
+    c.as_slice-2.ensures
     c.set_grid.new.self c.remove_cell.new.self w
     (record {
       grid_live = c.in_ok-set_grid.ensures.live;

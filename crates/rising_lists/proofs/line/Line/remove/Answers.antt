@@ -10,14 +10,21 @@ invariant_of-self g c =
     let i = c.in-Some.at in
     rw (c.remove.ensures.items, c.remove-value.ensures.items) record {
       rising = rising-remove c.self.inside.cells.items c.self.invariant.rising i h.0;
-      full = omega (arith, length-remove c.self.inside.cells.items i h.0, length-remove c.self.inside.values.items i (omega (arith, h.0, c.self.invariant.full)), c.self.invariant.full);
+      full = omega (
+        arith,
+        length-remove c.self.inside.cells.items i h.0,
+        length-remove c.self.inside.values.items i
+            (omega (arith, h.0, c.self.invariant.full)),
+        c.self.invariant.full,
+      );
     }
 
 pub returns-in-Some : goal.returns-in-Some
 returns-in-Some g c = λ q.
     let h = rw c.deref.ensures.value at c.in-Some.ensures in
     rw (c.remove.ensures.items, c.remove-value.ensures.items)
-    (look-taken c.self.inside.cells.items c.self.inside.values.items c.args.c c.in-Some.at c.self.invariant.full c.self.invariant.rising h.0 h.1 q
+    (look-taken c.self.inside.cells.items c.self.inside.values.items c.args.c c.in-Some.at c.self.invariant.full
+    c.self.invariant.rising h.0 h.1 q
     ∙ ap (λ e. cond (eqb q c.args.c) None (entry e q)) c.self.view_is)
 
 pub returns-in_default : goal.returns-in_default

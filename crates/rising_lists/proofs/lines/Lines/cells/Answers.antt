@@ -8,7 +8,8 @@ pub returns-in-Some-clause-cells : goal.returns-in-Some-clause-cells
 returns-in-Some-clause-cells g c = λ q.
     let h = rw c.deref.ensures.value at c.in-Some.ensures in
     ap (has q) c.cells.ensures.cells
-    ∙ cells-found c.self.inside.cells.items c.self.inside.lines.items c.args.c c.in-Some.at c.index.result.now c.self.invariant h.0 h.1 c.index.ensures c.cells.ensures.line q
+    ∙ cells-found c.self.inside.cells.items c.self.inside.lines.items c.args.c c.in-Some.at c.index.result.now
+    c.self.invariant h.0 h.1 c.index.ensures c.cells.ensures.line q
     ∙ ap (λ v. is_some (entry_of v c.args.c q)) c.self.view_is
 
 pub returns-in-None-clause-cells : goal.returns-in-None-clause-cells

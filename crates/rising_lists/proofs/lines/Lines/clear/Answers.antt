@@ -7,4 +7,5 @@ pub returns-clause-entries : goal.returns-clause-entries
 returns-clause-entries g c = λ k p.
     let before = c.args.self.now in
     entry-cleared before (line_of c.put_line.new.self k) c.args.c k p
-    (c.put_line.ensures.lines k ∙ ap (λ l. cond (eqb k c.args.c && has c.args.c before.cells) l (line_of before k)) c.new.ensures)
+    (c.put_line.ensures.lines k ∙ ap (λ l. cond (eqb k c.args.c && has c.args.c before.cells) l (line_of before k))
+    c.new.ensures)

@@ -7,7 +7,9 @@ pub returns-in-Some : goal.returns-in-Some
 returns-in-Some g c =
     let h = rw c.deref.ensures.value at c.in-Some.ensures in
     c.get.ensures
-    ∙ ap (λ l. entry l c.args.q) (sym (line-found c.self.inside.cells.items c.self.inside.lines.items c.args.c c.in-Some.at c.index.result.now c.self.invariant h.0 h.1 c.index.ensures))
+    ∙ ap (λ l. entry l c.args.q)
+    (sym (line-found c.self.inside.cells.items c.self.inside.lines.items c.args.c c.in-Some.at c.index.result.now
+    c.self.invariant h.0 h.1 c.index.ensures))
     ∙ ap (λ v. entry_of v c.args.c c.args.q) c.self.view_is
 
 pub returns-in-None : goal.returns-in-None

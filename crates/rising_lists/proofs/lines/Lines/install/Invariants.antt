@@ -8,7 +8,9 @@ invariant-loop-line g l = record {
   cells : l.self.cells ≡ l.initial.self.cells;
   some : length l.lines.items ≤ length l.listed;
   left : l.lines.items ≡ take (length l.lines.items) l.initial.lines.items;
-  lines : (k : ℕ) → line_of l.self k ≡ unwrap_or (look k (drop (length l.lines.items) (keys l.listed)) (drop (length l.lines.items) l.initial.lines.items)) (line_of l.initial.self k);
+  lines : (k : ℕ) → line_of l.self k
+      ≡ unwrap_or (look k (drop (length l.lines.items) (keys l.listed))
+      (drop (length l.lines.items) l.initial.lines.items)) (line_of l.initial.self k);
 }
 
 abbrev pub decreases-loop-line : goal.decreases-loop-line

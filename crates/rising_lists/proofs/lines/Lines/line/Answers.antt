@@ -6,5 +6,6 @@ use Rattle.rising_lists.proofs.lines.Lines.line.Goals as goal
 pub returns : goal.returns
 returns g c =
     let found = rw (c.unwrap-at.ensures, c.deref.ensures.value) at c.place.ensures in
-    sym (line-found c.self.inside.cells.items c.self.inside.lines.items c.args.c c.unwrap-at.result c.index.result.now c.self.invariant found.0 found.1 c.index.ensures)
+    sym (line-found c.self.inside.cells.items c.self.inside.lines.items c.args.c c.unwrap-at.result c.index.result.now
+    c.self.invariant found.0 found.1 c.index.ensures)
     ∙ ap (λ v. line_of v c.args.c) c.self.view_is

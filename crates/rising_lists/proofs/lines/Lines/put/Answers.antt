@@ -12,8 +12,10 @@ returns-in-Some-clause-entries g c = λ k p.
     let line = c.index_mut-line.result.now in
     let put = λ (l : ByCell g.row.T.Denot). option_map (λ _. c.args.value) (entry l c.args.q) in
     let here = eqb k c.args.c && eqb p c.args.q in
-    entry-set ks vs c.args.c c.in-Some.at c.args.q line c.put.new.self (put line) c.self.invariant h.0 h.1 c.index_mut-line.ensures.value c.put.ensures k p
-    ∙ ap (λ l. cond here (put l) (entry_of (record { cells = ks; values = vs }) k p)) (sym (line-found ks vs c.args.c c.in-Some.at line c.self.invariant h.0 h.1 c.index_mut-line.ensures.value))
+    entry-set ks vs c.args.c c.in-Some.at c.args.q line c.put.new.self (put line) c.self.invariant h.0 h.1
+    c.index_mut-line.ensures.value c.put.ensures k p
+    ∙ ap (λ l. cond here (put l) (entry_of (record { cells = ks; values = vs }) k p))
+    (sym (line-found ks vs c.args.c c.in-Some.at line c.self.invariant h.0 h.1 c.index_mut-line.ensures.value))
     ∙ ap (λ w. cond here (put (line_of w c.args.c)) (entry_of w k p)) c.self.view_is
 
 pub returns-in_default-clause-entries : goal.returns-in_default-clause-entries

@@ -6,7 +6,8 @@ use Rattle.rising_lists.proofs.lines.Lines.remove.Goals as goal
 pub returns-in-Some-clause-entries : goal.returns-in-Some-clause-entries
 returns-in-Some-clause-entries g c = λ k p.
     let h = rw c.deref.ensures.value at c.in-Some.ensures in
-    entry-set c.self.inside.cells.items c.self.inside.lines.items c.args.c c.in-Some.at c.args.q c.index_mut-line.result.now c.remove.new.self None c.self.invariant h.0 h.1
+    entry-set c.self.inside.cells.items c.self.inside.lines.items c.args.c c.in-Some.at c.args.q
+    c.index_mut-line.result.now c.remove.new.self None c.self.invariant h.0 h.1
     c.index_mut-line.ensures.value c.remove.ensures k p
     ∙ ap (λ w. cond (eqb k c.args.c && eqb p c.args.q) None (entry_of w k p)) c.self.view_is
 

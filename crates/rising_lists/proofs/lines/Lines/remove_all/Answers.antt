@@ -16,5 +16,6 @@ loop-c-preserved g c =
           c.remove.ensures.entries k p
           ∙ ap (cond (eqb k cell && eqb p c.args.q) None) (c.loop-c.invariant.entries k p)
           ∙ removed-more (eqb k cell) (has k (take i listed)) (eqb p c.args.q) (entry_of c.args.self.now k p)
-          ∙ ap (λ b. cond (b && eqb p c.args.q) None (entry_of c.args.self.now k p)) (sym (ap (has k) (take_more listed i 0 inside) ∙ has-push k (take i listed) cell));
+          ∙ ap (λ b. cond (b && eqb p c.args.q) None (entry_of c.args.self.now k p))
+          (sym (ap (has k) (take_more listed i 0 inside) ∙ has-push k (take i listed) cell));
     }

@@ -5,5 +5,6 @@ use Rattle.rising_lists.proofs.lines.Lines.remove_all.Given as goal
 abbrev pub invariant-loop-c : goal.invariant-loop-c
 invariant-loop-c g l = record {
   cells : l.self.cells ≡ l.initial.self.cells;
-  entries : (k p : ℕ) → entry_of l.self k p ≡ cond (has k (take l.c-index l.listed) && eqb p l.q) None (entry_of l.initial.self k p);
+  entries : (k p : ℕ) → entry_of l.self k p ≡ cond (has k (take l.c-index l.listed) && eqb p l.q) None
+      (entry_of l.initial.self k p);
 }

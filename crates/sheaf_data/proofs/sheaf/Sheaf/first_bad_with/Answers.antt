@@ -7,7 +7,8 @@ first_bad-requires-clause-touched g c =
     let others = rw (← c.self.view_is, ← c.draft.view_is, ← c.as_slice.ensures) at c.requires.others in
     let commutes = rw (← c.draft.view_is) at c.self.invariant.commutes in (
       faces,
-      others-commute (g.F.Scalars.ops c.draft.inside.field) c.draft.inside.complex c.draft.inside.blocks c.as_slice.result.now c.args.touched.now others commutes,
+      others-commute (g.F.Scalars.ops c.draft.inside.field) c.draft.inside.complex c.draft.inside.blocks
+          c.as_slice.result.now c.args.touched.now others commutes,
     )
 
 pub returns : goal.returns

@@ -7,7 +7,8 @@ use Rattle.sheaf_text.proofs.Taken.{takes_set, set_item, set_small}
 use Rattle.sheaf_text.proofs.state.State.take_set.Goals as goal
 
 pub add_set-requires : goal.add_set-requires
-add_set-requires c = subst (λ (s : Set). set_size s < 2 ^ 31) (sym c.in_ok-set.ensures) (set_small c.args.kind (words c.args.text.now))
+add_set-requires c = subst (λ (s : Set). set_size s < 2 ^ 31) (sym c.in_ok-set.ensures)
+    (set_small c.args.kind (words c.args.text.now))
 
 pub returns : goal.returns
 returns c =
