@@ -6,14 +6,14 @@
 //! joining and comparing such matrices needs: entries added at the end, and parts of a matrix compared.
 #![tactic(auto)]
 
-mod applying;
 mod blocks;
-mod comparing;
+mod coboundary;
+mod comparison;
 mod fresh;
 mod parts;
 #[cfg(test)]
 mod tests;
 
 pub use blocks::Blocks;
-pub use comparing::is_listed;
+pub use comparison::is_listed;
 pub use parts::{is_same_at, is_zero_at, push_all};

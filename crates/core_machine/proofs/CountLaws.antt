@@ -7,16 +7,16 @@ use Rattle.std.proofs.lemmas.Bool.{eqb-true}
 use Rattle.std.specs.Prelude.{option_and_then}
 use Rattle.dense_blocks.specs.Field.{Ops}
 use Rattle.sheaf_data.specs.Sheaves.{SheafData}
-use Rattle.sheaf_words.specs.declared.asking.Query.{Query}
-use Rattle.sheaf_words.specs.declared.asking.Query.TheVariants as queries
-use Rattle.sheaf_words.specs.declared.asking.Command.{Command}
-use Rattle.sheaf_words.specs.declared.asking.Command.TheVariants as commands
-use Rattle.sheaf_words.specs.declared.editing.Verdict.{Verdict}
-use Rattle.sheaf_words.specs.declared.editing.Verdict.TheVariants.{Accepted, Refused}
-use Rattle.sheaf_words.specs.declared.replying.Reply.{Reply as Answer}
-use Rattle.sheaf_words.specs.declared.replying.Reply.TheVariants as replies
-use Rattle.sheaf_words.specs.declared.happening.Event.{Event}
-use Rattle.sheaf_words.specs.declared.happening.Event.TheVariants.{Edit, Ask, Pair, Reply}
+use Rattle.sheaf_words.specs.declared.query.Query.{Query}
+use Rattle.sheaf_words.specs.declared.query.Query.TheVariants as queries
+use Rattle.sheaf_words.specs.declared.query.Command.{Command}
+use Rattle.sheaf_words.specs.declared.query.Command.TheVariants as commands
+use Rattle.sheaf_words.specs.declared.edit.Verdict.{Verdict}
+use Rattle.sheaf_words.specs.declared.edit.Verdict.TheVariants.{Accepted, Refused}
+use Rattle.sheaf_words.specs.declared.reply.Reply.{Reply as Answer}
+use Rattle.sheaf_words.specs.declared.reply.Reply.TheVariants as replies
+use Rattle.sheaf_words.specs.declared.event.Event.{Event}
+use Rattle.sheaf_words.specs.declared.event.Event.TheVariants.{Edit, Ask, Pair, Reply}
 use Rattle.reply_text.specs.Replies.{IsAnswerTo}
 use Rattle.reply_text.specs.Transcripts.{ends_for, is_accepted, ended_count, current_version, asked_version, IfPresent}
 use Rattle.reply_text.specs.Transcripts.{IsAnswered, IsOf, AreOf}
@@ -24,7 +24,7 @@ use Rattle.reply_text.proofs.Counting.{count-more, asked-more}
 use Rattle.core_machine.specs.Replies.{IsRightReply}
 use Rattle.core_machine.specs.Machine.{Lane, State, free_lane, waiting_lane, first_state, command_at, with_lane}
 use Rattle.core_machine.specs.Machine.{AreVersionsAfter, EditStep, AskStep, ReplyStep, Step, Leads, IsLegal}
-use Rattle.core_machine.specs.Counting.{IsCounted}
+use Rattle.core_machine.specs.Counts.{IsCounted}
 
 -- ---- the lanes after one step
 

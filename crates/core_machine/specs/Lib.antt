@@ -1,3 +1,3 @@
 pub mod Replies
 pub mod Machine
-pub mod Counting
+pub mod Counts

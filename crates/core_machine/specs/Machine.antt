@@ -3,16 +3,16 @@ use Rattle.std.specs.Prelude.{◌≡◌, ℕ, ◌+◌, ◌==◌, List, [], ◌�
 use Rattle.std.specs.Prelude.{option_and_then, if◌then◌else◌}
 use Rattle.dense_blocks.specs.Field.{Ops}
 use Rattle.sheaf_data.specs.Sheaves.{SheafData}
-use Rattle.sheaf_words.specs.declared.asking.Query.{Query}
-use Rattle.sheaf_words.specs.declared.asking.Command.{Command}
-use Rattle.sheaf_words.specs.declared.asking.Command.TheVariants as commands
-use Rattle.sheaf_words.specs.declared.editing.Edit.{Edit as Change}
-use Rattle.sheaf_words.specs.declared.editing.Set.{Set}
-use Rattle.sheaf_words.specs.declared.editing.Verdict.{Verdict}
-use Rattle.sheaf_words.specs.declared.editing.Verdict.TheVariants.{Accepted, Refused}
-use Rattle.sheaf_words.specs.declared.replying.Reply.{Reply as Answer}
-use Rattle.sheaf_words.specs.declared.happening.Event.{Event}
-use Rattle.sheaf_words.specs.declared.happening.Event.TheVariants.{Edit, Ask, Pair, Reply}
+use Rattle.sheaf_words.specs.declared.query.Query.{Query}
+use Rattle.sheaf_words.specs.declared.query.Command.{Command}
+use Rattle.sheaf_words.specs.declared.query.Command.TheVariants as commands
+use Rattle.sheaf_words.specs.declared.edit.Edit.{Edit as Change}
+use Rattle.sheaf_words.specs.declared.edit.Set.{Set}
+use Rattle.sheaf_words.specs.declared.edit.Verdict.{Verdict}
+use Rattle.sheaf_words.specs.declared.edit.Verdict.TheVariants.{Accepted, Refused}
+use Rattle.sheaf_words.specs.declared.reply.Reply.{Reply as Answer}
+use Rattle.sheaf_words.specs.declared.event.Event.{Event}
+use Rattle.sheaf_words.specs.declared.event.Event.TheVariants.{Edit, Ask, Pair, Reply}
 use Rattle.edit_versions.specs.Verdicts.{IsVerdict, IsEdited}
 use Rattle.core_machine.specs.Replies.{IsRightReply}
 

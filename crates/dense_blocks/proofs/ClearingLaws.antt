@@ -8,7 +8,7 @@ use Rattle.std.proofs.lemmas.List.Elements.{All-cons, All-get_or, All-drop}
 use Rattle.dense_blocks.specs.Field.{Ops, IsField}
 use Rattle.dense_blocks.specs.Vectors.{AllScalars, zeros, plus, multiple, dot}
 use Rattle.dense_blocks.specs.Matrices.{cut}
-use Rattle.dense_blocks.specs.Clearing.{row_remainder, Annihilate, unit, StartUnits, HasUnitColumns, IsRaised}
+use Rattle.dense_blocks.specs.Columns.{row_remainder, Annihilate, unit, StartUnits, HasUnitColumns, IsRaised}
 use Rattle.dense_blocks.proofs.ScalarLaws.{zero_add, mul_zero, one_mul, inv_mul, mul_inv_mul}
 use Rattle.dense_blocks.proofs.Shapes.{Vector, Matrix, to_vector, from_vector, vector-size, vector-scalars, to_matrix}
 use Rattle.dense_blocks.proofs.Shapes.{from_matrix, matrix-size, append-matrix, row-vector}

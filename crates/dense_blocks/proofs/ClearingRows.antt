@@ -8,7 +8,7 @@ use Rattle.std.proofs.lemmas.List.Elements.{All-append, All-take, All-drop}
 use Rattle.dense_blocks.specs.Field.{Ops, IsField}
 use Rattle.dense_blocks.specs.Vectors.{AllScalars, multiple}
 use Rattle.dense_blocks.specs.Matrices.{cut}
-use Rattle.dense_blocks.specs.Clearing.{row_remainder}
+use Rattle.dense_blocks.specs.Columns.{row_remainder}
 use Rattle.dense_blocks.proofs.Shapes.{Vector, Matrix, vector_of, row-vector, vector-scalars}
 use Rattle.dense_blocks.proofs.VectorLaws.{plus-vector, multiple-vector}
 use Rattle.dense_blocks.proofs.Cutting.{flat, Sized, matrix-sized, flat-size, cut-size, cut-matrix, cut-row, cut-flat}

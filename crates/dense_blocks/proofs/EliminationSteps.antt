@@ -14,8 +14,8 @@ use Rattle.dense_blocks.specs.Vectors.{IsVector, zeros, plus, negative, multiple
 use Rattle.dense_blocks.specs.Matrices.{IsMatrix}
 use Rattle.dense_blocks.specs.Elimination.{IsPivot, rows, pivot_multiple, pivot_remainder, reduced, parts, PullsBack}
 use Rattle.dense_blocks.specs.Elimination.{Eliminates, ComesFrom}
-use Rattle.dense_blocks.specs.Solving.{lists, IsDependent, IsDependentCoordinate, IsLeading}
-use Rattle.dense_blocks.specs.declared.solving.Pivot.{Pivot}
+use Rattle.dense_blocks.specs.Solutions.{lists, IsDependent, IsDependentCoordinate, IsLeading}
+use Rattle.dense_blocks.specs.declared.solution.Pivot.{Pivot}
 use Rattle.dense_blocks.proofs.ScalarLaws.{zero_add, neg_mul}
 use Rattle.dense_blocks.proofs.Shapes.{Vector, Matrix, to_matrix, to_vector, from_vector, vector_of, vector-size}
 use Rattle.dense_blocks.proofs.Shapes.{vector-scalars, row-vector}

@@ -8,7 +8,7 @@ use Rattle.std.proofs.lemmas.List.Elements.{All-get_or}
 use Rattle.dense_blocks.specs.Field.{Ops, IsField}
 use Rattle.dense_blocks.specs.Vectors.{zeros, plus, negative, dot}
 use Rattle.dense_blocks.specs.Matrices.{image_of, product, identity, IsInverse}
-use Rattle.dense_blocks.specs.Clearing.{Annihilate, unit, StartUnits, HasUnitColumns, HasNoPivot, beside, undoing}
+use Rattle.dense_blocks.specs.Columns.{Annihilate, unit, StartUnits, HasUnitColumns, HasNoPivot, beside, undoing}
 use Rattle.dense_blocks.specs.Inverses.{InKernel}
 use Rattle.dense_blocks.proofs.ScalarLaws.{zero_below, one_below, zero_add, zero_mul, one_mul, neg_add}
 use Rattle.dense_blocks.proofs.Shapes.{Vector, Matrix, to_vector, from_vector, vector_of, vector-size, vector-scalars}

@@ -9,7 +9,7 @@ use Rattle.dense_blocks.specs.Field.{Ops, IsField}
 use Rattle.dense_blocks.specs.Vectors.{AllScalars, zeros}
 use Rattle.dense_blocks.specs.Matrices.{cut, identity, IsInverse}
 use Rattle.dense_blocks.specs.Blocks.{matrix_of, IsBlock}
-use Rattle.dense_blocks.specs.Clearing.{beside, undoing, HasUnitColumns, HasNoPivot}
+use Rattle.dense_blocks.specs.Columns.{beside, undoing, HasUnitColumns, HasNoPivot}
 use Rattle.dense_blocks.specs.Inverses.{IsInverseBlock, InKernel}
 use Rattle.dense_blocks.specs.declared.block.Block.{Block}
 use Rattle.dense_blocks.proofs.ScalarLaws.{one_below, zero_mul}

@@ -6,7 +6,7 @@ use Rattle.std.proofs.lemmas.List.Elements.{All-head, All-tail}
 use Rattle.dense_blocks.specs.Field.{Ops, IsField}
 use Rattle.dense_blocks.specs.Vectors.{zeros, plus, multiple, dot, combination}
 use Rattle.dense_blocks.specs.Elimination.{IsPivot, pivot_multiple, pivot_remainder, reduced}
-use Rattle.dense_blocks.specs.declared.solving.Pivot.{Pivot}
+use Rattle.dense_blocks.specs.declared.solution.Pivot.{Pivot}
 use Rattle.dense_blocks.proofs.ScalarLaws.{add_mul, neg_of_sum, mul_neg}
 use Rattle.dense_blocks.proofs.Shapes.{Vector, Matrix, to_vector, vector-size}
 use Rattle.dense_blocks.proofs.VectorLaws.{multiple-vector, plus-cross, zeros-plus-zeros, multiple-plus, multiple-add}

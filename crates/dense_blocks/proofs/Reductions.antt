@@ -5,7 +5,7 @@ use Rattle.std.proofs.lemmas.List.Elements.{All-head, All-tail, All-get_or}
 use Rattle.dense_blocks.specs.Field.{Ops, IsField}
 use Rattle.dense_blocks.specs.Vectors.{zeros, plus, negative, multiple, dot, combination}
 use Rattle.dense_blocks.specs.Elimination.{IsPivot, rows, pivot_multiple, pivot_remainder, reduced, parts}
-use Rattle.dense_blocks.specs.declared.solving.Pivot.{Pivot}
+use Rattle.dense_blocks.specs.declared.solution.Pivot.{Pivot}
 use Rattle.dense_blocks.proofs.ScalarLaws.{neg_zero, zero_mul, add_mul}
 use Rattle.dense_blocks.proofs.Shapes.{Vector, Matrix, to_vector}
 use Rattle.dense_blocks.proofs.VectorLaws.{plus-vector, multiple-vector, zeros-plus, plus-zeros, zeros-plus-zeros}

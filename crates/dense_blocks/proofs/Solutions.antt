@@ -7,8 +7,8 @@ use Rattle.dense_blocks.specs.Field.{Ops, IsField}
 use Rattle.dense_blocks.specs.Vectors.{IsVector, zeros, plus, multiple, dot, combination}
 use Rattle.dense_blocks.specs.Matrices.{IsMatrix}
 use Rattle.dense_blocks.specs.Elimination.{IsPivot, rows, reduced, parts, PullsBack, Eliminates}
-use Rattle.dense_blocks.specs.Solving.{lists, Separates}
-use Rattle.dense_blocks.specs.declared.solving.Pivot.{Pivot}
+use Rattle.dense_blocks.specs.Solutions.{lists, Separates}
+use Rattle.dense_blocks.specs.declared.solution.Pivot.{Pivot}
 use Rattle.dense_blocks.proofs.ScalarLaws.{zero_below, zero_add, mul_zero, inv_mul}
 use Rattle.dense_blocks.proofs.Shapes.{Vector, Matrix, to_vector, matrix_of_rows, vector-size, vector-scalars}
 use Rattle.dense_blocks.proofs.VectorLaws.{zeros-plus, multiple-vector, combination-vector, dot-zeros, dot-plus}

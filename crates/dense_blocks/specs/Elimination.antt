@@ -2,8 +2,8 @@
 use Rattle.std.specs.Prelude.{◌≡◌, ◌≢◌, ℕ, ◌<◌, List, [], ◌∷◌, length, map, take, All, slice_index, slice_index_or}
 use Rattle.dense_blocks.specs.Field.{Ops}
 use Rattle.dense_blocks.specs.Vectors.{IsVector, zeros, plus, multiple, dot}
-use Rattle.dense_blocks.specs.Solving.{IsDependent}
-use Rattle.dense_blocks.specs.declared.solving.Pivot.{Pivot}
+use Rattle.dense_blocks.specs.Solutions.{IsDependent}
+use Rattle.dense_blocks.specs.declared.solution.Pivot.{Pivot}
 
 -- a pivot that reduces vectors of n coordinates; its place is the first where its row is not 0
 pub record IsPivot (K : Ops) (n : ℕ) (p : Pivot) : Type 0 where

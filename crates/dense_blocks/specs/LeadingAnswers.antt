@@ -2,7 +2,7 @@
 use Rattle.std.specs.Prelude.{◌≡◌, ℕ, List, length, All}
 use Rattle.dense_blocks.specs.Field.{Ops, IsField}
 use Rattle.dense_blocks.specs.Vectors.{AllScalars, IsVector}
-use Rattle.dense_blocks.specs.Solving.{Combines, Separates}
+use Rattle.dense_blocks.specs.Solutions.{Combines, Separates}
 
 -- two leading combinations of the same columns that give the same vector are equal
 abbrev pub OneLeadingCombination : Type 0

@@ -4,8 +4,8 @@ pub mod Matrices
 pub mod Spans
 pub mod Blocks
 pub mod Two
-pub mod Solving
+pub mod Solutions
 pub mod LeadingAnswers
 pub mod Elimination
-pub mod Clearing
+pub mod Columns
 pub mod Inverses

@@ -2,7 +2,7 @@ ghost use Rattle.std.specs.Prelude.{◌≡◌, [], ◌∷◌, ◌++◌, ◌*◌,
 ghost use Rattle.dense_blocks.specs.Vectors.{AllScalars, zeros, combination};
 ghost use Rattle.dense_blocks.specs.Matrices.{cut};
 
-use crate::combining::add_combination;
+use crate::combinations::add_combination;
 use crate::scalars::Scalars;
 use smallvec::SmallVec;
 use std::alloc::{AllocError as NoMemory, Global};

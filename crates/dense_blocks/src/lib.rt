@@ -4,31 +4,31 @@
 mod block;
 #[cfg(test)]
 mod block_tests;
-mod clearing;
-mod combining;
+mod combinations;
 mod entries;
 mod inverse;
-mod inverting;
+mod inversion;
 #[cfg(test)]
-mod inverting_tests;
+mod inversion_tests;
 mod laws;
 mod listed;
 mod operations;
+mod row_operations;
 mod rows;
 mod scalars;
-mod solving;
+mod solution;
 #[cfg(test)]
-mod solving_tests;
+mod solution_tests;
 mod two;
 
 pub use block::Block;
 pub use entries::Entries;
 pub use inverse::Inverse;
-pub use inverting::invert;
+pub use inversion::invert;
 pub use laws::{leading_combination_is_unique, leading_functional_is_unique};
 pub use listed::Listed;
 pub use operations::{apply, minus, product, sum};
 pub use rows::{add_scaled, dot_product, first_nonzero, scale, zeros};
 pub use scalars::{Scalars, all_scalars};
-pub use solving::{Solution, solve};
+pub use solution::{Solution, solve};
 pub use two::Two;

@@ -14,9 +14,9 @@ use Rattle.dense_blocks.specs.declared.block.Block.{Block}
 use Rattle.square_check.specs.Squares.{HaveShapes}
 use Rattle.square_check.proofs.Placed.{some-same}
 use Rattle.sheaf_data.specs.Sheaves.{AreBlocks}
-use Rattle.sheaf_words.specs.declared.editing.Set.{Set}
-use Rattle.sheaf_words.specs.declared.editing.Set.TheVariants.{Stalk, Restrict}
-use Rattle.sheaf_words.specs.declared.editing.Cause.TheVariants.{NoCell, NoFace, StalkLimit, Shape, Entry}
+use Rattle.sheaf_words.specs.declared.edit.Set.{Set}
+use Rattle.sheaf_words.specs.declared.edit.Set.TheVariants.{Stalk, Restrict}
+use Rattle.sheaf_words.specs.declared.edit.Cause.TheVariants.{NoCell, NoFace, StalkLimit, Shape, Entry}
 use Rattle.edit_versions.specs.declared.work.Work.{Work}
 use Rattle.edit_versions.specs.Edits.{WrittenMatrix, written_matrix, SheafLists, with_replacements, is_end, zero_at}
 use Rattle.edit_versions.specs.Edits.{matrix_between, with_set, set_fault, unless, sets_made}

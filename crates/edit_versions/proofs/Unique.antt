@@ -11,11 +11,11 @@ use Rattle.cell_complex.specs.Complexes.{CellComplex}
 use Rattle.square_check.specs.Answers.{IsFirstFailure, is_before}
 use Rattle.square_check.specs.Squares.{Commutes}
 use Rattle.sheaf_data.specs.Sheaves.{SheafData}
-use Rattle.sheaf_words.specs.declared.editing.Set.{Set}
-use Rattle.sheaf_words.specs.declared.editing.Cause.{Cause}
-use Rattle.sheaf_words.specs.declared.editing.Cause.TheVariants.{TotalLimit}
-use Rattle.sheaf_words.specs.declared.editing.Verdict.{Verdict}
-use Rattle.sheaf_words.specs.declared.editing.Verdict.TheVariants.{Accepted, Refused}
+use Rattle.sheaf_words.specs.declared.edit.Set.{Set}
+use Rattle.sheaf_words.specs.declared.edit.Cause.{Cause}
+use Rattle.sheaf_words.specs.declared.edit.Cause.TheVariants.{TotalLimit}
+use Rattle.sheaf_words.specs.declared.edit.Verdict.{Verdict}
+use Rattle.sheaf_words.specs.declared.edit.Verdict.TheVariants.{Accepted, Refused}
 use Rattle.edit_versions.specs.declared.fault.EditFault.{EditFault}
 use Rattle.edit_versions.specs.declared.fault.EditFault.TheVariants.{Refused as refused, NoMemory}
 use Rattle.edit_versions.specs.Edits.{WrittenMatrix, SheafLists, written_matrix, sheaf_lists, sets_made}

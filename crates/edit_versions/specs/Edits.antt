@@ -7,10 +7,10 @@ use Rattle.cell_complex.specs.Complexes.{CellComplex, joins, is_face}
 use Rattle.dense_blocks.specs.Field.{Ops}
 use Rattle.dense_blocks.specs.Vectors.{zeros}
 use Rattle.dense_blocks.specs.declared.block.Block.{Block}
-use Rattle.sheaf_words.specs.declared.editing.Set.{Set}
-use Rattle.sheaf_words.specs.declared.editing.Set.TheVariants.{Stalk, Restrict}
-use Rattle.sheaf_words.specs.declared.editing.Cause.{Cause}
-use Rattle.sheaf_words.specs.declared.editing.Cause.TheVariants.{NoCell, NoFace, StalkLimit, Shape, Entry}
+use Rattle.sheaf_words.specs.declared.edit.Set.{Set}
+use Rattle.sheaf_words.specs.declared.edit.Set.TheVariants.{Stalk, Restrict}
+use Rattle.sheaf_words.specs.declared.edit.Cause.{Cause}
+use Rattle.sheaf_words.specs.declared.edit.Cause.TheVariants.{NoCell, NoFace, StalkLimit, Shape, Entry}
 
 -- a matrix, written_matrix row after row
 pub record WrittenMatrix : Type 0 where

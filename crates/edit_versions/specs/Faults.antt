@@ -1,7 +1,7 @@
 -- The answers of a call that edits, and the verdict.
 use Rattle.std.specs.Prelude.{◌≡◌, Result, Ok, Err}
-use Rattle.sheaf_words.specs.declared.editing.Verdict.{Verdict}
-use Rattle.sheaf_words.specs.declared.editing.Verdict.TheVariants.{Accepted, Refused}
+use Rattle.sheaf_words.specs.declared.edit.Verdict.{Verdict}
+use Rattle.sheaf_words.specs.declared.edit.Verdict.TheVariants.{Accepted, Refused}
 use Rattle.edit_versions.specs.declared.fault.EditFault.{EditFault}
 use Rattle.edit_versions.specs.declared.fault.EditFault.TheVariants.{Refused as refused, NoMemory}
 

@@ -6,10 +6,10 @@ use Rattle.dense_blocks.specs.declared.block.Block.{Block}
 use Rattle.square_check.specs.Answers.{IsFirstFailure}
 use Rattle.square_check.specs.Squares.{Commutes}
 use Rattle.sheaf_data.specs.Sheaves.{SheafData}
-use Rattle.sheaf_words.specs.declared.editing.Set.{Set}
-use Rattle.sheaf_words.specs.declared.editing.Cause.TheVariants.{TotalLimit, Square}
-use Rattle.sheaf_words.specs.declared.editing.Verdict.{Verdict}
-use Rattle.sheaf_words.specs.declared.editing.Verdict.TheVariants.{Accepted, Refused}
+use Rattle.sheaf_words.specs.declared.edit.Set.{Set}
+use Rattle.sheaf_words.specs.declared.edit.Cause.TheVariants.{TotalLimit, Square}
+use Rattle.sheaf_words.specs.declared.edit.Verdict.{Verdict}
+use Rattle.sheaf_words.specs.declared.edit.Verdict.TheVariants.{Accepted, Refused}
 use Rattle.edit_versions.specs.Edits.{WrittenMatrix, written_matrix, SheafLists, sheaf_lists, sets_made}
 
 -- accepted where no square fails, else refused for this one

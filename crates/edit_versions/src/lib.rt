@@ -1,13 +1,13 @@
 //! Edits of a sheaf: the verdict on an edit, and the edited sheaf.
 #![tactic(auto)]
 
-mod applying;
+mod application;
+mod construction;
 mod fault;
-mod judging;
-mod making;
+mod judgement;
 #[cfg(test)]
 mod tests;
 mod work;
 
-pub use applying::apply;
+pub use application::apply;
 pub use fault::EditFault;

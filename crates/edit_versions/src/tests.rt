@@ -1,5 +1,5 @@
 //! Edits worked by hand.
-use crate::applying::apply;
+use crate::application::apply;
 use crate::fault::EditFault;
 use cell_complex::Sign::{Minus, Plus};
 use cell_complex::{Complex, Face, Sign};

@@ -2,12 +2,12 @@
 //! between cells of codimension two.
 #![tactic(auto)]
 
-mod checking;
+mod first_fault;
 mod incidence;
 mod reach;
 mod signs;
 #[cfg(test)]
 mod tests;
 
-pub use checking::check;
+pub use first_fault::check;
 pub use incidence::Incidence;

@@ -1,5 +1,5 @@
 //! Complexes whose incidences are worked by hand.
-use crate::checking::check;
+use crate::first_fault::check;
 use crate::incidence::Incidence;
 use crate::incidence::Incidence::{EdgeEnds, Middles, Signs};
 use cell_complex::Sign::{Minus, Plus};

@@ -1,8 +1,8 @@
 -- What a reading makes of the bytes that were given.
 use Rattle.std.proofs.Common.{◌≡◌, ◌≢◌, ℕ, ◌+◌, ◌≤◌, List, length, Err, refl, arith}
-use Rattle.io_edge.specs.Reading.{ReadUpTo}
-use Rattle.io_edge.specs.declared.reading.ReadAll.{ReadAll}
-use Rattle.io_edge.specs.declared.reading.ReadAll.TheVariants.{TooLong}
+use Rattle.io_edge.specs.Input.{ReadUpTo}
+use Rattle.io_edge.specs.declared.input.ReadAll.{ReadAll}
+use Rattle.io_edge.specs.declared.input.ReadAll.TheVariants.{TooLong}
 
 -- one byte more than the limit is too long
 pub read_too_long : (limit : ℕ) (bytes : List ℕ) → length bytes ≡ limit + 1 → ReadUpTo limit bytes (Err TooLong)

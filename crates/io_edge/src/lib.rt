@@ -7,18 +7,18 @@
 
 mod adapters;
 mod edge;
+mod input;
 mod memory_sink;
 mod memory_source;
 mod numbered;
-mod reading;
-mod writing;
+mod output;
 
 pub use adapters::{StdSink, StdSource};
 pub use edge::{Failed, Sink, Source};
+pub use input::{ReadAll, read_all};
 pub use memory_sink::MemSink;
 pub use memory_source::MemSource;
-pub use reading::{ReadAll, read_all};
-pub use writing::{WriteFault, write_all};
+pub use output::{WriteFault, write_all};
 
 #[cfg(test)]
 mod tests;

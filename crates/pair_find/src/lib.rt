@@ -1,8 +1,8 @@
 //! The order in which square blocks are tried: from a pair of cells on, and then from the start.
 #![tactic(auto)]
 
-mod finding;
+mod candidates;
 #[cfg(test)]
 mod tests;
 
-pub use finding::next_candidate;
+pub use candidates::next_candidate;

@@ -7,7 +7,7 @@ use Rattle.dense_blocks.specs.Field.{Ops, IsField}
 use Rattle.dense_blocks.specs.Vectors.{IsVector, zeros, combination}
 use Rattle.dense_blocks.specs.Matrices.{IsMatrix}
 use Rattle.dense_blocks.specs.Spans.{IsCombination}
-use Rattle.dense_blocks.specs.Solving.{lists, Combines}
+use Rattle.dense_blocks.specs.Solutions.{lists, Combines}
 use Rattle.dense_blocks.proofs.Shapes.{Matrix, to_matrix, from_matrix, append-matrix}
 use Rattle.plain_bases.specs.Relations.{SpansRelationsBelow}
 use Rattle.plain_bases.specs.Complements.{Completes, IsConsidered}

@@ -5,7 +5,7 @@ use Rattle.std.proofs.lemmas.List.{length-map, get_or-map, map_more, take_all}
 use Rattle.dense_blocks.specs.Field.{Ops, IsField}
 use Rattle.dense_blocks.specs.Vectors.{IsVector, zeros}
 use Rattle.dense_blocks.specs.Matrices.{IsMatrix, identity}
-use Rattle.dense_blocks.specs.Solving.{lists}
+use Rattle.dense_blocks.specs.Solutions.{lists}
 use Rattle.dense_blocks.proofs.Shapes.{row-vector, from_vector}
 use Rattle.dense_blocks.proofs.Cutting.{sized-size, sized-identity}
 use Rattle.dense_blocks.proofs.MatrixLaws.{identity-matrix}

@@ -1,6 +1,6 @@
 ghost use Rattle.std.specs.Prelude.{◌≡◌, ◌==◌, ℕ, ◌+◌, ◌^◌, ◌<◌, ◌≤◌, length, filter, IfOk};
 ghost use Rattle.dense_blocks.specs.Matrices.{IsMatrix};
-ghost use Rattle.dense_blocks.specs.Solving.{lists};
+ghost use Rattle.dense_blocks.specs.Solutions.{lists};
 ghost use Rattle.cochain_vec.specs.Complexes.{coordinates};
 ghost use Rattle.cochain_vec.specs.Cohomology.{IsBasis};
 ghost use Rattle.plain_bases.specs.Columns.{columns_from, columns_into};

@@ -2,7 +2,7 @@ ghost use Rattle.std.specs.Prelude.{◌≡◌, ◌≢◌, ◌⊎◌, ◌∷◌, 
 ghost use Rattle.dense_blocks.specs.Vectors.{IsVector, combination};
 ghost use Rattle.dense_blocks.specs.Matrices.{IsMatrix};
 ghost use Rattle.dense_blocks.specs.Spans.{IsCombination};
-ghost use Rattle.dense_blocks.specs.Solving.{lists};
+ghost use Rattle.dense_blocks.specs.Solutions.{lists};
 ghost use Rattle.plain_bases.specs.Complements.{Completes, IsConsidered};
 
 use crate::columns::Vectors;

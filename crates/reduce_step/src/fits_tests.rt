@@ -1,5 +1,5 @@
 //! Records compared with block complexes that have changed, on the circle over the field of two elements.
-use crate::differing::Differs;
+use crate::differences::Differs;
 use crate::record::Record;
 use crate::samples::{circle, copy, put, record};
 use block_sparse::Blocks;

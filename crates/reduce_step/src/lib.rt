@@ -3,19 +3,19 @@
 
 #[cfg(test)]
 mod apply_tests;
-mod applying;
-mod differing;
+mod differences;
 mod finish;
 #[cfg(test)]
 mod fits_tests;
 mod footprint;
 mod record;
+mod removal;
 #[cfg(test)]
 mod samples;
 #[cfg(test)]
 mod tests;
 
-pub use differing::Differs;
+pub use differences::Differs;
 pub use finish::Finish;
 pub use footprint::Footprint;
 pub use record::{Record, Step};

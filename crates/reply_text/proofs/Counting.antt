@@ -2,7 +2,7 @@
 use Rattle.std.proofs.Common.{◌≡◌, ℕ, ◌+◌, ◌<◌, length, take, get_or, add-one, Bool, true, false, List, [], ◌∷◌, ◌++◌}
 use Rattle.std.proofs.Common.{count_by, fold, if◌then◌else◌, refl, sym, ap, ap₂, ◌∙◌, arith}
 use Rattle.std.proofs.Math.Seq.{take-suc}
-use Rattle.sheaf_words.specs.declared.happening.Event.{Event}
+use Rattle.sheaf_words.specs.declared.event.Event.{Event}
 use Rattle.reply_text.specs.declared.counts.Counts.{Counts}
 use Rattle.reply_text.specs.Transcripts.{ends_for, asks_for, is_accepted, current_version, asked_version, asked_from}
 use Rattle.reply_text.specs.Counts.{IsCountOf}

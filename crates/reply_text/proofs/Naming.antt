@@ -10,9 +10,9 @@ use Rattle.std.proofs.lemmas.List.{length-take, length-take-le}
 use Rattle.std.proofs.lemmas.List.Sums.{count_by-le-length}
 use Rattle.std.proofs.lemmas.List.Concat.{flat_map-append}
 use Rattle.std.proofs.lemmas.Bool.{eqb-true}
-use Rattle.sheaf_words.specs.declared.asking.Command.{Command}
-use Rattle.sheaf_words.specs.declared.happening.Event.{Event}
-use Rattle.sheaf_words.specs.declared.happening.Event.TheVariants.{Edit, Ask, Pair, Reply}
+use Rattle.sheaf_words.specs.declared.query.Command.{Command}
+use Rattle.sheaf_words.specs.declared.event.Event.{Event}
+use Rattle.sheaf_words.specs.declared.event.Event.TheVariants.{Edit, Ask, Pair, Reply}
 use Rattle.reply_text.specs.Lines.{line_text, lines_text}
 use Rattle.reply_text.specs.Transcripts.{ends_for, ended_count, current_version, is_accepted, command_number}
 use Rattle.reply_text.specs.Transcripts.{version_named, answer_lines, event_lines, client_lines, client_part}

@@ -1,6 +1,6 @@
 -- What is counted of one client on the way through the events.
 use Rattle.std.specs.Prelude.{◌≡◌, ℕ, ◌<◌, List, length, slice_index}
-use Rattle.sheaf_words.specs.declared.happening.Event.{Event}
+use Rattle.sheaf_words.specs.declared.event.Event.{Event}
 use Rattle.reply_text.specs.declared.counts.Counts.{Counts}
 use Rattle.reply_text.specs.Transcripts.{ended_count, current_version, asked_version}
 

@@ -1,8 +1,8 @@
 -- The line of an event.
 use Rattle.std.specs.Prelude.{ℕ, List, [], ◌∷◌, codes}
 use Rattle.std.specs.Fmt.{decimal}
-use Rattle.sheaf_words.specs.declared.happening.Event.{Event}
-use Rattle.sheaf_words.specs.declared.happening.Event.TheVariants.{Edit, Ask, Pair, Reply}
+use Rattle.sheaf_words.specs.declared.event.Event.{Event}
+use Rattle.sheaf_words.specs.declared.event.Event.TheVariants.{Edit, Ask, Pair, Reply}
 
 -- the words of an event about the command of this number
 abbrev pub event_words : ℕ → Event → List (List ℕ)

@@ -1,18 +1,18 @@
 -- The lines that answer a command.
 use Rattle.std.specs.Prelude.{ℕ, List, [], ◌∷◌, ◌++◌, map, codes}
 use Rattle.std.specs.Fmt.{decimal}
-use Rattle.sheaf_words.specs.declared.asking.Command.{Command}
-use Rattle.sheaf_words.specs.declared.asking.Command.TheVariants.{Change, Ask}
-use Rattle.sheaf_words.specs.declared.asking.Query.{Query}
-use Rattle.sheaf_words.specs.declared.asking.Query.TheVariants as queries
-use Rattle.sheaf_words.specs.declared.editing.Cause.{Cause}
-use Rattle.sheaf_words.specs.declared.editing.Cause.TheVariants.{NoCell, NoFace, StalkLimit, Shape, Entry, TotalLimit}
-use Rattle.sheaf_words.specs.declared.editing.Cause.TheVariants.{Square}
-use Rattle.sheaf_words.specs.declared.editing.Verdict.{Verdict}
-use Rattle.sheaf_words.specs.declared.editing.Verdict.TheVariants.{Accepted, Refused}
-use Rattle.sheaf_words.specs.declared.happening.Event.{Event}
-use Rattle.sheaf_words.specs.declared.happening.Event.TheVariants as events
-use Rattle.sheaf_words.specs.declared.replying.Reply.TheVariants as replies
+use Rattle.sheaf_words.specs.declared.query.Command.{Command}
+use Rattle.sheaf_words.specs.declared.query.Command.TheVariants.{Change, Ask}
+use Rattle.sheaf_words.specs.declared.query.Query.{Query}
+use Rattle.sheaf_words.specs.declared.query.Query.TheVariants as queries
+use Rattle.sheaf_words.specs.declared.edit.Cause.{Cause}
+use Rattle.sheaf_words.specs.declared.edit.Cause.TheVariants.{NoCell, NoFace, StalkLimit, Shape, Entry, TotalLimit}
+use Rattle.sheaf_words.specs.declared.edit.Cause.TheVariants.{Square}
+use Rattle.sheaf_words.specs.declared.edit.Verdict.{Verdict}
+use Rattle.sheaf_words.specs.declared.edit.Verdict.TheVariants.{Accepted, Refused}
+use Rattle.sheaf_words.specs.declared.event.Event.{Event}
+use Rattle.sheaf_words.specs.declared.event.Event.TheVariants as events
+use Rattle.sheaf_words.specs.declared.reply.Reply.TheVariants as replies
 
 -- the first word of a query
 abbrev pub query_word : Query → List ℕ

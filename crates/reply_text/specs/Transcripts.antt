@@ -2,10 +2,10 @@
 use Rattle.std.specs.Prelude.{◌≡◌, ℕ, ◌+◌, ◌<◌, Bool, true, false, List, [], ◌∷◌, ◌++◌, Option, Some, None, length}
 use Rattle.std.specs.Prelude.{take, count_by, slice_get, option_and_then, if◌then◌else◌, ◌==◌, codes}
 use Rattle.std.specs.Fmt.{decimal}
-use Rattle.sheaf_words.specs.declared.asking.Command.{Command}
-use Rattle.sheaf_words.specs.declared.editing.Verdict.TheVariants.{Accepted, Refused}
-use Rattle.sheaf_words.specs.declared.happening.Event.{Event}
-use Rattle.sheaf_words.specs.declared.happening.Event.TheVariants.{Edit, Ask, Pair, Reply}
+use Rattle.sheaf_words.specs.declared.query.Command.{Command}
+use Rattle.sheaf_words.specs.declared.edit.Verdict.TheVariants.{Accepted, Refused}
+use Rattle.sheaf_words.specs.declared.event.Event.{Event}
+use Rattle.sheaf_words.specs.declared.event.Event.TheVariants.{Edit, Ask, Pair, Reply}
 use Rattle.reply_text.specs.Lines.{lines_text}
 use Rattle.reply_text.specs.Replies.{IsAnswerTo, reply_lines}
 use Rattle.reply_text.specs.Events.{event_words}

@@ -1,5 +1,5 @@
 ghost use Rattle.std.specs.Prelude.{◌≡◌, ℕ, ◌+◌, ◌<◌, ◌^◌, ◌∷◌, [], ◌++◌, List, length, All, IfSome, OnOk};
-ghost use Rattle.sheaf_words.specs.declared.happening.Event.{Event};
+ghost use Rattle.sheaf_words.specs.declared.event.Event.{Event};
 ghost use Rattle.reply_text.specs.Lines.{lines_text};
 ghost use Rattle.reply_text.specs.Transcripts.{client_of, ender_of, command_number, order_lines};
 ghost use Rattle.reply_text.specs.Counts.{AreCounted};

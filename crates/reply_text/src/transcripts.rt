@@ -1,5 +1,5 @@
 ghost use Rattle.std.specs.Prelude.{◌≡◌, ℕ, ◌+◌, ◌<◌, ◌≤◌, ◌∷◌, [], ◌++◌, List, Some, None, MatchOption, length, take, slice_get, IfOk, OnOk, codes, true, ◌^◌};
-ghost use Rattle.sheaf_words.specs.declared.happening.Event.{Event};
+ghost use Rattle.sheaf_words.specs.declared.event.Event.{Event};
 ghost use Rattle.reply_text.specs.Lines.{lines_text};
 ghost use Rattle.reply_text.specs.Replies.{IsAnswerTo};
 ghost use Rattle.reply_text.specs.Transcripts.{AreOf, client_part, clients_lines, transcript, IfPresent, AreAnswered, ends_for, asks_for, is_accepted, ended_count, current_version, version_named, event_lines, client_lines};

@@ -4,7 +4,7 @@
 mod duplicate;
 mod line;
 mod lines;
-mod merging;
+mod merges;
 mod places;
 #[cfg(test)]
 mod tests;

@@ -2,7 +2,7 @@ ghost use Rattle.std.specs.Prelude.{◌≡◌, ◌==◌, ◌<◌, ◌≤◌, ℕ
 ghost use Rattle.rising_lists.specs.Rising.{IsRising, IsLine, has, keys, look, entry, entry_after};
 
 use crate::duplicate::Duplicate;
-use crate::merging::{append, is_listed, next_cell, next_value, past, past_listed};
+use crate::merges::{append, is_listed, next_cell, next_value, past, past_listed};
 use crate::places::{count_below, place};
 use std::alloc::{AllocError as NoMemory, Global};
 use std::marker::Model;

@@ -8,15 +8,15 @@ use Rattle.sheaf_data.specs.declared.fault.SealFault.{SealFault}
 use Rattle.sheaf_data.specs.declared.fault.SealFault.TheVariants.{Complex, Noncommuting}
 use Rattle.sheaf_data.specs.Sheaves.{SheafData}
 use Rattle.sheaf_data.specs.Refusals.{IsFault}
-use Rattle.sheaf_words.specs.declared.asking.Command.{Command}
+use Rattle.sheaf_words.specs.declared.query.Command.{Command}
 use Rattle.io_edge.specs.Bytes.{Took}
 use Rattle.sheaf_run.specs.declared.job.Job.{Job}
 use Rattle.sheaf_run.specs.declared.job.Job.TheVariants.{Solve, Check}
 use Rattle.sheaf_run.specs.declared.status.Status.{Status}
 use Rattle.sheaf_run.specs.declared.status.Status.TheVariants.{Done, ReadFault, WriteFault, NoMemory, BadComplex}
 use Rattle.sheaf_run.specs.declared.status.Status.TheVariants.{BadSheaf}
-use Rattle.sheaf_text.specs.Reading.{Reading, reading}
-use Rattle.sheaf_text.specs.Reading as readings
+use Rattle.sheaf_text.specs.Readings.{Reading, reading}
+use Rattle.sheaf_text.specs.Readings as readings
 use Rattle.sheaf_text.specs.declared.input.Input.{Input}
 use Rattle.sheaf_run.specs.Answers.{Outcome, IsAnswer, DraftIsDue, ReadingIsDue, IsDue, refusal, IsRight, AnswersDraft}
 use Rattle.sheaf_run.specs.Answers.{AnswersReading}

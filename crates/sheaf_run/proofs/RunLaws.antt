@@ -9,8 +9,8 @@ use Rattle.field_table.specs.Table.{ops_of}
 use Rattle.sheaf_data.specs.declared.fault.SealFault.{SealFault}
 use Rattle.sheaf_data.specs.Sheaves.{SheafData}
 use Rattle.sheaf_data.specs.Refusals.{IsFault}
-use Rattle.sheaf_text.specs.Reading.{Reading, reading}
-use Rattle.sheaf_text.specs.Reading as readings
+use Rattle.sheaf_text.specs.Readings.{Reading, reading}
+use Rattle.sheaf_text.specs.Readings as readings
 use Rattle.sheaf_text.specs.Answers.{input_value}
 use Rattle.sheaf_text.specs.declared.input.Input.{Input}
 use Rattle.sheaf_text.specs.declared.fault.LineCause.{LineCause}
@@ -18,7 +18,7 @@ use Rattle.sheaf_text.specs.declared.fault.Which.{Which}
 use Rattle.sheaf_text.specs.declared.fault.Which.TheVariants as limits
 use Rattle.sheaf_text.proofs.Kept.{reading-long}
 use Rattle.sheaf_text.proofs.Inputs.{input_value-injective}
-use Rattle.sheaf_words.specs.declared.asking.Command.{Command}
+use Rattle.sheaf_words.specs.declared.query.Command.{Command}
 use Rattle.sheaf_run.specs.declared.job.Job.{Job}
 use Rattle.sheaf_run.specs.Answers.{Outcome, IsAnswer, AnswersDraft, AnswersReading, IsRight, refusal, bad_line}
 use Rattle.sheaf_run.specs.Answers.{over_limit}

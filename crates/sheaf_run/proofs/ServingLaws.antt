@@ -12,23 +12,23 @@ use Rattle.field_table.specs.declared.field.Field.{Field}
 use Rattle.field_table.specs.Table.{ops_of}
 use Rattle.sheaf_data.specs.Sheaves.{SheafData}
 use Rattle.sheaf_data.specs.Betti.{AreBetti}
-use Rattle.sheaf_words.specs.declared.asking.Query.{Query}
-use Rattle.sheaf_words.specs.declared.asking.Query.TheVariants as queries
-use Rattle.sheaf_words.specs.declared.asking.Command.{Command}
-use Rattle.sheaf_words.specs.declared.asking.Command.TheVariants as commands
-use Rattle.sheaf_words.specs.declared.editing.Edit.{Edit as Change}
-use Rattle.sheaf_words.specs.declared.editing.Verdict.{Verdict}
-use Rattle.sheaf_words.specs.declared.editing.Verdict.TheVariants.{Accepted, Refused}
-use Rattle.sheaf_words.specs.declared.replying.Reply.{Reply as Answer}
-use Rattle.sheaf_words.specs.declared.replying.Reply.TheVariants as replies
-use Rattle.sheaf_words.specs.declared.happening.Event.{Event}
-use Rattle.sheaf_words.specs.declared.happening.Event.TheVariants.{Edit, Ask, Reply}
+use Rattle.sheaf_words.specs.declared.query.Query.{Query}
+use Rattle.sheaf_words.specs.declared.query.Query.TheVariants as queries
+use Rattle.sheaf_words.specs.declared.query.Command.{Command}
+use Rattle.sheaf_words.specs.declared.query.Command.TheVariants as commands
+use Rattle.sheaf_words.specs.declared.edit.Edit.{Edit as Change}
+use Rattle.sheaf_words.specs.declared.edit.Verdict.{Verdict}
+use Rattle.sheaf_words.specs.declared.edit.Verdict.TheVariants.{Accepted, Refused}
+use Rattle.sheaf_words.specs.declared.reply.Reply.{Reply as Answer}
+use Rattle.sheaf_words.specs.declared.reply.Reply.TheVariants as replies
+use Rattle.sheaf_words.specs.declared.event.Event.{Event}
+use Rattle.sheaf_words.specs.declared.event.Event.TheVariants.{Edit, Ask, Reply}
 use Rattle.edit_versions.specs.Verdicts.{IsVerdict, IsEdited}
 use Rattle.core_machine.specs.Replies.{IsRightReply}
 use Rattle.core_machine.specs.Machine.{Lane, State, free_lane, waiting_lane, first_state, command_at, with_lane}
 use Rattle.core_machine.specs.Machine.{IsCurrentSheaf, EditStep, AskStep, ReplyStep, IsLegalAndWhole}
 use Rattle.core_machine.proofs.CountLaws.{leads-more}
-use Rattle.sheaf_run.specs.Serving.{Progress, IsSheafAfter, IsJudged, done, Stands}
+use Rattle.sheaf_run.specs.Sessions.{Progress, IsSheafAfter, IsJudged, done, Stands}
 
 slice_get-last : {X : Type 0} (xs : List X) (x : X) → slice_get (xs ++ x ∷ []) (length xs) ≡ Some x
 slice_get-last [] x = refl

@@ -12,12 +12,12 @@ use Rattle.sheaf_data.specs.declared.fault.SealFault.{SealFault}
 use Rattle.sheaf_data.specs.declared.fault.SealFault.TheVariants.{Complex, Noncommuting}
 use Rattle.sheaf_data.specs.Sheaves.{SheafData, IsSheaf}
 use Rattle.sheaf_data.specs.Refusals.{IsFault}
-use Rattle.sheaf_words.specs.declared.asking.Command.{Command}
-use Rattle.sheaf_words.specs.declared.happening.Event.{Event}
+use Rattle.sheaf_words.specs.declared.query.Command.{Command}
+use Rattle.sheaf_words.specs.declared.event.Event.{Event}
 use Rattle.reply_text.specs.Transcripts.{transcript}
 use Rattle.core_machine.specs.Machine.{IsLegalAndWhole}
-use Rattle.sheaf_text.specs.Reading.{Reading, InputValue, reading}
-use Rattle.sheaf_text.specs.Reading as readings
+use Rattle.sheaf_text.specs.Readings.{Reading, InputValue, reading}
+use Rattle.sheaf_text.specs.Readings as readings
 use Rattle.sheaf_text.specs.Answers.{input_value}
 use Rattle.sheaf_text.specs.declared.fault.LineCause.{LineCause}
 use Rattle.sheaf_text.specs.declared.fault.Which.{Which}

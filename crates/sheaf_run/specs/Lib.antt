@@ -1,5 +1,5 @@
 pub mod Words
 pub mod Answers
 pub mod Replies
-pub mod Serving
+pub mod Sessions
 pub mod Runs

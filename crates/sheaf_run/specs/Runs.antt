@@ -5,10 +5,10 @@ use Rattle.io_edge.specs.Faults.{Rose}
 use Rattle.io_edge.specs.Bytes.{Took, TookPrefix, IsFlushed}
 use Rattle.field_table.specs.Table.{ops_of}
 use Rattle.sheaf_data.specs.Sheaves.{IsSheaf}
-use Rattle.sheaf_words.specs.declared.happening.Event.{Event}
+use Rattle.sheaf_words.specs.declared.event.Event.{Event}
 use Rattle.reply_text.specs.Transcripts.{transcript}
 use Rattle.core_machine.specs.Machine.{IsLegalAndWhole}
-use Rattle.sheaf_text.specs.Reading.{Good, reading}
+use Rattle.sheaf_text.specs.Readings.{Good, reading}
 use Rattle.sheaf_text.specs.Answers.{input_value}
 use Rattle.sheaf_text.specs.declared.input.Input.{Input}
 use Rattle.sheaf_run.specs.declared.job.Job.TheVariants.{Solve}

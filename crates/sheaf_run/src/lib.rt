@@ -1,12 +1,12 @@
 //! The top call: words and bytes in, one line or a transcript out.
 #![tactic(auto)]
 
-mod answering;
+mod answers;
+mod input;
 mod job;
-mod reading;
-mod refusing;
-mod sending;
-mod serving;
+mod output;
+mod refusals;
+mod session;
 mod status;
 mod top;
 

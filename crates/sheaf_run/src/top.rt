@@ -5,13 +5,13 @@ ghost use Rattle.io_edge.specs.Bytes.{IsFlushed};
 ghost use Rattle.sheaf_run.specs.declared.job.Job.TheVariants.{Solve};
 ghost use Rattle.sheaf_run.specs.declared.status.Status.{Status};
 ghost use Rattle.sheaf_run.specs.Answers.{IsAnswer, AnswersReading, Answers, IsDue, bad_words, job_of};
-ghost use Rattle.sheaf_text.specs.Reading.{reading};
+ghost use Rattle.sheaf_text.specs.Readings.{reading};
 ghost use Rattle.sheaf_run.specs.Replies.{Sent};
 ghost use Rattle.sheaf_run.specs.Runs.{Answered, Broken, Ran, IsServed, Serves};
 
+use crate::input::answer_bytes;
 use crate::job::{Job, job_of};
-use crate::reading::answer_bytes;
-use crate::refusing::{refuse_limit, refuse_words};
+use crate::refusals::{refuse_limit, refuse_words};
 use crate::status::Status;
 use io_edge::{ReadAll, Sink, Source, read_all};
 use sheaf_text::{MOST_BYTES, Which};

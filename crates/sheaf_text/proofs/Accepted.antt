@@ -11,7 +11,7 @@ use Rattle.sheaf_text.specs.Cut.{are_below}
 use Rattle.sheaf_text.specs.Lines.{value, may_stand, count_fits, are_numerals, is_sign, word, face_in}
 use Rattle.sheaf_text.specs.Grammar.{Known, is_full, known_complex, field_refusal, face_refusal, entries_refusal}
 use Rattle.sheaf_text.specs.Grammar.{incidence_refusal, kind_refusal, placed_refusal}
-use Rattle.sheaf_text.specs.Reading.{is_set_kind}
+use Rattle.sheaf_text.specs.Readings.{is_set_kind}
 use Rattle.sheaf_text.specs.Parts.{TakesFace}
 use Rattle.sheaf_text.specs.State.{known_by, IsAccepted}
 use Rattle.sheaf_text.specs.declared.fault.Refusal.{Refusal}

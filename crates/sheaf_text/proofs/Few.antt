@@ -9,17 +9,17 @@ use Rattle.std.proofs.lemmas.List.{length-map, length-append}
 use Rattle.std.proofs.lemmas.List.Elements.{All-nil, All-cons, All-head, All-tail, All-push, All-weaker}
 use Rattle.std.proofs.lemmas.List.Sums.{sum_by-append, sum_by-cons, count_by-le-length}
 use Rattle.std.proofs.lemmas.List.Splits.{length-slice_split}
-use Rattle.sheaf_words.specs.declared.asking.Command.{Command}
-use Rattle.sheaf_words.specs.declared.asking.Command.TheVariants.{Change, Ask}
-use Rattle.sheaf_words.specs.declared.asking.Query.TheVariants.{Betti}
-use Rattle.sheaf_words.specs.declared.editing.Set.{Set}
+use Rattle.sheaf_words.specs.declared.query.Command.{Command}
+use Rattle.sheaf_words.specs.declared.query.Command.TheVariants.{Change, Ask}
+use Rattle.sheaf_words.specs.declared.query.Query.TheVariants.{Betti}
+use Rattle.sheaf_words.specs.declared.edit.Set.{Set}
 use Rattle.sheaf_text.specs.Cut.{words}
 use Rattle.sheaf_text.specs.Lines.{is_skipped, kind_of}
 use Rattle.sheaf_text.specs.Grammar.{Known, refusal, content_refusal, kind_refusal, is_ended}
-use Rattle.sheaf_text.specs.Reading.{InputValue, Reading, Good, BadLine, contents, item_of, item_of_kind, set_of}
-use Rattle.sheaf_text.specs.Reading.{reading_at_end, go_on, onto_last, into_last, into_script, command_with_set}
-use Rattle.sheaf_text.specs.Reading.{input_of}
-use Rattle.sheaf_text.specs.Keeping.{advance, nothing_known, run}
+use Rattle.sheaf_text.specs.Readings.{InputValue, Reading, Good, BadLine, contents, item_of, item_of_kind, set_of}
+use Rattle.sheaf_text.specs.Readings.{reading_at_end, go_on, onto_last, into_last, into_script, command_with_set}
+use Rattle.sheaf_text.specs.Readings.{input_of}
+use Rattle.sheaf_text.specs.KnownLines.{advance, nothing_known, run}
 use Rattle.sheaf_text.specs.Answers.{Gives, CanBeServed, AreServable, input_value}
 use Rattle.sheaf_text.specs.declared.fault.LineCause.TheVariants as causes
 use Rattle.sheaf_text.specs.declared.fault.Which.TheVariants as limits

@@ -6,12 +6,12 @@ use Rattle.cell_complex.specs.declared.face.Face.{Face}
 use Rattle.field_table.specs.declared.field.Field.{Field}
 use Rattle.square_check.specs.Squares.{HaveShapes}
 use Rattle.sheaf_data.specs.Sheaves.{SheafData}
-use Rattle.sheaf_words.specs.declared.asking.Command.{Command}
+use Rattle.sheaf_words.specs.declared.query.Command.{Command}
 use Rattle.sheaf_text.specs.Lines.{is_skipped, kind_of}
 use Rattle.sheaf_text.specs.Grammar.{Known, refusal, content_refusal, is_ended}
-use Rattle.sheaf_text.specs.Reading.{Good, Skipped, item_of, item_of_kind, refused_reading, go_on, reading_at_end}
-use Rattle.sheaf_text.specs.Reading.{blocks_of}
-use Rattle.sheaf_text.specs.Keeping.{advance}
+use Rattle.sheaf_text.specs.Readings.{Good, Skipped, item_of, item_of_kind, refused_reading, go_on, reading_at_end}
+use Rattle.sheaf_text.specs.Readings.{blocks_of}
+use Rattle.sheaf_text.specs.KnownLines.{advance}
 use Rattle.sheaf_text.specs.Answers.{GivesFault, plain_matrix, input_value}
 use Rattle.sheaf_text.specs.Parts.{IsClosed, IsDraftOf}
 use Rattle.sheaf_text.specs.State.{known_by, AreAtStage, IsSoundState, IsReady, IsFound, TakesItem, TakesLine}

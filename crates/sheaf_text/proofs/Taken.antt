@@ -1,12 +1,12 @@
 -- What is known after a line of a client.
 use Rattle.std.proofs.Common.{◌≡◌, ℕ, ◌<◌, ◌^◌, true, List, [], ◌∷◌, ◌++◌, refl, ap, arith, Some}
-use Rattle.sheaf_words.specs.declared.asking.Command.{Command}
-use Rattle.sheaf_words.specs.declared.asking.Command.TheVariants.{Change, Ask}
-use Rattle.sheaf_words.specs.declared.asking.Query.{Query}
-use Rattle.sheaf_words.specs.declared.editing.Set.{Set}
+use Rattle.sheaf_words.specs.declared.query.Command.{Command}
+use Rattle.sheaf_words.specs.declared.query.Command.TheVariants.{Change, Ask}
+use Rattle.sheaf_words.specs.declared.query.Query.{Query}
+use Rattle.sheaf_words.specs.declared.edit.Set.{Set}
 use Rattle.sheaf_text.specs.Lines.{word}
-use Rattle.sheaf_text.specs.Reading.{IsQuery, IsEdit, IsSet, item_of_kind, set_of, set_size, is_set_kind, onto_last}
-use Rattle.sheaf_text.specs.Reading.{into_script, into_last}
+use Rattle.sheaf_text.specs.Readings.{IsQuery, IsEdit, IsSet, item_of_kind, set_of, set_size, is_set_kind, onto_last}
+use Rattle.sheaf_text.specs.Readings.{into_script, into_last}
 use Rattle.sheaf_text.specs.Parts.{IsClosed}
 use Rattle.sheaf_text.specs.Scripts.{AddsQuery, OpensEdit, AddsSet}
 use Rattle.sheaf_text.specs.State.{IsSoundState, TakesItem}

@@ -2,10 +2,10 @@
 use Rattle.std.specs.Prelude.{◌≡◌, ◌≤◌, ℕ, List, map, length, sum_by, All, Result, Ok, Err}
 use Rattle.dense_blocks.specs.declared.block.Block.{Block}
 use Rattle.field_table.specs.Table.{order_of}
-use Rattle.sheaf_words.specs.declared.asking.Command.{Command}
-use Rattle.sheaf_words.specs.declared.asking.Command.TheVariants.{Change, Ask}
-use Rattle.sheaf_words.specs.declared.asking.Query.TheVariants.{Betti}
-use Rattle.sheaf_text.specs.Reading.{Reading, Good, BadLine, Limit, InputValue, Matrix}
+use Rattle.sheaf_words.specs.declared.query.Command.{Command}
+use Rattle.sheaf_words.specs.declared.query.Command.TheVariants.{Change, Ask}
+use Rattle.sheaf_words.specs.declared.query.Query.TheVariants.{Betti}
+use Rattle.sheaf_text.specs.Readings.{Reading, Good, BadLine, Limit, InputValue, Matrix}
 use Rattle.sheaf_text.specs.declared.input.Input.{Input}
 use Rattle.sheaf_text.specs.declared.fault.TextFault.{TextFault}
 use Rattle.sheaf_text.specs.declared.fault.TextFault.TheVariants as faults

@@ -8,7 +8,7 @@ use Rattle.cell_complex.specs.declared.fault.FaceFault.TheVariants.{UnknownCell,
 use Rattle.cell_complex.specs.Complexes.{CellComplex}
 use Rattle.cell_complex.specs.Verdicts.{face_fault}
 use Rattle.field_table.specs.Table.{orders}
-use Rattle.sheaf_words.specs.declared.asking.Command.{Command}
+use Rattle.sheaf_words.specs.declared.query.Command.{Command}
 use Rattle.sheaf_text.specs.Cut.{are_below}
 use Rattle.sheaf_text.specs.Lines.{word, value, is_skipped, kind_of, may_stand, count_fits, are_numerals, is_sign}
 use Rattle.sheaf_text.specs.Lines.{face_in}

@@ -1,8 +1,8 @@
 pub mod Cut
 pub mod Lines
 pub mod Grammar
-pub mod Reading
-pub mod Keeping
+pub mod Readings
+pub mod KnownLines
 pub mod Answers
 pub mod Parts
 pub mod Scripts

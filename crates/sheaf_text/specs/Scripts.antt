@@ -1,10 +1,10 @@
 -- What the lines so far say of the clients, as the reader keeps it.
 use Rattle.std.specs.Prelude.{◌≡◌, ◌+◌, Bool, [], ◌∷◌, ◌++◌, if◌then◌else◌}
-use Rattle.sheaf_words.specs.declared.asking.Command.TheVariants.{Change, Ask}
-use Rattle.sheaf_words.specs.declared.asking.Query.{Query}
-use Rattle.sheaf_words.specs.declared.editing.Set.{Set}
-use Rattle.sheaf_text.specs.Reading.{set_size, up_to_most}
-use Rattle.sheaf_text.specs.Keeping.{heavier}
+use Rattle.sheaf_words.specs.declared.query.Command.TheVariants.{Change, Ask}
+use Rattle.sheaf_words.specs.declared.query.Query.{Query}
+use Rattle.sheaf_words.specs.declared.edit.Set.{Set}
+use Rattle.sheaf_text.specs.Readings.{set_size, up_to_most}
+use Rattle.sheaf_text.specs.KnownLines.{heavier}
 use Rattle.sheaf_text.specs.declared.scripts.Scripts.{Scripts}
 
 pub record AreNone (s : Scripts) : Type 0 where

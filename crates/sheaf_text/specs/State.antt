@@ -1,11 +1,11 @@
 -- What the reader keeps from line to line.
 use Rattle.std.specs.Prelude.{◌≡◌, ℕ, List, [], ◌∷◌, ◌++◌, Option, Some, None}
 use Rattle.field_table.specs.Table.{order_of}
-use Rattle.sheaf_words.specs.declared.asking.Command.{Command}
-use Rattle.sheaf_words.specs.declared.asking.Command.TheVariants.{Change}
+use Rattle.sheaf_words.specs.declared.query.Command.{Command}
+use Rattle.sheaf_words.specs.declared.query.Command.TheVariants.{Change}
 use Rattle.sheaf_text.specs.Grammar.{Known, refusal, placed_refusal, content_refusal}
-use Rattle.sheaf_text.specs.Reading.{Item, Reading, item_of, go_on}
-use Rattle.sheaf_text.specs.Keeping.{advance, nothing_known}
+use Rattle.sheaf_text.specs.Readings.{Item, Reading, item_of, go_on}
+use Rattle.sheaf_text.specs.KnownLines.{advance, nothing_known}
 use Rattle.sheaf_text.specs.Answers.{GivesFault}
 use Rattle.sheaf_text.specs.Parts.{AreDraftParts, IsOpen, IsClosed, entries_of}
 use Rattle.sheaf_text.specs.declared.fault.TextFault.{TextFault}

@@ -13,10 +13,10 @@
 mod cut;
 mod fault;
 mod input;
-mod judging;
+mod judgements;
 mod line;
 mod parts;
-mod reading;
+mod reader;
 mod scripts;
 mod state;
 #[cfg(test)]
@@ -25,4 +25,4 @@ mod words;
 
 pub use fault::{LineCause, TextFault, Which};
 pub use input::Input;
-pub use reading::{MOST_BYTES, read};
+pub use reader::{MOST_BYTES, read};

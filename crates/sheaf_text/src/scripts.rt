@@ -1,5 +1,5 @@
 ghost use Rattle.std.specs.Prelude.{◌≡◌, ◌+◌, ◌^◌, ◌<◌, ◌≤◌, OnOk, if◌then◌else◌};
-ghost use Rattle.sheaf_text.specs.Reading.{is_heavy_query, set_size};
+ghost use Rattle.sheaf_text.specs.Readings.{is_heavy_query, set_size};
 
 use dense_blocks::Listed;
 use sheaf_words::{Command, Edit, Query, Set};

@@ -1,12 +1,12 @@
 ghost use Rattle.std.specs.Prelude.{◌≡◌, ◌-◌, ◌^◌, ◌<◌, true, IfOk, IfErr, OnOk};
 ghost use Rattle.sheaf_text.specs.Cut.{words};
 ghost use Rattle.sheaf_text.specs.Answers.{Gives, GivesFault};
-ghost use Rattle.sheaf_text.specs.Reading.{item_of_kind, set_of, is_set_kind, reading_at_end, refused_reading};
+ghost use Rattle.sheaf_text.specs.Readings.{item_of_kind, set_of, is_set_kind, reading_at_end, refused_reading};
 ghost use Rattle.sheaf_text.specs.State.{known_by, IsSoundState, IsReady, IsAccepted, IsUntouched, TakesItem, TakesLine, RefusesLine};
 
 use crate::fault::{LineCause, Refusal, TextFault};
 use crate::input::Input;
-use crate::judging::{is_ended, judged};
+use crate::judgements::{is_ended, judged};
 use crate::line::{Kind, Stage, is_skipped, kind_of};
 use crate::parts::Parts;
 use crate::scripts::Scripts;

@@ -6,7 +6,7 @@ use crate::fault::TextFault::{BadLine, Limit};
 use crate::fault::Which::{Bytes, Cells, Clients, Commands, Dimension, Faces, Stalk, Total};
 use crate::fault::{LineCause, TextFault, Which};
 use crate::input::Input;
-use crate::reading::{MOST_BYTES, read};
+use crate::reader::{MOST_BYTES, read};
 use cell_complex::{Face, Sign as FaceSign};
 use field_table::Field as Scalar;
 use sheaf_words::{Command, Query, Set};

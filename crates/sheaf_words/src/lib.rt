@@ -1,16 +1,16 @@
 //! Commands, replies and events, as plain values that contracts compare.
 #![tactic(auto)]
 
-mod asking;
-mod copying;
-mod editing;
-mod happening;
-mod replying;
+mod copies;
+mod edit;
+mod event;
+mod query;
+mod reply;
 #[cfg(test)]
 mod tests;
 
-pub use asking::{Command, Query};
-pub use copying::{Numbers, Row, TryCopy, copy_list, copy_values};
-pub use editing::{Cause, Edit, Set, Verdict};
-pub use happening::Event;
-pub use replying::{Maps, Reduced, Reply};
+pub use copies::{Numbers, Row, TryCopy, copy_list, copy_values};
+pub use edit::{Cause, Edit, Set, Verdict};
+pub use event::Event;
+pub use query::{Command, Query};
+pub use reply::{Maps, Reduced, Reply};

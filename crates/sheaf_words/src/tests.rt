@@ -1,9 +1,9 @@
 //! A value of each kind, its copy, and how both are shown.
-use crate::asking::{Command, Query};
-use crate::copying::copy_list;
-use crate::editing::{Cause, Edit, Set, Verdict};
-use crate::happening::Event;
-use crate::replying::{Maps, Reduced, Reply};
+use crate::copies::copy_list;
+use crate::edit::{Cause, Edit, Set, Verdict};
+use crate::event::Event;
+use crate::query::{Command, Query};
+use crate::reply::{Maps, Reduced, Reply};
 use dense_blocks::{Block, Listed};
 use std::alloc::{AllocError as NoMemory, Global};
 use std::fmt::Debug;

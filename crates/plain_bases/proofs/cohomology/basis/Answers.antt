@@ -1,6 +1,6 @@
 use Rattle.std.proofs.Common.{◌≡◌, ◌≤◌, ◌∙◌, suc, ℕ, List, length, sym, subst, ap, arith, add-one}
 use Rattle.std.specs.Prelude.{◌==◌}
-use Rattle.dense_blocks.specs.Solving.{lists}
+use Rattle.dense_blocks.specs.Solutions.{lists}
 use Rattle.cochain_vec.specs.Complexes.{coordinates}
 use Rattle.plain_bases.specs.View.{plain_complex_of}
 use Rattle.plain_bases.specs.Columns.{columns_from, columns_into}

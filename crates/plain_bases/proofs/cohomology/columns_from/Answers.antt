@@ -1,7 +1,7 @@
 use Rattle.std.proofs.Common.{◌≤◌, ◌+◌, ◌∙◌, All, List, length, sym, subst, ap, ap₂}
 use Rattle.std.specs.Prelude.{◌==◌}
 use Rattle.dense_blocks.specs.Matrices.{IsMatrix}
-use Rattle.dense_blocks.specs.Solving.{lists}
+use Rattle.dense_blocks.specs.Solutions.{lists}
 use Rattle.cochain_vec.specs.declared.cell.Cell.{Cell}
 use Rattle.cochain_vec.specs.Complexes.{total_size}
 use Rattle.plain_bases.specs.declared.complex.Arrow.{Arrow}

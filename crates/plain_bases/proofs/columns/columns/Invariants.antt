@@ -1,6 +1,6 @@
 use Rattle.std.proofs.Common.{◌≡◌, map, take}
 use Rattle.dense_blocks.specs.Matrices.{identity}
-use Rattle.dense_blocks.specs.Solving.{lists}
+use Rattle.dense_blocks.specs.Solutions.{lists}
 use Rattle.plain_bases.specs.Parts.{image}
 use Rattle.plain_bases.proofs.columns.columns.Given as goal
 

@@ -3,7 +3,7 @@ use Rattle.std.proofs.Common.{arith}
 use Rattle.std.proofs.lemmas.List.{drop-map, length-drop}
 use Rattle.dense_blocks.specs.Vectors.{IsVector}
 use Rattle.dense_blocks.specs.Matrices.{IsMatrix}
-use Rattle.dense_blocks.specs.Solving.{lists}
+use Rattle.dense_blocks.specs.Solutions.{lists}
 use Rattle.dense_blocks.proofs.EliminationSteps.{list_at}
 use Rattle.plain_bases.specs.Complements.{Completes, IsConsidered}
 use Rattle.plain_bases.proofs.VecLaws.{lists-size, vector_at}

@@ -1,5 +1,5 @@
 use Rattle.std.proofs.Common.{◌≡◌, ◌≤◌, ◌+◌, take, drop, length}
-use Rattle.dense_blocks.specs.Solving.{lists}
+use Rattle.dense_blocks.specs.Solutions.{lists}
 use Rattle.plain_bases.specs.Complements.{Completes}
 use Rattle.plain_bases.proofs.complements.complement.Given as goal
 

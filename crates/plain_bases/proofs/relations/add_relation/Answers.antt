@@ -3,7 +3,7 @@ use Rattle.std.proofs.Common.{arith}
 use Rattle.std.proofs.lemmas.List.{map-append}
 use Rattle.std.proofs.lemmas.List.Elements.{All-take}
 use Rattle.dense_blocks.specs.Vectors.{AllScalars, combination}
-use Rattle.dense_blocks.specs.Solving.{lists, Solves, Combines}
+use Rattle.dense_blocks.specs.Solutions.{lists, Solves, Combines}
 use Rattle.dense_blocks.proofs.EliminationSteps.{list_at}
 use Rattle.plain_bases.specs.Relations.{SpansRelationsBelow}
 use Rattle.plain_bases.proofs.VecLaws.{all_sizes, each_scalars, vector_at}

@@ -1,5 +1,5 @@
 use Rattle.std.proofs.Common.{◌≡◌, ℕ, subst, length, arith}
-use Rattle.dense_blocks.specs.Solving.{lists}
+use Rattle.dense_blocks.specs.Solutions.{lists}
 use Rattle.plain_bases.specs.Relations.{SpansRelationsBelow}
 use Rattle.plain_bases.proofs.RelationLaws.{relations_all}
 use Rattle.plain_bases.proofs.VecLaws.{lists-size}

@@ -1,5 +1,5 @@
 use Rattle.std.proofs.Common.{◌≤◌, length}
-use Rattle.dense_blocks.specs.Solving.{lists}
+use Rattle.dense_blocks.specs.Solutions.{lists}
 use Rattle.plain_bases.specs.Relations.{SpansRelationsBelow}
 use Rattle.plain_bases.proofs.relations.relations.Given as goal
 

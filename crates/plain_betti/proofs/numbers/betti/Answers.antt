@@ -1,7 +1,7 @@
 use Rattle.std.proofs.Common.{◌≡◌, ◌∙◌, ◌+◌, ◌∷◌, [], ℕ, List, length, sym, subst, ap, rules}
 use Rattle.std.specs.Prelude.{EachIndex, slice_index}
 use Rattle.std.proofs.lemmas.List.{length-append, length-map}
-use Rattle.dense_blocks.specs.Solving.{lists}
+use Rattle.dense_blocks.specs.Solutions.{lists}
 use Rattle.cochain_vec.specs.Complexes.{CellularComplex}
 use Rattle.cochain_vec.specs.Cohomology.{HasDimension, IsBasis}
 use Rattle.dense_blocks.specs.Field.{Ops}

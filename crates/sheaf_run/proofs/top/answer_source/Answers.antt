@@ -1,6 +1,6 @@
 use Rattle.std.proofs.Common.{◌≡◌, ◌∙◌, List, ℕ, sym, subst, ap}
 use Rattle.io_edge.specs.Bytes.{Gave}
-use Rattle.sheaf_text.specs.Reading.{reading}
+use Rattle.sheaf_text.specs.Readings.{reading}
 use Rattle.sheaf_text.specs.declared.fault.Which.TheVariants as limits
 use Rattle.sheaf_run.specs.Answers.{Outcome, AnswersReading, over_limit}
 use Rattle.sheaf_run.proofs.RunLaws.{ran_from_replies, ran_unread, over_bytes}

@@ -5,7 +5,7 @@ use Rattle.io_edge.specs.Faults.{Rose}
 use Rattle.sheaf_run.specs.declared.job.Job.{Job}
 use Rattle.sheaf_run.specs.declared.status.Status.{Status}
 use Rattle.sheaf_run.specs.declared.status.Status.TheVariants.{NoMemory}
-use Rattle.sheaf_text.specs.Reading.{reading}
+use Rattle.sheaf_text.specs.Readings.{reading}
 use Rattle.sheaf_run.specs.declared.job.Job.TheVariants.{Solve}
 use Rattle.sheaf_run.specs.Answers.{IsAnswer, AnswersJob, AnswersReading, IsDue}
 use Rattle.sheaf_run.specs.Runs.{Answered}

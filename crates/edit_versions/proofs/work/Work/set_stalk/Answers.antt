@@ -1,5 +1,5 @@
 use Rattle.std.proofs.Common.{set, ap₂}
-use Rattle.sheaf_words.specs.declared.editing.Set.TheVariants.{Stalk}
+use Rattle.sheaf_words.specs.declared.edit.Set.TheVariants.{Stalk}
 use Rattle.edit_versions.specs.Edits.{zero_at, is_end}
 use Rattle.edit_versions.specs.Works.{Puts, TakesSet}
 use Rattle.edit_versions.proofs.Putting.{on_ok}

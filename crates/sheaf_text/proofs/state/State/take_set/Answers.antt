@@ -1,7 +1,7 @@
 use Rattle.std.proofs.Common.{◌<◌, ◌^◌, subst, sym}
 use Rattle.sheaf_text.specs.Cut.{words}
-use Rattle.sheaf_text.specs.Reading.{set_size}
-use Rattle.sheaf_words.specs.declared.editing.Set.{Set}
+use Rattle.sheaf_text.specs.Readings.{set_size}
+use Rattle.sheaf_words.specs.declared.edit.Set.{Set}
 use Rattle.sheaf_text.proofs.Accepted.{set_accepted}
 use Rattle.sheaf_text.proofs.Taken.{takes_set, set_item, set_small}
 use Rattle.sheaf_text.proofs.state.State.take_set.Goals as goal

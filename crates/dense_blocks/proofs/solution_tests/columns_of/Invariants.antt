@@ -1,0 +1,11 @@
+use Rattle.std.proofs.Common.{◌≡◌, length}
+use Rattle.std.specs.Prelude.{All}
+use Rattle.dense_blocks.specs.Vectors.{AllScalars}
+use Rattle.dense_blocks.specs.Two.{two}
+use Rattle.dense_blocks.proofs.solution_tests.columns_of.Given as goal
+
+abbrev pub invariant-loop-row : goal.invariant-loop-row
+invariant-loop-row g l = record {
+  sizes : All (λ c. length c.items ≡ l.size) l.columns.items;
+  scalars : All (λ c. AllScalars two c.items) l.columns.items;
+}
