@@ -24,18 +24,6 @@ pub record AddsUp (K : Ops) (n : ℕ) (start cs rows : List ℕ) (i : ℕ) (targ
   pub rest_scalars : AllScalars K rest
 
 module _ (K : Ops) (F : IsField K) where
-  pub adds_up-start : (n : ℕ) (cs rows target : List ℕ) → length target ≡ n → length rows ≡ length cs * n
-      → AllScalars K target → AllScalars K rows → AddsUp K n target cs rows 0 target rows
-  adds_up-start n cs rows target w e ht hr =
-      let all : length cs - 0 ≡ length cs = omega arith in
-      record {
-        whole = ap (λ m. plus K target (combination K n cs (cut m n rows))) all;
-        width = w;
-        left = e ∙ ap (λ m. m * n) (sym all);
-        target_scalars = ht;
-        rest_scalars = hr;
-      }
-
   adds_up-next_row : (n : ℕ) (start cs rows : List ℕ) (i : ℕ) (target rest target' : List ℕ)
       → AddsUp K n start cs rows i target rest → i < length cs
       → target' ≡ plus K target (multiple K (get_or cs i 0) (take n rest)) → AllScalars K target'

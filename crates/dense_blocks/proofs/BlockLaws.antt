@@ -42,10 +42,6 @@ block-row K b i h l = row-vector K b.rows b.cols (matrix_of b) i (block-matrix K
 pub is_block-entries : (b : Block) (m n : ℕ) (A : List (List ℕ)) → IsBlock b m n A → b.entries ≡ flat A
 is_block-entries b m n A h = sym (block-entries b) ∙ ap flat h.matrix_is
 
-pub is_block-matrix : (K : Ops) (b : Block) (m n : ℕ) (A : List (List ℕ)) → AllScalars K b.entries → IsBlock b m n A
-    → Matrix K m n A
-is_block-matrix K b m n A s h = subst (Matrix K m n) h.matrix_is (block-matrix_at K b m n h.rows_are h.columns_are s)
-
 pub is_block-scalars : (K : Ops) (b : Block) (m n : ℕ) (A : List (List ℕ)) → Matrix K m n A → IsBlock b m n A
     → AllScalars K b.entries
 is_block-scalars K b m n A s h = subst (AllScalars K) (sym (is_block-entries b m n A h)) (flat-scalars K m n A s)

@@ -34,9 +34,6 @@ pub record Reducing (K : Ops) (n : ℕ) (ps : List Pivot) (start : List ℕ) (i 
   pub rest : reduced K (drop i ps) u ≡ reduced K ps start
   pub all_taken : taken ++ parts K (drop i ps) u ≡ parts K ps start
 
-pub reducing-start : (K : Ops) (n : ℕ) (ps : List Pivot) (u : List ℕ) → IsVector K n u → Reducing K n ps u 0 u []
-reducing-start K n ps u hu = record { vector = hu; rest = refl; all_taken = refl }
-
 pub reducing-next : (K : Ops) (h : IsField K) (n : ℕ) (ps : List Pivot) (start : List ℕ) (i : ℕ) (u taken : List ℕ)
     (p : Pivot) (x : ℕ)
     → i < length ps → p ≡ get_or ps i p → IsPivot K n p → x ≡ pivot_multiple K p u → Reducing K n ps start i u taken
@@ -318,15 +315,6 @@ module _ (K : Ops) (h : IsField K) where
       (combination-vector K h (length vectors) n coefficients vectors hv))
       ∙ ap (λ t. plus K (combination K n coefficients vectors) (combination K n t (rows ps))) (sym (nil_is taken none))
       ∙ now.gives
-
-  -- no vector is looked at yet
-  pub eliminates-none : (n : ℕ) (vectors : List (List ℕ)) → Eliminates K n vectors 0 []
-  eliminates-none n vectors = record {
-    fit = All-nil (IsPivot K n);
-    come_from = λ k d l. absurd (omega arith);
-    not_earlier = λ k d l. absurd (omega arith);
-    zero = λ j l. absurd (omega arith);
-  }
 
   -- one more vector, which the pivots reduce to zero
   pub eliminates-zero : (n : ℕ) (vectors : List (List ℕ)) (j : ℕ) (ps : List Pivot) → Eliminates K n vectors j ps

@@ -208,7 +208,8 @@ module _ (K : Ops) (h : IsField K) (a : Block) (one : a.rows ≡ 1) (square : a.
         zero = ap (λ t. t ∷ []) (h.add_zero (K.mul x 1) (h.mul_below x 1) ∙ ap (λ t. K.mul t 1) none ∙ zero_mul K h 1);
       } in
       let kernel : InKernel K a.rows (matrix_of a) v =
-      subst (λ n. InKernel K n (matrix_of a) v) (sym one) (subst₂ (InKernel K 1) (sym one-matrix) (sym is_v) at_one) in (
+      subst (λ n. InKernel K n (matrix_of a) v) (sym one)
+      (subst₂ (InKernel K 1) (sym one-matrix) (sym is_v) at_one) in (
         kernel,
         λ B inverse. kernel-no_inverse K h a.rows (matrix_of a)
             (block-matrix_at K a a.rows a.rows refl (sym square) scalars) v B kernel inverse,

@@ -1,31 +1,20 @@
--- Laws of matrices as lists of rows: shapes, the commutative group, matrices image_of to vectors, products.
+-- Laws of matrices as lists of rows: shapes, sums, matrices applied to vectors, products.
 -- A law is named by its left side, the outermost word first.
-use Rattle.std.proofs.Common.{◌≡◌, ℕ, zero, suc, ◌<◌, List, [], ◌∷◌, ◌++◌, map, get_or, refl, sym, ap, ap₂, ◌∙◌, arith}
+use Rattle.std.proofs.Common.{◌≡◌, ℕ, zero, suc, ◌<◌, List, [], ◌∷◌, map, get_or, refl, sym, ap, ap₂, ◌∙◌, arith}
 use Rattle.dense_blocks.specs.Field.{Ops, IsField}
 use Rattle.dense_blocks.specs.Vectors.{zeros, plus, negative, multiple, dot, combination}
 use Rattle.dense_blocks.specs.Matrices.{image_of, product, identity, zero_matrix, matrix_sum, matrix_negative}
 use Rattle.dense_blocks.specs.Matrices.{IsInverse}
 use Rattle.dense_blocks.proofs.ScalarLaws.{zero_below, one_below, zero_add, mul_zero, zero_mul, one_mul}
 use Rattle.dense_blocks.proofs.Shapes.{Vector, Matrix, to_matrix}
-use Rattle.dense_blocks.proofs.VectorLaws.{zeros-vector, plus-vector, negative-vector, multiple-vector}
-use Rattle.dense_blocks.proofs.VectorLaws.{combination-vector, plus-assoc, plus-comm, plus-cross, zeros-plus}
-use Rattle.dense_blocks.proofs.VectorLaws.{plus-zeros, zeros-plus-zeros, negative-plus, negative-of-plus}
-use Rattle.dense_blocks.proofs.VectorLaws.{negative-zeros, negative-negative, multiple-plus, multiple-negative}
+use Rattle.dense_blocks.proofs.VectorLaws.{zeros-vector, plus-vector, negative-vector}
+use Rattle.dense_blocks.proofs.VectorLaws.{combination-vector, plus-comm, zeros-plus}
+use Rattle.dense_blocks.proofs.VectorLaws.{plus-zeros, zeros-plus-zeros, negative-of-plus}
+use Rattle.dense_blocks.proofs.VectorLaws.{negative-zeros, multiple-negative}
 use Rattle.dense_blocks.proofs.VectorLaws.{multiple-zeros, multiple-zero, multiple-one, dot-below, dot-plus, plus-dot}
 use Rattle.dense_blocks.proofs.VectorLaws.{dot-multiple, dot-negative, negative-dot, dot-zeros, zeros-dot, vector-ext}
-use Rattle.dense_blocks.proofs.VectorLaws.{combination-plus, combination-negative, combination-zeros}
+use Rattle.dense_blocks.proofs.VectorLaws.{combination-zeros}
 use Rattle.dense_blocks.proofs.VectorLaws.{combination-combination, combination-dot}
-
--- lists of rows, of whatever shape
-pub image_of-append : (K : Ops) (A B : List (List ℕ)) (v : List ℕ) → image_of K (A ++ B) v ≡ image_of K A v
-    ++ image_of K B v
-image_of-append K [] B v = refl
-image_of-append K (r ∷ A) B v = ap (λ t. dot K r v ∷ t) (image_of-append K A B v)
-
-pub product-append : (K : Ops) (n : ℕ) (A B C : List (List ℕ)) → product K n (A ++ B) C ≡ product K n A C
-    ++ product K n B C
-product-append K n [] B C = refl
-product-append K n (r ∷ A) B C = ap (λ t. combination K n r C ∷ t) (product-append K n A B C)
 
 -- the row at i of a product
 pub product-row : (K : Ops) (l m n i : ℕ) (A B : List (List ℕ)) → Matrix K l m A → i < l
@@ -34,15 +23,6 @@ product-row K zero m n i A B h w = absurd (omega arith)
 product-row K (suc l) m n i [] B h w = absurd h
 product-row K (suc l) m n zero (r ∷ A) B h w = refl
 product-row K (suc l) m n (suc i) (r ∷ A) B h w = product-row K l m n i A B h.1 (omega arith)
-
--- the row at i of a sum
-pub matrix_sum-row : (K : Ops) (m n i : ℕ) (A B : List (List ℕ)) → Matrix K m n A → Matrix K m n B → i < m
-    → get_or (matrix_sum K A B) i [] ≡ plus K (get_or A i []) (get_or B i [])
-matrix_sum-row K zero n i A B ha hb w = absurd (omega arith)
-matrix_sum-row K (suc m) n i [] B ha hb w = absurd ha
-matrix_sum-row K (suc m) n i (a ∷ A) [] ha hb w = absurd hb
-matrix_sum-row K (suc m) n zero (a ∷ A) (b ∷ B) ha hb w = refl
-matrix_sum-row K (suc m) n (suc i) (a ∷ A) (b ∷ B) ha hb w = matrix_sum-row K m n i A B ha.1 hb.1 (omega arith)
 
 -- a matrix without columns, and one without rows
 pub no-columns : (K : Ops) (m : ℕ) (A : List (List ℕ)) → Matrix K m 0 A → A ≡ zero_matrix m 0
@@ -100,13 +80,7 @@ module _ (K : Ops) (F : IsField K) where
   image_of-vector (suc m) n [] v h = absurd h
   image_of-vector (suc m) n (r ∷ A) v h = (dot-below K F r v, image_of-vector m n A v h.1)
 
-  -- the commutative group of matrices
-  pub matrix_sum-assoc : (A B C : List (List ℕ)) → matrix_sum K (matrix_sum K A B) C ≡ matrix_sum K A (matrix_sum K B C)
-  matrix_sum-assoc [] B C = refl
-  matrix_sum-assoc (a ∷ A) [] C = refl
-  matrix_sum-assoc (a ∷ A) (b ∷ B) [] = refl
-  matrix_sum-assoc (a ∷ A) (b ∷ B) (c ∷ C) = ap₂ ◌∷◌ (plus-assoc K F a b c) (matrix_sum-assoc A B C)
-
+  -- sums and negatives
   pub matrix_sum-comm : (A B : List (List ℕ)) → matrix_sum K A B ≡ matrix_sum K B A
   matrix_sum-comm [] [] = refl
   matrix_sum-comm [] (b ∷ B) = refl
@@ -122,36 +96,11 @@ module _ (K : Ops) (F : IsField K) where
   pub matrix_sum-zero_matrix : (m n : ℕ) (A : List (List ℕ)) → Matrix K m n A → matrix_sum K A (zero_matrix m n) ≡ A
   matrix_sum-zero_matrix m n A h = matrix_sum-comm A (zero_matrix m n) ∙ zero_matrix-sum m n A h
 
-  pub matrix_negative-sum : (m n : ℕ) (A : List (List ℕ)) → Matrix K m n A → matrix_sum K (matrix_negative K A) A
-      ≡ zero_matrix m n
-  matrix_negative-sum zero n [] h = refl
-  matrix_negative-sum zero n (r ∷ A) h = absurd h
-  matrix_negative-sum (suc m) n [] h = absurd h
-  matrix_negative-sum (suc m) n (r ∷ A) h = ap₂ ◌∷◌ (negative-plus K F n r h.0) (matrix_negative-sum m n A h.1)
-
-  pub matrix_sum-negative : (m n : ℕ) (A : List (List ℕ)) → Matrix K m n A → matrix_sum K A (matrix_negative K A)
-      ≡ zero_matrix m n
-  matrix_sum-negative m n A h = matrix_sum-comm A (matrix_negative K A) ∙ matrix_negative-sum m n A h
-
-  pub matrix_negative-of-sum : (A B : List (List ℕ)) → matrix_negative K (matrix_sum K A B)
-      ≡ matrix_sum K (matrix_negative K A) (matrix_negative K B)
-  matrix_negative-of-sum [] B = refl
-  matrix_negative-of-sum (a ∷ A) [] = refl
-  matrix_negative-of-sum (a ∷ A) (b ∷ B) = ap₂ ◌∷◌ (negative-of-plus K F a b) (matrix_negative-of-sum A B)
-
-  pub matrix_negative-negative : (m n : ℕ) (A : List (List ℕ)) → Matrix K m n A
-      → matrix_negative K (matrix_negative K A) ≡ A
-  matrix_negative-negative zero n [] h = refl
-  matrix_negative-negative zero n (r ∷ A) h = absurd h
-  matrix_negative-negative (suc m) n [] h = absurd h
-  matrix_negative-negative (suc m) n (r ∷ A) h = ap₂ ◌∷◌ (negative-negative K F n r h.0)
-      (matrix_negative-negative m n A h.1)
-
   pub matrix_negative-zero_matrix : (m n : ℕ) → matrix_negative K (zero_matrix m n) ≡ zero_matrix m n
   matrix_negative-zero_matrix zero n = refl
   matrix_negative-zero_matrix (suc m) n = ap₂ ◌∷◌ (negative-zeros K F n) (matrix_negative-zero_matrix m n)
 
-  -- a matrix image_of is linear in the vector
+  -- a matrix applied is linear in the vector
   pub image_of-plus : (n : ℕ) (A : List (List ℕ)) (u v : List ℕ) → Vector K n u → Vector K n v
       → image_of K A (plus K u v) ≡ plus K (image_of K A u) (image_of K A v)
   image_of-plus n [] u v hu hv = refl
@@ -174,18 +123,6 @@ module _ (K : Ops) (F : IsField K) where
 
   pub image_of-nil : (m n : ℕ) (A : List (List ℕ)) → Matrix K m n A → image_of K A [] ≡ zeros m
   image_of-nil m n A h = image_of-zeros 0 m n A h
-
-  -- a matrix carries a combination to the combination of what it gives
-  pub image_of-combination : (l m n : ℕ) (A : List (List ℕ)) (cs : List ℕ) (vs : List (List ℕ)) → Matrix K m n A
-      → Matrix K l n vs
-      → image_of K A (combination K n cs vs) ≡ combination K m cs (map (image_of K A) vs)
-  image_of-combination l m n A [] vs h hv = image_of-zeros n m n A h
-  image_of-combination l m n A (c ∷ cs) [] h hv = image_of-zeros n m n A h
-  image_of-combination zero m n A (c ∷ cs) (v ∷ vs) h hv = absurd hv
-  image_of-combination (suc l) m n A (c ∷ cs) (v ∷ vs) h hv =
-      image_of-plus n A (multiple K c v) (combination K n cs vs) (multiple-vector K F n c v hv.0)
-      (combination-vector K F l n cs vs hv.1)
-      ∙ ap₂ (plus K) (image_of-multiple c A v) (image_of-combination l m n A cs vs h hv.1)
 
   -- and in the matrix
   pub matrix_sum-image_of : (m n : ℕ) (A B : List (List ℕ)) (v : List ℕ) → Matrix K m n A → Matrix K m n B
@@ -244,19 +181,6 @@ module _ (K : Ops) (F : IsField K) where
 
       rest : (a b : ℕ) (u v : List ℕ) → ◌≡◌ {A = List ℕ} (a ∷ u) (b ∷ v) → u ≡ v
       rest a b u v e = cc
-
-  -- a combination is linear in the vectors that it combines
-  pub combination-matrix_sum : (m n : ℕ) (cs : List ℕ) (A B : List (List ℕ)) → Matrix K m n A → Matrix K m n B
-      → combination K n cs (matrix_sum K A B) ≡ plus K (combination K n cs A) (combination K n cs B)
-  combination-matrix_sum m n [] A B ha hb = sym (zeros-plus-zeros K F n)
-  combination-matrix_sum zero n (c ∷ cs) [] [] ha hb = sym (zeros-plus-zeros K F n)
-  combination-matrix_sum zero n (c ∷ cs) [] (b ∷ B) ha hb = absurd hb
-  combination-matrix_sum zero n (c ∷ cs) (a ∷ A) B ha hb = absurd ha
-  combination-matrix_sum (suc m) n (c ∷ cs) [] B ha hb = absurd ha
-  combination-matrix_sum (suc m) n (c ∷ cs) (a ∷ A) [] ha hb = absurd hb
-  combination-matrix_sum (suc m) n (c ∷ cs) (a ∷ A) (b ∷ B) ha hb =
-      ap₂ (plus K) (multiple-plus K F c a b) (combination-matrix_sum m n cs A B ha.1 hb.1)
-      ∙ plus-cross K F (multiple K c a) (multiple K c b) (combination K n cs A) (combination K n cs B)
 
   pub combination-matrix_negative : (n : ℕ) (cs : List ℕ) (A : List (List ℕ))
       → combination K n cs (matrix_negative K A) ≡ negative K (combination K n cs A)
@@ -323,13 +247,6 @@ module _ (K : Ops) (F : IsField K) where
       (ap₂ (plus K) (multiple-one K F n r h.0) (combination-zeros K F m m n A h.1) ∙ plus-zeros K F n r h.0)
       (shifted-product m n (identity m) r A h.0 h.1 ∙ identity-product m n A h.1)
 
-  -- the coefficients of a unit vector pick a row
-  pub combination-unit_row : (m n i : ℕ) (A : List (List ℕ)) → Matrix K m n A → i < m
-      → combination K n (get_or (identity m) i []) A ≡ get_or A i []
-  combination-unit_row m n i A h l =
-      sym (product-row K m m n i (identity m) A (identity-matrix m) l)
-      ∙ ap (λ t. get_or t i []) (identity-product m n A h)
-
   -- zero factors
   pub product-zero_matrix : (l m n : ℕ) (A : List (List ℕ)) → Matrix K l m A → product K n A (zero_matrix m n)
       ≡ zero_matrix l n
@@ -343,31 +260,11 @@ module _ (K : Ops) (F : IsField K) where
   zero_matrix-product zero m n B h = refl
   zero_matrix-product (suc l) m n B h = ap₂ ◌∷◌ (combination-zeros K F m m n B h) (zero_matrix-product l m n B h)
 
-  -- sums of factors
-  pub product-matrix_sum : (m n : ℕ) (A B C : List (List ℕ)) → Matrix K m n B → Matrix K m n C
-      → product K n A (matrix_sum K B C) ≡ matrix_sum K (product K n A B) (product K n A C)
-  product-matrix_sum m n [] B C hb hc = refl
-  product-matrix_sum m n (r ∷ A) B C hb hc = ap₂ ◌∷◌ (combination-matrix_sum m n r B C hb hc)
-      (product-matrix_sum m n A B C hb hc)
-
-  pub matrix_sum-product : (l m n : ℕ) (A B C : List (List ℕ)) → Matrix K l m A → Matrix K l m B
-      → product K n (matrix_sum K A B) C ≡ matrix_sum K (product K n A C) (product K n B C)
-  matrix_sum-product l m n [] B C ha hb = refl
-  matrix_sum-product zero m n (a ∷ A) B C ha hb = absurd ha
-  matrix_sum-product (suc l) m n (a ∷ A) [] C ha hb = absurd hb
-  matrix_sum-product (suc l) m n (a ∷ A) (b ∷ B) C ha hb =
-      ap₂ ◌∷◌ (combination-plus K F m n a b C ha.0 hb.0) (matrix_sum-product l m n A B C ha.1 hb.1)
-
   -- signs come out of a product
   pub product-matrix_negative : (n : ℕ) (A B : List (List ℕ)) → product K n A (matrix_negative K B)
       ≡ matrix_negative K (product K n A B)
   product-matrix_negative n [] B = refl
   product-matrix_negative n (r ∷ A) B = ap₂ ◌∷◌ (combination-matrix_negative n r B) (product-matrix_negative n A B)
-
-  pub matrix_negative-product : (n : ℕ) (A B : List (List ℕ)) → product K n (matrix_negative K A) B
-      ≡ matrix_negative K (product K n A B)
-  matrix_negative-product n [] B = refl
-  matrix_negative-product n (r ∷ A) B = ap₂ ◌∷◌ (combination-negative K F n r B) (matrix_negative-product n A B)
 
   -- a left and a right inverse of one matrix are the same
   pub left-inverse-right : (n : ℕ) (A B C : List (List ℕ)) → Matrix K n n A → Matrix K n n B → Matrix K n n C

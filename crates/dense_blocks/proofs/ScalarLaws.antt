@@ -45,16 +45,9 @@ module _ (K : Ops) (F : IsField K) where
   neg_neg a h = add_cancel (K.neg a) (K.neg (K.neg a)) a (F.neg_below (K.neg a)) h (F.add_neg (K.neg a)
       ∙ sym (neg_add a))
 
-  pub neg_cancel : (a b : ℕ) → a < K.order → b < K.order → K.neg a ≡ K.neg b → a ≡ b
-  neg_cancel a b ha hb e = sym (neg_neg a ha) ∙ ap K.neg e ∙ neg_neg b hb
-
   -- two scalars whose sum is 0 are negatives of one another
   pub neg_unique : (a b : ℕ) → b < K.order → K.add a b ≡ 0 → b ≡ K.neg a
   neg_unique a b h e = add_cancel a b (K.neg a) h (F.neg_below a) (e ∙ sym (F.add_neg a))
-
-  -- two scalars whose difference is 0 are the same
-  pub same_by_difference : (a b : ℕ) → a < K.order → b < K.order → K.add a (K.neg b) ≡ 0 → a ≡ b
-  same_by_difference a b ha hb e = sym (neg_cancel b a hb ha (neg_unique a (K.neg b) (F.neg_below b) e))
 
   -- products
   pub mul_zero : (a : ℕ) → K.mul a 0 ≡ 0
@@ -82,9 +75,6 @@ module _ (K : Ops) (F : IsField K) where
   pub mul_neg : (a b : ℕ) → K.mul a (K.neg b) ≡ K.neg (K.mul a b)
   mul_neg a b = F.mul_comm a (K.neg b) ∙ neg_mul b a ∙ ap K.neg (F.mul_comm b a)
 
-  pub neg_one_mul : (a : ℕ) → a < K.order → K.mul (K.neg 1) a ≡ K.neg a
-  neg_one_mul a h = neg_mul 1 a ∙ ap K.neg (one_mul a h)
-
   -- inverses
   pub inv_mul : (a : ℕ) → a < K.order → a ≢ 0 → K.mul (K.inv a) a ≡ 1
   inv_mul a h n = F.mul_comm (K.inv a) a ∙ F.mul_inv a h n
@@ -94,15 +84,3 @@ module _ (K : Ops) (F : IsField K) where
 
   pub mul_inv_mul : (a b : ℕ) → a < K.order → a ≢ 0 → b < K.order → K.mul a (K.mul (K.inv a) b) ≡ b
   mul_inv_mul a b ha n hb = mul_left_comm a (K.inv a) b ∙ inv_mul_mul a b ha n hb
-
-  pub mul_cancel : (a b c : ℕ) → a < K.order → a ≢ 0 → b < K.order → c < K.order → K.mul a b ≡ K.mul a c → b ≡ c
-  mul_cancel a b c ha n hb hc e = sym (inv_mul_mul a b ha n hb) ∙ ap (K.mul (K.inv a)) e ∙ inv_mul_mul a c ha n hc
-
-  -- a product that is 0 has a factor 0
-  pub mul_not_zero : (a b : ℕ) → a < K.order → b < K.order → a ≢ 0 → b ≢ 0 → K.mul a b ≢ 0
-  mul_not_zero a b ha hb na nb e = nb (mul_cancel a b 0 ha na hb zero_below (e ∙ sym (mul_zero a)))
-
-  pub inv_not_zero : (a : ℕ) → a < K.order → a ≢ 0 → K.inv a ≢ 0
-  inv_not_zero a h n e =
-      let one : ◌≡◌ {A = ℕ} 0 1 = sym (mul_zero a) ∙ ap (K.mul a) (sym e) ∙ F.mul_inv a h n in
-      omega arith

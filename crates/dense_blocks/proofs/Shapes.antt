@@ -1,7 +1,6 @@
 -- Vectors and matrices as proofs recurse on them, and the way to and from IsVector and IsMatrix.
 use Rattle.std.proofs.Common.{◌≡◌, ℕ, zero, suc, ◌+◌, ◌<◌, List, [], ◌∷◌, ◌++◌, length, get_or, All, refl, sym, ap}
 use Rattle.std.proofs.Common.{subst, zero-add, suc-add, arith, suc-le-suc}
-use Rattle.std.specs.Coded.{le_prop}
 use Rattle.dense_blocks.specs.Field.{Ops}
 use Rattle.dense_blocks.specs.Vectors.{IsVector}
 use Rattle.dense_blocks.specs.Matrices.{IsMatrix}
@@ -46,12 +45,6 @@ vector-scalars K (suc n) (a ∷ v) h (suc k) d l = vector-scalars K n v h.1 k d 
 pub from_vector : (K : Ops) (n : ℕ) (v : List ℕ) → Vector K n v → IsVector K n v
 from_vector K n v h = record { size = vector-size K n v h; scalars = vector-scalars K n v h }
 
-pub vector-prop : (K : Ops) (n : ℕ) (v : List ℕ) → IsProp (Vector K n v)
-vector-prop K zero [] = hlevel
-vector-prop K zero (a ∷ v) = hlevel
-vector-prop K (suc n) [] = hlevel
-vector-prop K (suc n) (a ∷ v) = hlevel (vector-prop K n v, λ (h k : a < K.order). le_prop h k)
-
 -- a vector of no coordinates
 pub vector-nil : (K : Ops) (v : List ℕ) → Vector K 0 v → v ≡ []
 vector-nil K [] h = refl
@@ -89,12 +82,6 @@ matrix-rows K (suc m) n (r ∷ A) h (suc k) d l = matrix-rows K m n A h.1 k d (o
 
 pub from_matrix : (K : Ops) (m n : ℕ) (A : List (List ℕ)) → Matrix K m n A → IsMatrix K m n A
 from_matrix K m n A h = record { size = matrix-size K m n A h; rows_are = matrix-rows K m n A h }
-
-pub matrix-prop : (K : Ops) (m n : ℕ) (A : List (List ℕ)) → IsProp (Matrix K m n A)
-matrix-prop K zero n [] = hlevel
-matrix-prop K zero n (r ∷ A) = hlevel
-matrix-prop K (suc m) n [] = hlevel
-matrix-prop K (suc m) n (r ∷ A) = hlevel (vector-prop K n r, matrix-prop K m n A)
 
 -- the row at i
 pub row-vector : (K : Ops) (m n : ℕ) (A : List (List ℕ)) (i : ℕ) → Matrix K m n A → i < m → Vector K n (get_or A i [])

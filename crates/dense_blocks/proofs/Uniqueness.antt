@@ -6,9 +6,9 @@ use Rattle.std.proofs.lemmas.List.{take_all, take_more, get_or-take}
 use Rattle.std.proofs.lemmas.List.Elements.{All-cons, All-head, All-tail, All-get_or}
 use Rattle.dense_blocks.specs.Field.{Ops, IsField}
 use Rattle.dense_blocks.specs.Vectors.{AllScalars, IsVector, zeros, plus, negative, multiple, dot, combination}
-use Rattle.dense_blocks.specs.Solutions.{IsDependent, IsDependentCoordinate, Combines, Separates}
+use Rattle.dense_blocks.specs.Solutions.{IsDependent, IsDependentCoordinate, Separates}
 use Rattle.dense_blocks.specs.LeadingAnswers.{OneLeadingCombination, OneLeadingFunctional}
-use Rattle.dense_blocks.proofs.ScalarLaws.{zero_below, zero_add, neg_zero, neg_unique, neg_mul, mul_neg, mul_zero}
+use Rattle.dense_blocks.proofs.ScalarLaws.{zero_below, zero_add, neg_unique, neg_mul, mul_neg, mul_zero}
 use Rattle.dense_blocks.proofs.ScalarLaws.{zero_mul, inv_mul, inv_mul_mul}
 use Rattle.dense_blocks.proofs.Shapes.{Vector, Matrix, to_vector, vector-size, vector-scalars, vector-nil}
 use Rattle.dense_blocks.proofs.Shapes.{matrix_of_rows, row-vector}

@@ -36,10 +36,6 @@ pub multiple-append : (K : Ops) (k : ℕ) (u v : List ℕ) → multiple K k (u +
 multiple-append K k [] v = refl
 multiple-append K k (a ∷ u) v = ap (λ t. K.mul k a ∷ t) (multiple-append K k u v)
 
-pub negative-append : (K : Ops) (u v : List ℕ) → negative K (u ++ v) ≡ negative K u ++ negative K v
-negative-append K [] v = refl
-negative-append K (a ∷ u) v = ap (λ t. K.neg a ∷ t) (negative-append K u v)
-
 pub zeros-append : (m n : ℕ) → zeros (m + n) ≡ zeros m ++ zeros n
 zeros-append zero n = ap zeros (zero-add n)
 zeros-append (suc m) n = ap zeros (suc-add m n) ∙ ap (λ t. 0 ∷ t) (zeros-append m n)
@@ -370,25 +366,5 @@ module _ (K : Ops) (F : IsField K) where
       plus-dot n (multiple K c v) (combination K n cs vs) w (multiple-vector n c v h.0)
       (combination-vector m n cs vs h.1)
       ∙ ap₂ K.add (multiple-dot c v w) (combination-dot m n cs vs w h.1)
-
-  pub dot-combination : (m n : ℕ) (w cs : List ℕ) (vs : List (List ℕ)) → Matrix K m n vs
-      → dot K w (combination K n cs vs) ≡ dot K cs (map (dot K w) vs)
-  dot-combination m n w [] vs h = dot-zeros n w
-  dot-combination m n w (c ∷ cs) [] h = dot-zeros n w
-  dot-combination zero n w (c ∷ cs) (v ∷ vs) h = absurd h
-  dot-combination (suc m) n w (c ∷ cs) (v ∷ vs) h =
-      dot-plus n w (multiple K c v) (combination K n cs vs) (multiple-vector n c v h.0)
-      (combination-vector m n cs vs h.1)
-      ∙ ap₂ K.add (dot-multiple c w v) (dot-combination m n w cs vs h.1)
-
-  -- coefficients 0, .., 0, 1, 0, .., 0 pick a member
-  pub combination-unit : (l m n : ℕ) (vs ws : List (List ℕ)) (v : List ℕ) → Matrix K l n vs → Vector K n v
-      → Matrix K m n ws
-      → combination K n (zeros (length vs) ++ 1 ∷ zeros m) (vs ++ v ∷ ws) ≡ v
-  combination-unit l m n vs ws v hs hv hw =
-      combination-append (suc m) n (zeros (length vs)) (1 ∷ zeros m) vs (v ∷ ws) (zeros-size (length vs)) (hv, hw)
-      ∙ ap₂ (plus K) (combination-zeros (length vs) l n vs hs)
-      (ap₂ (plus K) (multiple-one n v hv) (combination-zeros m m n ws hw) ∙ plus-zeros n v hv)
-      ∙ zeros-plus n v hv
 
 pub ruleset pushing = (zeros-pushed)

@@ -105,11 +105,4 @@ impl Block {
     {
         rows <= Block::MOST && cols <= Block::MOST && len == rows as usize * cols as usize
     }
-
-    /// Whether the two blocks have as many rows and as many columns.
-    pub fn same_shape(&self, other: &Block) -> bool
-        ensures { IsTrue result ↔ ((self.now.rows ≡ other.now.rows) × (self.now.cols ≡ other.now.cols)) }
-    {
-        self.rows == other.rows && self.cols == other.cols
-    }
 }

@@ -7,7 +7,12 @@ use crate::scalars::Scalars;
 
 /// Adds to the target the linear combination, by the coefficients, of rows as long as the target
 /// that are given one after another.
-pub fn add_combination<F: Scalars>(f: &F, target: &mut [u8], coefficients: &[u8], rows: &[u8])
+pub(crate) fn add_combination<F: Scalars>(
+    f: &F,
+    target: &mut [u8],
+    coefficients: &[u8],
+    rows: &[u8],
+)
     requires full { length rows.now ≡ length coefficients.now * length target.old }
     requires target_scalars { AllScalars (F.ops f.now) target.old }
     requires coefficient_scalars { AllScalars (F.ops f.now) coefficients.now }

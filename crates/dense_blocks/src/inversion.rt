@@ -60,7 +60,8 @@ fn invert_one<F: Scalars>(alloc: Global, f: &F, a: &Block) -> Result<Inverse, No
 fn beside_identity(alloc: Global, a: &Block) -> Result<Entries, NoMemory>
     requires square { a.now.rows ≡ a.now.cols }
     ensures full { IfOk result (λ e. length e ≡ a.now.rows * (2 * a.now.rows)) }
-    ensures matrix { IfOk result (λ e. cut a.now.rows (2 * a.now.rows) e ≡ beside (matrix_of a.now) (identity a.now.rows)) }
+    ensures matrix { IfOk result (λ e.
+        cut a.now.rows (2 * a.now.rows) e ≡ beside (matrix_of a.now) (identity a.now.rows)) }
 {
     let size = a.rows as usize;
     let mut entries = Entries::with_room(alloc, 2 * size * size)?;

@@ -2,14 +2,10 @@
 #![tactic(auto)]
 
 mod block;
-#[cfg(test)]
-mod block_tests;
 mod combinations;
 mod entries;
 mod inverse;
 mod inversion;
-#[cfg(test)]
-mod inversion_tests;
 mod laws;
 mod listed;
 mod operations;
@@ -17,8 +13,6 @@ mod row_operations;
 mod rows;
 mod scalars;
 mod solution;
-#[cfg(test)]
-mod solution_tests;
 mod two;
 
 pub use block::Block;
@@ -28,7 +22,7 @@ pub use inversion::invert;
 pub use laws::{leading_combination_is_unique, leading_functional_is_unique};
 pub use listed::Listed;
 pub use operations::{apply, minus, product, sum};
-pub use rows::{add_scaled, dot_product, first_nonzero, scale, zeros};
+pub use rows::{add_scaled, scale, zeros};
 pub use scalars::{Scalars, all_scalars};
 pub use solution::{Solution, solve};
 pub use two::Two;

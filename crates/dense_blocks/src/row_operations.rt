@@ -1,4 +1,5 @@
-ghost use Rattle.std.specs.Prelude.{[], ◌≡◌, ◌≢◌, ◌+◌, ◌*◌, ◌<◌, ◌≤◌, length, map, All, IfSome, IfNone, MatchOption, slice_index, slice_index_or};
+ghost use Rattle.std.specs.Prelude.{[], ◌≡◌, ◌≢◌, ◌+◌, ◌*◌, ◌<◌, ◌≤◌, length, map, slice_index, slice_index_or};
+ghost use Rattle.std.specs.Prelude.{All, IfSome, IfNone, MatchOption};
 ghost use Rattle.dense_blocks.specs.Vectors.{AllScalars};
 ghost use Rattle.dense_blocks.specs.Matrices.{cut};
 ghost use Rattle.dense_blocks.specs.Columns.{HasUnitColumns, ClearsColumn, Raises, HasNoPivot, row_remainder};
@@ -30,7 +31,8 @@ fn clear_column<F: Scalars>(f: &F, size: usize, column: usize, rows: &mut [u8]) 
     requires column { column < size }
     requires full { length rows.old ≡ size * (2 * size) }
     requires scalars { AllScalars (F.ops f.now) rows.old }
-    ensures { ClearsColumn (F.ops f.now) size column (cut size (2 * size) rows.old) (cut size (2 * size) rows.new) result }
+    ensures { ClearsColumn (F.ops f.now) size column
+        (cut size (2 * size) rows.old) (cut size (2 * size) rows.new) result }
 {
     let width = 2 * size;
     let later = size - column - 1;
@@ -53,7 +55,8 @@ fn raise<F: Scalars>(f: &F, column: usize, count: usize, pivot: &mut [u8], below
     requires full { length below.now ≡ count * length pivot.old }
     requires pivot_scalars { AllScalars (F.ops f.now) pivot.old }
     requires below_scalars { AllScalars (F.ops f.now) below.now }
-    ensures { Raises (F.ops f.now) column (length pivot.old) (cut count (length pivot.old) below.now) pivot.old pivot.new result }
+    ensures { Raises (F.ops f.now) column (length pivot.old)
+        (cut count (length pivot.old) below.now) pivot.old pivot.new result }
 {
     if pivot[column] != 0 {
         return true;

@@ -42,7 +42,7 @@ pub fn scale<F: Scalars>(f: &F, target: &mut [u8], k: u8)
 }
 
 /// The sum of the products of coordinates.
-pub fn dot_product<F: Scalars>(f: &F, u: &[u8], v: &[u8]) -> u8
+pub(crate) fn dot_product<F: Scalars>(f: &F, u: &[u8], v: &[u8]) -> u8
     requires sizes { length u.now ≡ length v.now }
     requires u_scalars { AllScalars (F.ops f.now) u.now }
     requires v_scalars { AllScalars (F.ops f.now) v.now }
@@ -57,7 +57,7 @@ pub fn dot_product<F: Scalars>(f: &F, u: &[u8], v: &[u8]) -> u8
 }
 
 /// The first place whose entry is not 0.
-pub fn first_nonzero(v: &[u8]) -> Option<usize>
+pub(crate) fn first_nonzero(v: &[u8]) -> Option<usize>
     ensures inside { IfSome result (λ i. i < length v.now) }
     ensures not_zero { IfSome result (λ i. slice_index v.now i ≢ 0) }
     ensures first { IfSome result (λ i. take i v.now ≡ zeros i) }

@@ -80,7 +80,8 @@ impl Elimination {
     ) -> Result<Elimination, NoMemory>
         requires { IsMatrix (F.ops f.now) (length columns.now) size (lists columns.now) }
         ensures size { IfOk result (λ e. e.size ≡ size) }
-        ensures eliminates { IfOk result (λ e. Eliminates (F.ops f.now) size (lists columns.now) (length columns.now) e.pivots.items) }
+        ensures eliminates { IfOk result (λ e.
+            Eliminates (F.ops f.now) size (lists columns.now) (length columns.now) e.pivots.items) }
     {
         let mut elimination = Elimination {
             size,
@@ -104,7 +105,8 @@ impl Elimination {
         requires source { source < length columns.now }
         requires before { Eliminates (F.ops f.now) self.old.size (lists columns.now) source self.old.pivots.items }
         ensures size { self.new.size ≡ self.old.size }
-        ensures after { OnOk result (Eliminates (F.ops f.now) self.old.size (lists columns.now) (source + 1) self.new.pivots.items) }
+        ensures after { OnOk result
+            (Eliminates (F.ops f.now) self.old.size (lists columns.now) (source + 1) self.new.pivots.items) }
     {
         let reduced = self.reduce(alloc, f, columns[source].as_slice())?;
         if let Some(place) = first_nonzero(reduced.row.as_slice()) {
