@@ -12,7 +12,7 @@ use Rattle.cell_complex.specs.Complexes.{CellComplex, IsComplex, JoinsCells, joi
 use Rattle.cell_complex.specs.Complexes.{middles}
 use Rattle.cell_complex.proofs.Numbers.{filter-filter, range-below}
 
--- s and t are all_cells, and t is one dimension above s
+-- s and t are cells, and t is one dimension above s
 pub record AreIncident (dims : List ℕ) (s t : ℕ) : Type 0 where
   pub s_is_cell : s < length dims
   pub t_is_cell : t < length dims
@@ -39,14 +39,14 @@ incident dims s t (f ∷ fs) fit h =
 pub incident_from_face : (c : CellComplex) → IsComplex c → (s t : ℕ) → is_face c s t ≡ true → AreIncident c.dims s t
 incident_from_face c h s t there = incident c.dims s t c.faces h.fit there
 
--- the all_cells are below their number
+-- the cells are below their number
 pub cofaces_of-below : (c : CellComplex) (s : ℕ) → All (λ t. t < length c.dims) (cofaces_of c s)
 cofaces_of-below c s k d l =
     let h = All-filter (λ t. is_face c s t) (λ t. t < 0 + length c.dims) (all_cells c) (range-below 0 (length c.dims)) k
     d l in
     omega (arith, h)
 
--- the all_cells between s and u are those above s that are below u
+-- the cells between s and u are those above s that are below u
 pub middles_by_cofaces : (c : CellComplex) (s u : ℕ) → middles c s u ≡ filter (λ t. is_face c t u) (cofaces_of c s)
 middles_by_cofaces c s u = sym (filter-filter (λ t. is_face c s t) (λ t. is_face c t u) (all_cells c))
 

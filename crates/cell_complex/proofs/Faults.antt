@@ -1,12 +1,12 @@
 -- What no fault says of a face, and what one face more changes.
-use Rattle.std.proofs.Common.{◌≡◌, ◌≢◌, ℕ, ◌+◌, ◌<◌, ◌≤◌, Bool, true, false, cond, not, ◌||◌, nat_eq, nat_lt, List, []}
+use Rattle.std.proofs.Common.{◌≡◌, ◌≢◌, ℕ, ◌+◌, ◌<◌, Bool, true, false, cond, not, ◌||◌, nat_eq, nat_lt, List, []}
 use Rattle.std.proofs.Common.{◌∷◌, ◌++◌, length, take, replicate, filter, set, get_or, slice_index, slice_get, None}
 use Rattle.std.proofs.Common.{Some, refl, sym, ap, ap₂, ◌∙◌, subst, arith}
 use Rattle.std.specs.List.{list_any}
 use Rattle.std.specs.List.Sorted.{IsStrictlyIncreasing}
 use Rattle.std.proofs.lemmas.Bool.{eq-eqb, ne_eqb, eqb-true, lt-ltb, ltb-true, and_from, and_left, and_right, and_parts}
 use Rattle.std.proofs.lemmas.Bool.{false_from_ne_true, true≢false}
-use Rattle.std.proofs.lemmas.List.{get_or-take, length-take, get_or_default, take_more, take_all, get_or-replicate}
+use Rattle.std.proofs.lemmas.List.{get_or-take, length-take, get_or_default, take_more, get_or-replicate}
 use Rattle.std.proofs.lemmas.List.{length-replicate}
 use Rattle.std.proofs.lemmas.List.Elements.{All-push, All-get_or}
 use Rattle.std.proofs.lemmas.List.Folds.{list_any-append, list_any_none, list_any_at}
@@ -25,7 +25,7 @@ use Rattle.cell_complex.specs.Fields.{AreNeighbourLists}
 use Rattle.cell_complex.specs.Neighbours.{with_cell}
 use Rattle.cell_complex.proofs.Numbers.{rising-range, with_cell-filter, set-map-range}
 
--- the face fits the all_cells, and is none of the faces
+-- the face fits the cells, and is none of the faces
 pub record IsNew (c : CellComplex) (f : Face) : Type 0 where
   pub fits : JoinsCells c.dims f
   pub absent : is_face c f.s f.t ≡ false
@@ -55,8 +55,8 @@ new_from_none c f h =
     }
 
 -- the same, of a complex as its fields show it
-pub new_shown : (all now : CellComplex) (f : Face) → all ≡ now → face_fault now f ≡ None → IsNew all f
-new_shown all now f is h = new_from_none all f (ap (λ c. face_fault c f) is ∙ h)
+pub new_from_view : (all now : CellComplex) (f : Face) → all ≡ now → face_fault now f ≡ None → IsNew all f
+new_from_view all now f is h = new_from_none all f (ap (λ c. face_fault c f) is ∙ h)
 
 pub none_from_new : (c : CellComplex) (f : Face) → IsNew c f → face_fault c f ≡ None
 none_from_new c f h =
@@ -96,9 +96,9 @@ complex-with_face c f h new = record {
 }
 
 -- each face is new to those before it
-pub new-with_first : (c : CellComplex) → IsComplex c → (k : ℕ) (f : Face) → slice_get c.faces k ≡ Some f
+pub new-with_first_faces : (c : CellComplex) → IsComplex c → (k : ℕ) (f : Face) → slice_get c.faces k ≡ Some f
     → IsNew (with_first_faces c.dims c.faces k) f
-new-with_first c h k f at =
+new-with_first_faces c h k f at =
     let within : k < length c.faces = slice_get_within c.faces k f at in
     let is : get_or c.faces k f ≡ f = get_or_from_slice_get c.faces k f f at in
     record {
@@ -116,7 +116,7 @@ new-with_first c h k f at =
 
 -- no face of a complex has a fault, after those before it
 pub accepted-complex : (c : CellComplex) → IsComplex c → AllAccepted c.dims c.faces
-accepted-complex c h k f at = none_from_new (with_first_faces c.dims c.faces k) f (new-with_first c h k f at)
+accepted-complex c h k f at = none_from_new (with_first_faces c.dims c.faces k) f (new-with_first_faces c h k f at)
 
 -- the fault of the face after the first n, where these make a complex
 pub first_fault : (dims : List ℕ) (faces : List Face) (n : ℕ) (f : Face) (fault : FaceFault)
@@ -129,7 +129,7 @@ first_fault dims faces n f fault h at is = record {
   earlier = accepted-complex (with_first_faces dims faces n) h;
 }
 
--- the all_cells alone
+-- the cells alone
 pub complex-empty : (dims : List ℕ) → AreCells dims → IsComplex record { dims = dims; faces = [] }
 complex-empty dims h = record {
   small = h;
@@ -138,15 +138,12 @@ complex-empty dims h = record {
 }
 
 -- one face more of a list of faces
-pub with_first-more : (dims : List ℕ) (faces : List Face) (i : ℕ) (f : Face) → slice_get faces i ≡ Some f
+pub with_first_faces-more : (dims : List ℕ) (faces : List Face) (i : ℕ) (f : Face) → slice_get faces i ≡ Some f
     → with_face (with_first_faces dims faces i) f ≡ with_first_faces dims faces (i + 1)
-with_first-more dims faces i f at =
+with_first_faces-more dims faces i f at =
     ap (λ fs. record { dims = dims; faces = fs })
     (ap (λ g. take i faces ++ g ∷ []) (sym (get_or_from_slice_get faces i f f at))
     ∙ sym (take_more faces i f (slice_get_within faces i f at)))
-
-pub with_first-all : (c : CellComplex) (n : ℕ) → length c.faces ≤ n → with_first_faces c.dims c.faces n ≡ c
-with_first-all c n l = ap (λ fs. record { dims = c.dims; faces = fs }) (take_all n c.faces l)
 
 -- whether s is a face of t, with a face more
 is_face-with_face : (c : CellComplex) (f : Face) (s t : ℕ) → joins s t f ≡ false → is_face (with_face c f) s t
@@ -209,10 +206,10 @@ module _ (c : CellComplex) (below above : List (List ℕ)) (h : AreNeighbourList
       [] l (omega arith)
 
   -- the lists with a new face
-  pub kept-with_face : (f : Face) → IsNew c f
+  pub neighbour_lists-with_face : (f : Face) → IsNew c f
       → AreNeighbourLists (with_face c f) (set below f.t (with_cell f.s (get_or below f.t [])))
       (set above f.s (with_cell f.t (get_or above f.s [])))
-  kept-with_face f new = record {
+  neighbour_lists-with_face f new = record {
     complex = complex-with_face c f h.complex new;
     below_is =
         ap₂ (λ xs ys. set xs f.t (with_cell f.s ys)) h.below_is (below-at f.t new.fits.t_is_cell)
@@ -231,9 +228,9 @@ faces_of-rise c t = IsStrictlyIncreasing-filter (λ s. is_face c s t) (all_cells
 pub cofaces_of-rise : (c : CellComplex) (s : ℕ) → IsStrictlyIncreasing (cofaces_of c s)
 cofaces_of-rise c s = IsStrictlyIncreasing-filter (λ t. is_face c s t) (all_cells c) (rising-range 0 (length c.dims))
 
-pub kept-empty : (dims : List ℕ) → AreCells dims → AreNeighbourLists record { dims = dims; faces = [] }
+pub neighbour_lists-empty : (dims : List ℕ) → AreCells dims → AreNeighbourLists record { dims = dims; faces = [] }
     (replicate (length dims) []) (replicate (length dims) [])
-kept-empty dims h = record {
+neighbour_lists-empty dims h = record {
   complex = complex-empty dims h;
   below_is = fill_by_all (faces_of all) (replicate n []) n [] (length-replicate n [])
       (λ k l. get_or-replicate n k [] [] l ∙ sym (filter-none (all_cells all)));

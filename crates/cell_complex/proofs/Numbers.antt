@@ -73,9 +73,9 @@ insert-with_cell x (y ∷ ys) (suc i) within low high =
     (λ k d a b. low (suc k) d (omega arith) (omega arith)) (λ k d a b. high (suc k) d (omega arith) (omega arith)))
     ∙ sym (cond-true (nat_lt y x) (y ∷ with_cell x ys) (x ∷ y ∷ ys) (low 0 0 (omega arith) (omega arith)))
 
-with_cell-front : (x : ℕ) (xs : List ℕ) → All (λ y. x < y) xs → with_cell x xs ≡ x ∷ xs
-with_cell-front x [] h = refl
-with_cell-front x (y ∷ ys) h =
+with_cell-first : (x : ℕ) (xs : List ℕ) → All (λ y. x < y) xs → with_cell x xs ≡ x ∷ xs
+with_cell-first x [] h = refl
+with_cell-first x (y ∷ ys) h =
     let above : x < y = All-head (λ y. x < y) y ys h in
     cond-false (nat_lt y x) (y ∷ with_cell x ys) (x ∷ y ∷ ys) (le-ltb' y x above)
   where
@@ -101,7 +101,7 @@ with_cell-filter p q x without within others a (suc n) low high = ⊎_elim here
         filter_agree_on p q rest (All-weaker (λ y. x < y) (λ y. p y ≡ q y) (λ y l. sym (others y (omega arith)))
         rest above) in
         ap (with_cell x) (cond-false (p a) (a ∷ filter p rest) (filter p rest) (ap p e ∙ without))
-        ∙ with_cell-front x (filter p rest) (All-filter p (λ y. x < y) rest above)
+        ∙ with_cell-first x (filter p rest) (All-filter p (λ y. x < y) rest above)
         ∙ ap₂ (λ y t. y ∷ t) (sym e) same
         ∙ sym (cond-true (q a) (a ∷ filter q rest) (filter q rest) (ap q e ∙ within))
 

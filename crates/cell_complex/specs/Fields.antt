@@ -4,7 +4,7 @@ use Rattle.cell_complex.specs.declared.face.Face.{Face}
 use Rattle.cell_complex.specs.declared.face.Sign.{Sign}
 use Rattle.cell_complex.specs.Complexes.{CellComplex, IsComplex, all_cells, faces_of, cofaces_of}
 
--- an entry of the map from pairs of all_cells to signs, as a face
+-- an entry of the map from pairs of cells to signs, as a face
 abbrev pub face_of_entry : (ℕ × ℕ) × Sign → Face
 face_of_entry e = record { s = e.0.0; t = e.0.1; sign = e.1 }
 

@@ -35,7 +35,8 @@ impl Model for Complex {
 
     ghost view = { λ c. complex_from c.dims.items c.signs.entries };
 
-    ghost invariant = { λ c. AreNeighbourLists (complex_from c.dims.items c.signs.entries) (neighbour_lists c.below) (neighbour_lists c.above) };
+    ghost invariant = { λ c. AreNeighbourLists (complex_from c.dims.items c.signs.entries)
+        (neighbour_lists c.below) (neighbour_lists c.above) };
 }
 
 impl Complex {

@@ -6,8 +6,6 @@ mod face;
 mod fault;
 mod middles;
 mod neighbours;
-#[cfg(test)]
-mod tests;
 
 pub use complex::Complex;
 pub use face::{Face, Sign};

@@ -44,7 +44,8 @@ impl Neighbours {
         requires cell { cell < length (neighbour_lists self.old) }
         requires room { HasRoom self.old cell }
         requires rising { IsNonDecreasing (slice_index_or (neighbour_lists self.old) cell []) }
-        ensures { neighbour_lists self.new ≡ slice_set (neighbour_lists self.old) cell (with_cell other (slice_index_or (neighbour_lists self.old) cell [])) }
+        ensures { neighbour_lists self.new ≡ slice_set (neighbour_lists self.old) cell
+            (with_cell other (slice_index_or (neighbour_lists self.old) cell [])) }
     {
         let list = &mut self.lists[cell as usize];
         let at = list.partition_point(|&x| x < other);

@@ -47,7 +47,7 @@ none_from_edge c t h =
     by true pair h = ap (λ b. cond (not b) (Some (EdgeEnds t)) None) (h refl)
     by false pair h = refl
 
--- the all_cells between two all_cells
+-- the cells between two cells
 middles_from_none : (c : CellComplex) (s u : ℕ) (xs : List ℕ) → middles c s u ≡ xs
     → middles_fault s u (λ t. sign_product c s t u) xs ≡ None
     → (middles c s u ≡ []) ⊎ HasOppositeMiddles c s u

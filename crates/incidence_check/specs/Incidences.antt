@@ -20,7 +20,7 @@ times Plus b = b
 times Minus Plus = Minus
 times Minus Minus = Plus
 
--- the sign_product of the signs of s in t and of t in u
+-- the product of the signs of s in t and of t in u
 abbrev pub sign_product : CellComplex → ℕ → ℕ → ℕ → Option Sign
 sign_product c s t u = option_and_then (λ a. option_map (times a) (sign c t u)) (sign c s t)
 
@@ -31,21 +31,21 @@ pub record HasOppositeEnds (c : CellComplex) (t : ℕ) : Type 0 where
   pub ends : faces_of c t ≡ first ∷ second ∷ []
   pub opposite : IsTrue (are_opposite (sign c first t) (sign c second t))
 
--- between s and u are exactly two all_cells, with opposite products of signs
+-- between s and u are exactly two cells, with opposite products of signs
 pub record HasOppositeMiddles (c : CellComplex) (s u : ℕ) : Type 0 where
   pub first : ℕ
   pub second : ℕ
   pub middles : middles c s u ≡ first ∷ second ∷ []
   pub opposite : IsTrue (are_opposite (sign_product c s first u) (sign_product c s second u))
 
--- each edge has two ends of opposite sign; between two all_cells two dimensions apart are no all_cells, or two whose
--- signs cancel
+-- each edge has two ends of opposite sign; between two cells two dimensions apart are no cells, or two whose signs
+-- cancel
 pub record HasRegularIncidences (c : CellComplex) : Type 0 where
   pub edges : (t : ℕ) → t < length c.dims → slice_index c.dims t ≡ 1 → HasOppositeEnds c t
   pub squares : (s u : ℕ) → s < length c.dims → u < length c.dims → slice_index c.dims u ≡ slice_index c.dims s + 2
       → (middles c s u ≡ []) ⊎ HasOppositeMiddles c s u
 
--- exactly two all_cells, with opposite signs
+-- exactly two cells, with opposite signs
 abbrev pub are_opposite_pair : (ℕ → Option Sign) → List ℕ → Bool
 are_opposite_pair sign_at (a ∷ b ∷ []) = are_opposite (sign_at a) (sign_at b)
 are_opposite_pair sign_at _ = false
@@ -56,7 +56,7 @@ edge_fault c t =
     if (slice_index c.dims t == 1) && not (are_opposite_pair (λ s. sign c s t) (faces_of c t)) then
     Some (EdgeEnds t) else None
 
--- what is wrong with these all_cells between s and u, with these products of signs
+-- what is wrong with these cells between s and u, with these products of signs
 abbrev pub middles_fault : ℕ → ℕ → (ℕ → Option Sign) → List ℕ → Option Incidence
 middles_fault s u product_at [] = None
 middles_fault s u product_at (a ∷ b ∷ []) = if are_opposite (product_at a) (product_at b) then
@@ -71,7 +71,7 @@ pair_fault c s u = middles_fault s u (λ t. sign_product c s t u) (middles c s u
 abbrev pub pair_faults : CellComplex → ℕ → List Incidence
 pair_faults c s = filter_map (pair_fault c s) (all_cells c)
 
--- all faults: those of the edges in order, then those of the pairs of all_cells in order
+-- all faults: those of the edges in order, then those of the pairs of cells in order
 abbrev pub faults : CellComplex → List Incidence
 faults c = filter_map (edge_fault c) (all_cells c) ++ flat_map (pair_faults c) (all_cells c)
 

@@ -4,7 +4,7 @@ ghost use Rattle.incidence_check.specs.Incidences.{edge_fault, pair_fault, pair_
 
 use crate::incidence::Incidence;
 use crate::reach::next_above;
-use crate::signs::{are_opposite, product};
+use crate::signs::{are_opposite, sign_product};
 use cell_complex::Complex;
 
 /// Whether each edge has exactly two faces, of opposite sign, and between any two cells two dimensions apart are no
@@ -81,7 +81,7 @@ fn pair_fault(c: &Complex, s: u32, u: u32) -> Option<Incidence>
             count: 2 + others,
         });
     }
-    if are_opposite(product(c, s, first, u), product(c, s, second, u)) {
+    if are_opposite(sign_product(c, s, first, u), sign_product(c, s, second, u)) {
         None
     } else {
         Some(Incidence::Signs { s, u })

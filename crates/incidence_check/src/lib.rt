@@ -6,8 +6,6 @@ mod first_fault;
 mod incidence;
 mod reach;
 mod signs;
-#[cfg(test)]
-mod tests;
 
 pub use first_fault::check;
 pub use incidence::Incidence;

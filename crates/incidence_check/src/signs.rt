@@ -14,7 +14,7 @@ pub(crate) fn are_opposite(first: Option<Sign>, second: Option<Sign>) -> bool
 }
 
 /// The product of the signs of `s` in `t` and of `t` in `u`; none where one of them is no face.
-pub(crate) fn product(c: &Complex, s: u32, t: u32, u: u32) -> Option<Sign>
+pub(crate) fn sign_product(c: &Complex, s: u32, t: u32, u: u32) -> Option<Sign>
     ensures { result ≡ sign_product c.now s t u }
 {
     let first = c.sign(s, t)?;

@@ -1,33 +1,20 @@
--- Bytes that are given and taken, and faults that are counted, in several calls.
-use Rattle.std.proofs.Common.{◌≡◌, ℕ, ◌-◌, ◌^◌, ◌<◌, ◌≤◌, ◌⊎◌, List, [], ◌++◌, length, Option, Some, None, refl, sym}
+-- Bytes that are given and taken in several calls.
+use Rattle.std.proofs.Common.{◌≡◌, ℕ, ◌≤◌, List, ◌++◌, length, Option, Some, None, refl, sym}
 use Rattle.std.proofs.Common.{ap, ◌∙◌, append_assoc, arith}
 use Rattle.std.specs.Prelude.{IfSome}
 use Rattle.std.proofs.lemmas.List.{append-nil, length-append}
 use Rattle.std.specs.Io.KnownBytes.{prepend_known, append_known, IsAtEnd}
 use Rattle.io_edge.specs.Bytes.{Gave, Took, TookPrefix}
-use Rattle.io_edge.specs.Faults.{Rose}
-
-pub append_known-nil : (known : Option (List ℕ)) → append_known known [] ≡ known
-append_known-nil None = refl
-append_known-nil (Some xs) = ap Some (append-nil xs)
 
 pub append_known-then : (known : Option (List ℕ)) (xs ys : List ℕ) → append_known (append_known known xs) ys
     ≡ append_known known (xs ++ ys)
 append_known-then None xs ys = refl
 append_known-then (Some known) xs ys = ap Some (append_assoc known xs ys)
 
-pub prepend_known-nil : (known : Option (List ℕ)) → prepend_known [] known ≡ known
-prepend_known-nil None = refl
-prepend_known-nil (Some xs) = refl
-
 pub prepend_known-then : (known : Option (List ℕ)) (xs ys : List ℕ) → prepend_known xs (prepend_known ys known)
     ≡ prepend_known (xs ++ ys) known
 prepend_known-then None xs ys = refl
 prepend_known-then (Some known) xs ys = ap Some (sym (append_assoc xs ys known))
-
--- no call takes nothing
-pub took_none : (known : Option (List ℕ)) → Took known known []
-took_none known = sym (append_known-nil known)
 
 -- xs were taken, and then ys
 pub took_then : (old between new : Option (List ℕ)) (xs ys : List ℕ) → Took old between xs → Took between new ys
@@ -35,36 +22,28 @@ pub took_then : (old between new : Option (List ℕ)) (xs ys : List ℕ) → Too
 took_then old between new xs ys first second = second ∙ ap (λ (known : Option (List ℕ)). append_known known ys) first
     ∙ append_known-then old xs ys
 
--- what was taken whole was taken as a front
-pub took_whole_front : (old new : Option (List ℕ)) (xs : List ℕ) → Took old new xs → TookPrefix old new xs
-took_whole_front old new xs took = record { front = xs; rest = []; split = sym (append-nil xs); took = took }
-
--- a front of xs is one of xs ++ ys
-pub took_front_longer : (old new : Option (List ℕ)) (xs ys : List ℕ) → TookPrefix old new xs
+-- a prefix of xs is one of xs ++ ys
+pub took_prefix_longer : (old new : Option (List ℕ)) (xs ys : List ℕ) → TookPrefix old new xs
     → TookPrefix old new (xs ++ ys)
-took_front_longer old new xs ys first = record {
-  front = first.front;
+took_prefix_longer old new xs ys first = record {
+  prefix = first.prefix;
   rest = first.rest ++ ys;
-  split = ap (λ zs. zs ++ ys) first.split ∙ append_assoc first.front first.rest ys;
+  split = ap (λ zs. zs ++ ys) first.split ∙ append_assoc first.prefix first.rest ys;
   took = first.took;
 }
 
--- xs were taken, and then a front of ys
-pub took_front_then : (old between new : Option (List ℕ)) (xs ys : List ℕ) → Took old between xs
+-- xs were taken, and then a prefix of ys
+pub took_prefix_then : (old between new : Option (List ℕ)) (xs ys : List ℕ) → Took old between xs
     → TookPrefix between new ys → TookPrefix old new (xs ++ ys)
-took_front_then old between new xs ys first second = record {
-  front = xs ++ second.front;
+took_prefix_then old between new xs ys first second = record {
+  prefix = xs ++ second.prefix;
   rest = second.rest;
-  split = ap (λ zs. xs ++ zs) second.split ∙ sym (append_assoc xs second.front second.rest);
-  took = took_then old between new xs second.front first second.took;
+  split = ap (λ zs. xs ++ zs) second.split ∙ sym (append_assoc xs second.prefix second.rest);
+  took = took_then old between new xs second.prefix first second.took;
 }
 
--- for `using` at a function with several writes by `?`: a front of what they write is what the sink took
-pub ruleset taken_pieces = (took_then, took_front_then, took_front_longer)
-
--- no call gives nothing
-pub gave_none : (known : Option (List ℕ)) → Gave known known []
-gave_none known = sym (prepend_known-nil known)
+-- for `using` at a function with several writes by `?`: a prefix of what they write is what the sink took
+pub ruleset taken_pieces = (took_then, took_prefix_then, took_prefix_longer)
 
 -- xs were given, and then ys
 pub gave_then : (old between new : Option (List ℕ)) (xs ys : List ℕ) → Gave old between xs → Gave between new ys
@@ -88,15 +67,3 @@ gave_at_least (Some left) None bytes gave = absurd cc
 gave_at_least (Some left) (Some rest) bytes gave =
     let whole : left ≡ bytes ++ rest = cc in
     omega (arith, ap length whole, length-append bytes rest)
-
--- a count that rose is greater now, or is the last value of a u64
-pub rose_cases : (before now : ℕ) → Rose before now → now < 2 ^ 64 → (before < now) ⊎ (now ≡ 2 ^ 64 - 1)
-rose_cases before now rose fits = grind arith
-
--- a count that rose is not lower later
-pub rose_later : (before between now : ℕ) → Rose before between → between ≤ now → Rose before now
-rose_later before between now rose later = omega arith
-
--- a count that rose since a later call rose since an earlier one
-pub rose_since : (before between now : ℕ) → before ≤ between → Rose between now → Rose before now
-rose_since before between now later rose = omega arith

@@ -10,12 +10,12 @@ Gave old new bytes = old ≡ prepend_known bytes new
 abbrev pub Took : Option (List ℕ) → Option (List ℕ) → List ℕ → Type 0
 Took old new bytes = new ≡ append_known old bytes
 
--- the sink took a front of these bytes
+-- the sink took a prefix of these bytes
 pub record TookPrefix (old new : Option (List ℕ)) (bytes : List ℕ) : Type 0 where
-  pub front : List ℕ
+  pub prefix : List ℕ
   pub rest : List ℕ
-  pub split : bytes ≡ front ++ rest
-  pub took : Took old new front
+  pub split : bytes ≡ prefix ++ rest
+  pub took : Took old new prefix
 
 -- all that the sink took is flushed
 abbrev pub IsFlushed : Option (List ℕ) → ℕ → Type 0

@@ -28,7 +28,7 @@ pub trait Source {
     /// The count that `faults` answers.
     ghost fault_count: { Self → ℕ };
 
-    /// Reads the next bytes into the front of the buffer, and answers how many; none only at the end of input.
+    /// Reads the next bytes into the start of the buffer, and answers how many; none only at the end of input.
     ///
     /// # Errors
     ///

@@ -19,6 +19,3 @@ pub use input::{ReadAll, read_all};
 pub use memory_sink::MemSink;
 pub use memory_source::MemSource;
 pub use output::{WriteFault, write_all};
-
-#[cfg(test)]
-mod tests;

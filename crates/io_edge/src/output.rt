@@ -14,7 +14,7 @@ pub struct WriteFault;
 ///
 /// # Errors
 ///
-/// `WriteFault` at the first write that fails. The sink took a front of the bytes then.
+/// `WriteFault` at the first write that fails. The sink took a prefix of the bytes then.
 pub fn write_all<K: Sink>(sink: &mut K, bytes: &[u8]) -> Result<(), WriteFault>
     ensures ok { OnOk result (Took (K.taken sink.old) (K.taken sink.new) bytes.now) }
     ensures err { OnErr result (TookPrefix (K.taken sink.old) (K.taken sink.new) bytes.now) }

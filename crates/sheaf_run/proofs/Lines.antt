@@ -3,7 +3,7 @@ use Rattle.std.proofs.Common.{Result, Ok, Err, OnErr, ◌≡◌, ℕ, zero, suc,
 use Rattle.std.proofs.Common.{drop, Option, refl, sym, ap, ◌∙◌, subst, append_assoc, arith}
 use Rattle.std.specs.Prelude.{codes, decimal}
 use Rattle.io_edge.specs.Bytes.{Took, TookPrefix}
-use Rattle.io_edge.proofs.Known.{took_front_then, took_front_longer}
+use Rattle.io_edge.proofs.Known.{took_prefix_then, took_prefix_longer}
 use Rattle.sheaf_run.specs.Answers.{spaced_numbers}
 
 -- the numbers before one, that one, and those after it
@@ -28,8 +28,8 @@ front_of_numbers old new newer numbers i l took front =
     let before = spaced_numbers (take i numbers) in
     let own = codes " " ++ decimal (get_or numbers i 0) in
     subst (TookPrefix old newer) (sym (spaced-split numbers i l))
-    (took_front_longer old newer (before ++ own) (spaced_numbers (drop (suc i) numbers))
-    (took_front_then old new newer before own took front))
+    (took_prefix_longer old newer (before ++ own) (spaced_numbers (drop (suc i) numbers))
+    (took_prefix_then old new newer before own took front))
 
 -- what holds anyway holds on an error
 pub on_err : {T E P : Type 0} (r : Result T E) → P → OnErr r P

@@ -1,6 +1,6 @@
 -- Answers that clear pairs.
 use Rattle.std.proofs.Common.{◌≡◌, ◌≢◌, ℕ, ◌<◌, ◌≤◌, Bool, true, false, cond, ◌&&◌, ◌⊎◌, ⊎_elim, inl, inr, nat_eq}
-use Rattle.std.proofs.Common.{nat_lt, Option, None, Some, is_none, refl, sym, ◌∙◌, arith}
+use Rattle.std.proofs.Common.{nat_lt, Option, None, Some, refl, sym, ◌∙◌, arith}
 use Rattle.std.proofs.lemmas.Bool.{true≢false, and_parts, or_cases, or_left, or_right, and_from, eq-eqb, eqb-true}
 use Rattle.std.proofs.lemmas.Bool.{lt-ltb, ltb-true, cases_lt, cases_eq}
 use Rattle.square_check.specs.Answers.{is_before, earlier_pair, Fails, PassesBefore, IsFirstFailure}
@@ -96,9 +96,3 @@ module _ (P : ℕ → ℕ → Type 0) where
     fails = h;
     before = λ v w l. k v w l;
   }
-
--- where there is no first pair that fails, all pairs pass
-pub passing-none : (P : ℕ → ℕ → Type 0) (count : ℕ) (r : Option (ℕ × ℕ)) → is_none r ≡ true → IsFirstFailure P count r
-    → (s u : ℕ) → P s u
-passing-none P count None e h = h
-passing-none P count (Some p) e h = absurd (true≢false (sym e))

@@ -1,4 +1,4 @@
--- Squares through the all_cells between two all_cells.
+-- Squares through the cells between two cells.
 use Rattle.std.proofs.Common.{◌≡◌, ℕ, ◌+◌, ◌<◌, Bool, true, false, ◌&&◌, ◌↔◌, IsTrue, ⊎_elim, List, [], ◌∷◌, length}
 use Rattle.std.proofs.Common.{get_or, nat_eq, Option, Some, All, refl, sym, ap, ap₂, ◌∙◌, subst, arith}
 use Rattle.std.specs.Option.{option_map, option_and_then}
@@ -35,7 +35,7 @@ between-head c s u t ts is = All-head (IsBetween c s u) t ts (subst (All (IsBetw
 pub between-second : (c : CellComplex) (s u t v : ℕ) (ts : List ℕ) → middles c s u ≡ t ∷ v ∷ ts → IsBetween c s u v
 between-second c s u t v ts is = subst (All (IsBetween c s u)) is (all-between c s u) 1 0 (omega arith)
 
--- between all_cells of regular incidences are no more than two all_cells
+-- between cells of regular incidences are no more than two cells
 pub middles-two : (c : CellComplex) → IsComplex c → HasRegularIncidences c → (s u a b : ℕ) (ts : List ℕ)
     → middles c s u ≡ a ∷ b ∷ ts
     → middles c s u ≡ a ∷ b ∷ []
@@ -83,22 +83,14 @@ through-is K c blocks s t u low up is_low is_up =
     ap₂ (λ l r. option_and_then (λ low. option_map (λ up. product K low.cols (matrix_of up) (matrix_of low)) r) l)
     is_low is_up
 
--- no all_cells between, or one
+-- no cells between
 pub commutes-none : (K : Ops) (c : CellComplex) (blocks : List Block) (s u : ℕ) → middles c s u ≡ []
     → Commutes K c blocks s u
 commutes-none K c blocks s u is =
     subst (λ ts. All (λ t. All (λ v. through K c blocks s t u ≡ through K c blocks s v u) ts) ts) (sym is)
     (λ k d l. absurd (omega arith))
 
-pub commutes-one : (K : Ops) (c : CellComplex) (blocks : List Block) (s u t : ℕ) → middles c s u ≡ t ∷ []
-    → Commutes K c blocks s u
-commutes-one K c blocks s u t is =
-    subst (λ ts. All (λ t. All (λ v. through K c blocks s t u ≡ through K c blocks s v u) ts) ts) (sym is)
-    (All-cons (λ w. All (λ v. through K c blocks s w u ≡ through K c blocks s v u) (t ∷ [])) t []
-    (All-cons (λ v. through K c blocks s t u ≡ through K c blocks s v u) t [] refl (λ k d l. absurd (omega arith)))
-    (λ k d l. absurd (omega arith)))
-
--- two all_cells between
+-- two cells between
 module _ (K : Ops) (c : CellComplex) (blocks : List Block) (s u a b : ℕ) (is : middles c s u ≡ a ∷ b ∷ []) where
   abbrev at : ℕ → Option (List (List ℕ))
   at t = through K c blocks s t u

@@ -6,7 +6,7 @@ use Rattle.std.specs.Prelude.{MatchOption}
 abbrev pub is_before : ℕ × ℕ → ℕ × ℕ → Bool
 is_before p q = nat_lt p.0 q.0 || ((p.0 == q.0) && nat_lt p.1 q.1)
 
--- the earlier_pair of two pairs, as far as there are any
+-- the earlier of two pairs, as far as there are any
 abbrev pub earlier_pair : Option (ℕ × ℕ) → Option (ℕ × ℕ) → Option (ℕ × ℕ)
 earlier_pair None b = b
 earlier_pair (Some p) None = Some p

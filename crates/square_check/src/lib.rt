@@ -4,8 +4,6 @@
 mod answers;
 mod pairs;
 mod squares;
-#[cfg(test)]
-mod tests;
 mod touched;
 
 pub use squares::square;

@@ -74,7 +74,8 @@ pub(crate) fn bad_above<F: Scalars>(
     requires s_is_cell { s < length c.now.dims }
     requires t_is_cell { t < length c.now.dims }
     ensures fails { Fails (Commutes (F.ops f.now) c.now blocks.now) result }
-    ensures clears { (u : ℕ) → is_face c.now t u ≡ true → PassesBefore (Commutes (F.ops f.now) c.now blocks.now) result s u }
+    ensures clears { (u : ℕ) → is_face c.now t u ≡ true →
+        PassesBefore (Commutes (F.ops f.now) c.now blocks.now) result s u }
 {
     let mut least = None;
     for &u in c.cofaces_of(t) {
@@ -97,7 +98,8 @@ pub(crate) fn bad_below<F: Scalars>(
     requires t_is_cell { t < length c.now.dims }
     requires u_is_cell { u < length c.now.dims }
     ensures fails { Fails (Commutes (F.ops f.now) c.now blocks.now) result }
-    ensures clears { (s : ℕ) → is_face c.now s t ≡ true → PassesBefore (Commutes (F.ops f.now) c.now blocks.now) result s u }
+    ensures clears { (s : ℕ) → is_face c.now s t ≡ true →
+        PassesBefore (Commutes (F.ops f.now) c.now blocks.now) result s u }
 {
     let mut least = None;
     for &s in c.faces_of(t) {

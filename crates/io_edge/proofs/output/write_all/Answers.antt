@@ -28,7 +28,7 @@ returns-in-Err-clause-err g c =
     let done = c.loop-done.done in
     let bytes = c.args.bytes.now in
     record {
-      front = take done bytes;
+      prefix = take done bytes;
       rest = drop done bytes;
       split = sym (take-append-drop done bytes);
       took =

@@ -1,7 +1,7 @@
 use Rattle.std.proofs.Common.{ap, ◌∙◌}
 use Rattle.cell_complex.specs.Complexes.{CellComplex, with_face}
 use Rattle.cell_complex.specs.Verdicts.{face_fault}
-use Rattle.cell_complex.proofs.Faults.{accepted-complex, with_first-more}
+use Rattle.cell_complex.proofs.Faults.{accepted-complex, with_first_faces-more}
 use Rattle.cell_complex.proofs.complex.Complex.copy.Goals as goal
 
 pub append-requires : goal.append-requires
@@ -14,4 +14,4 @@ pub loop-place-preserved : goal.loop-place-preserved
 loop-place-preserved c =
     let self : CellComplex = c.args.self.now in
     c.in_ok-append.ensures.ok ∙ ap (λ all. with_face all c.face_at.result) c.loop-place.invariant
-    ∙ with_first-more self.dims self.faces c.loop-place.place c.face_at.result c.face_at.ensures
+    ∙ with_first_faces-more self.dims self.faces c.loop-place.place c.face_at.result c.face_at.ensures
