@@ -65,7 +65,7 @@ impl Entries {
     }
 
     /// Adds these entries at the end; without memory nothing changes.
-    pub(crate) fn push_all(&mut self, more: &[u8]) -> Result<(), NoMemory>
+    pub fn push_all(&mut self, more: &[u8]) -> Result<(), NoMemory>
         ensures ok { OnOk result (self.new ≡ self.old ++ more.now) }
         ensures err { OnErr result (self.new ≡ self.old) }
     {
