@@ -22,15 +22,6 @@ pub record IsEarliest (Same : ℕ → ℕ → Type 0) (n j end at : ℕ) : Type 
   pub first : end < n → (k : ℕ) → k < at → Same end k
 
 module _ (Same : ℕ → ℕ → Type 0) (n : ℕ) where
-  pub earliest-none : (at : ℕ) → IsEarliest Same n 0 n at
-  earliest-none at = record {
-    within = omega arith;
-    before = λ i k l m. absurd (omega arith);
-    inside = λ l. absurd (omega arith);
-    other = λ l. absurd (omega arith);
-    first = λ l. absurd (omega arith);
-  }
-
   -- one more row, which differs before that column
   pub earliest-less : (j end at same : ℕ) → IsEarliest Same n j end at → same < end → ((i : ℕ) → i < same → Same i j)
       → (Same same j → ⊥)

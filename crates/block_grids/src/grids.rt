@@ -5,7 +5,7 @@ ghost use Rattle.block_complexes.specs.BlockComplexes.{size_of};
 ghost use Rattle.block_sparse.specs.Grids.{width, window, AreSized, IsJoined, IsFirstOther};
 ghost use Rattle.block_grids.specs.Joined.{AreShaped, grid_block, corner_row, joined_row, joined_rows, joined_entries, HaveRow, IsSamePart};
 
-use block_sparse::{Blocks, is_same_at, is_zero_at, push_all};
+use block_sparse::{Blocks, is_same_at, is_zero_at};
 use dense_blocks::{Block, Entries};
 use rising_lists::Line;
 use std::alloc::{AllocError as NoMemory, Global};
@@ -29,6 +29,7 @@ pub fn grid(
     ensures rows { IfOk result (λ r. r.rows ≡ width below.now) }
     ensures parts { IfOk result (λ r. IsJoined b.now left.now below.now (matrix_of r)) }
 {
+    // Gives the prover what is true of the blocks.
     let _cells = b.live();
     let cols = total(left);
     let rows = total(below);
@@ -66,6 +67,7 @@ pub fn first_other(
         (IsJoined b.now left.now below.now (matrix_of joined.now))
         (λ p. IsFirstOther b.now left.now below.now (matrix_of joined.now) p.0 p.1) }
 {
+    // Gives the prover what is true of the blocks.
     let _cells = b.live();
     let mut end = left.len();
     let mut at = 0;
@@ -147,7 +149,7 @@ fn push_corner(
     ensures { OnOk result (entries.new ≡ entries.old ++ corner_row (option_copied block.entry) width k) }
 {
     match block {
-        Some(b) => push_all(entries, b.row(k)),
+        Some(b) => entries.push_all(b.row(k)),
         None => entries.push_zeros(width as usize),
     }
 }
@@ -196,7 +198,8 @@ fn is_corner(
     requires shaped { (b : _) → option_copied block ≡ Some b → (b.rows ≡ height) × (b.cols ≡ width) }
     requires rows { row + height ≤ joined.now.rows }
     requires cols { col + width ≤ joined.now.cols }
-    ensures { IsTrue result ↔ (window row height col width (matrix_of joined.now) ≡ grid_block (option_copied block.entry) height width) }
+    ensures { IsTrue result ↔ (window row height col width (matrix_of joined.now)
+        ≡ grid_block (option_copied block.entry) height width) }
 {
     match block {
         Some(b) => is_same_at(b, joined, row, height, col, width),

@@ -3,7 +3,5 @@
 #![tactic(auto)]
 
 mod grids;
-#[cfg(test)]
-mod tests;
 
 pub use grids::{first_other, grid};

@@ -17,39 +17,6 @@ use Rattle.dense_blocks.proofs.Cutting.{Sized}
 use Rattle.block_sparse.proofs.GridLaws.{segment-at, map-same}
 use Rattle.block_sparse.proofs.Windows.{sized-drop, width-within}
 
-pub stands-matrix : (v : StoredBlocks) (s t : ℕ) (b : Block) → StandsAt v s t b → block_matrix (block_at v s t)
-    ≡ Some (matrix_of b)
-stands-matrix v s t b h = go (block_at v s t) (zero_matrix (size_of v.live t) (size_of v.live s)) h.is_held h.is_matrix
-  where
-    go : (o : Option StoredBlock) (Z : List (List ℕ)) → is_some o ≡ true → matrix_of b ≡ matrix_or o Z
-        → block_matrix o ≡ Some (matrix_of b)
-    go None Z e f = cc
-    go (Some x) Z e f = ap Some (sym f)
-
--- a block that stands is a part, or is not
-pub compare-some : (M W : List (List ℕ)) (o : Option (List (List ℕ))) → is_zero M ≡ false → o ≡ Some M
-    → (M ≡ W → o ≡ nonzero W) × (o ≡ nonzero W → M ≡ W)
-compare-some M W o nz is = (forth, back)
-  where
-    forth : M ≡ W → o ≡ nonzero W
-    forth e = is ∙ ap Some e ∙ sym (ap (λ b. cond b None (Some W)) (sym (ap is_zero e) ∙ nz))
-
-    back : o ≡ nonzero W → M ≡ W
-    back e = elim (cases_Bool (is_zero W)) [
-      | inl z ↦ let f : Some M ≡ None = sym is ∙ e ∙ ap (λ b. cond b None (Some W)) z in cc
-      | inr z ↦ let f : Some M ≡ Some W = sym is ∙ e ∙ ap (λ b. cond b None (Some W)) z in cc
-    ]
-
--- where none stands, the part is zero, or is not
-pub compare-none : (r : Bool) (W : List (List ℕ)) (o : Option (List (List ℕ))) → r ≡ is_zero W → o ≡ None
-    → (IsTrue r → o ≡ nonzero W) × (o ≡ nonzero W → IsTrue r)
-compare-none true W o e is = (λ h. is ∙ sym (ap (λ b. cond b None (Some W)) (sym e)), λ h. refl)
-compare-none false W o e is = (
-  λ h. let g : false ≡ true = h in cc,
-  λ h. let f : None ≡ Some W = sym is ∙ h
-      ∙ ap (λ b. cond b None (Some W)) (sym e) in cc,
-)
-
 -- a cell that is not listed has no segment
 pub segment-absent : {T : Type 0} (ls : List (ℕ × ℕ)) (xs : List T) (c : ℕ) → has c (keys ls) ≡ false
     → segment ls xs c ≡ []

@@ -117,8 +117,8 @@ module _ (A : List (List ℕ)) (left below : List (ℕ × ℕ)) (rl : IsRising (
         let s : ℕ = get_or (keys left) i 0 in
         let is : entry_of rows' t s ≡ get_or f.parts i None =
         ap (λ l. entry l s) (line-installed rows rows' below fresh_rows rb count_rows put_rows j lj)
-        ∙ entry-updated (line_of rows (get_or below j (0, 0)).0) (line_at fresh_rows j) left f.parts rl f.count f.entries
-        i li in
+        ∙ entry-updated (line_of rows (get_or below j (0, 0)).0) (line_at fresh_rows j) left f.parts rl f.count
+        f.entries i li in
         subst (λ B. IsPart (entry_of rows' t s) (get_or below j (0, 0)).1 (get_or left i (0, 0)).1 B)
         (sym (part-window left below A i j rl rb li lj))
         (subst (λ p. IsPart p (get_or below j (0, 0)).1 (get_or left i (0, 0)).1
@@ -156,7 +156,8 @@ module _ (A : List (List ℕ)) (left below : List (ℕ × ℕ)) (rl : IsRising (
         ∙ entry-updated (line_of columns (get_or left i (0, 0)).0) (line_at fresh_columns i) below f.marks rb f.count
         f.entries j lj
         ∙ f.are j lj
-        ∙ ap (mark_of (get_or below j (0, 0)).1 (get_or left i (0, 0)).1) (sym (part-window left below A i j rl rb li lj))
+        ∙ ap (mark_of (get_or below j (0, 0)).1 (get_or left i (0, 0)).1)
+        (sym (part-window left below A i j rl rb li lj))
 
     column_out : (s t : ℕ) → (has s (keys left) && has t (keys below)) ≡ false → entry_of columns' s t
         ≡ entry_of columns s t
@@ -168,8 +169,8 @@ module _ (A : List (List ℕ)) (left below : List (ℕ × ℕ)) (rl : IsRising (
           let f = are_columns p.at li in
           ap (λ l. entry l t) (ap (line_of columns') (sym p.is) ∙ line-installed columns columns' left fresh_columns rl
           count_columns put_columns p.at li)
-          ∙ entry-kept (line_of columns (get_or left p.at (0, 0)).0) (line_at fresh_columns p.at) below f.marks f.entries
-          t (second (has s (keys left)) (has t (keys below)) e n)
+          ∙ entry-kept (line_of columns (get_or left p.at (0, 0)).0) (line_at fresh_columns p.at) below f.marks
+          f.entries t (second (has s (keys left)) (has t (keys below)) e n)
           ∙ ap (λ k. entry_of columns k t) (key_is left p.at li ∙ p.is)
     ]
       where

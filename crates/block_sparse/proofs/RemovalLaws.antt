@@ -15,37 +15,6 @@ use Rattle.block_complexes.proofs.WithoutLaws.{without, has-without, still-live,
 use Rattle.block_complexes.proofs.WithoutLaws.{total-without}
 use Rattle.block_sparse.specs.Invariants.{IsSound, is_square}
 
-gone : {A B : Type 0} (x : Option A) (y : Option B) → is_some x ≡ is_some y → cond (is_some x) None y ≡ None
-gone {A} {B} None None e = refl
-gone {A} {B} None (Some y) e = cc
-gone {A} {B} (Some x) y e = refl
-
--- a block that comes from the cell, or goes to it, has gone
-pub cleared : {A B : Type 0} (c s t : ℕ) (first : ℕ → ℕ → Option A) (second : ℕ → ℕ → Option B)
-    → ((x : ℕ) → is_some (first x c) ≡ is_some (second x c))
-    → cond (eqb t c) None (cond (is_some (first t c) && eqb s c) None (second t s)) ≡ cond (eqb s c || eqb t c) None
-    (second t s)
-cleared c s t first second dual = elim (cases_eq t c) [
-  | inl e ↦ rw (eq-eqb t c e) (or_true (eqb s c))
-  | inr n ↦ rw (ne_eqb t c n) (elim (cases_eq s c) [
-    | inl e ↦ rw (eq-eqb s c e) (and_true (is_some (first t c))
-        ∙ (ap (λ x. cond (is_some (first t c)) None (second t x)) e ∙ gone (first t c) (second t c) (dual t)))
-    | inr m ↦ rw (ne_eqb s c m) (and_false (is_some (first t c)))
-  ])
-]
-  where
-    or_true : (b : Bool) → None ≡ cond (b || true) None (second t s)
-    or_true true = refl
-    or_true false = refl
-
-    and_true : (b : Bool) → cond (b && true) None (second t s) ≡ cond b None (second t s)
-    and_true true = refl
-    and_true false = refl
-
-    and_false : (b : Bool) → cond (b && false) None (second t s) ≡ second t s
-    and_false true = refl
-    and_false false = refl
-
 live-without : (c : ℕ) (live : List (ℕ × ℕ × ℕ)) → AreLive live → AreLive (without c live)
 live-without c live h = record {
   rising = rising-without c live h.rising;

@@ -99,5 +99,3 @@ width-take (x ∷ xs) (suc i) = omega (arith, width-take xs i)
 
 pub width-within : (ls : List (ℕ × ℕ)) (i : ℕ) → i < length ls → width (take i ls) + (get_or ls i (0, 0)).1 ≤ width ls
 width-within ls i l = omega (arith, width-next ls i l, width-take ls (i + 1))
-
-pub ruleset widths = (width-next, width-within)

@@ -24,8 +24,8 @@ pub record IsFreshColumn (A : List (List ℕ)) (col w : ℕ) (below : List (ℕ 
   pub marks : List (Option Mark)
   pub count : length marks ≡ length below
   pub are : (j : ℕ) → j < length below → slice_index_or marks j None
-      ≡ mark_of (slice_index_or below j (0, 0)).1 w (window (width (take j below)) (slice_index_or below j (0, 0)).1 col
-      w A)
+      ≡ mark_of (slice_index_or below j (0, 0)).1 w
+      (window (width (take j below)) (slice_index_or below j (0, 0)).1 col w A)
   pub entries : (q : ℕ) → entry new q ≡ entry_after (keys below) marks (entry old q) q
 
 -- the line at a place of a list of lines

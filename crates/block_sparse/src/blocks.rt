@@ -208,7 +208,8 @@ impl Blocks {
         requires rows { width below.now ≡ joined.now.rows }
         ensures live { OnOk result (self.new.live ≡ self.old.live) }
         ensures held { OnOk result ((s t : ℕ) → block_at self.new s t ≡
-            (if has s (keys left.now) && has t (keys below.now) then as_block (part left.now below.now (matrix_of joined.now) s t)
+            (if has s (keys left.now) && has t (keys below.now)
+            then as_block (part left.now below.now (matrix_of joined.now) s t)
             else block_at self.old s t)) }
         ensures err { OnErr result (self.new ≡ self.old) }
     {
@@ -249,7 +250,8 @@ impl Blocks {
     pub fn set(&mut self, s: u32, t: u32, b: Block) -> Result<(), (Block, NoMemory)>
         requires { FitsPair self.old.live s t b }
         ensures live { OnOk result (self.new.live ≡ self.old.live) }
-        ensures held { OnOk result ((p q : ℕ) → block_at self.new p q ≡ with_block (block_at self.old) s t (matrix_of b) p q) }
+        ensures held { OnOk result ((p q : ℕ)
+            → block_at self.new p q ≡ with_block (block_at self.old) s t (matrix_of b) p q) }
         ensures err { OnErr result (self.new ≡ self.old) }
         ensures back { IfErr result (λ e. e.0 ≡ b) }
     {
@@ -269,7 +271,8 @@ impl Blocks {
     ) -> Result<(), (Vec<(u32, u32, Block)>, NoMemory)>
         requires { All (λ m. FitsPair self.old.live m.0 m.1 m.2) list.items }
         ensures live { OnOk result (self.new.live ≡ self.old.live) }
-        ensures held { OnOk result ((p q : ℕ) → block_at self.new p q ≡ with_blocks (block_at self.old) list.items p q) }
+        ensures held { OnOk result ((p q : ℕ)
+            → block_at self.new p q ≡ with_blocks (block_at self.old) list.items p q) }
         ensures err { OnErr result (self.new ≡ self.old) }
         ensures back { IfErr result (λ e. e.0.items ≡ list.items) }
     {
@@ -287,7 +290,8 @@ impl Blocks {
     fn place(&mut self, s: u32, t: u32, b: &Block) -> Result<(), NoMemory>
         requires { FitsPair self.old.live s t b.now }
         ensures live { OnOk result (self.new.live ≡ self.old.live) }
-        ensures held { OnOk result ((p q : ℕ) → block_at self.new p q ≡ with_block (block_at self.old) s t (matrix_of b.now) p q) }
+        ensures held { OnOk result ((p q : ℕ)
+            → block_at self.new p q ≡ with_block (block_at self.old) s t (matrix_of b.now) p q) }
         ensures err { OnErr result (self.new ≡ self.old) }
     {
         let from = size_in(self.live(), s);
@@ -316,7 +320,8 @@ fn clear(rows: &mut Lines<Block>, columns: &mut Columns, c: u32)
     ensures row_cells { rows.new.cells ≡ rows.old.cells }
     ensures column_cells { columns.new.cells ≡ columns.old.cells }
     ensures rows { (s t : ℕ) → entry_of rows.new t s ≡ (if s == c || t == c then None else entry_of rows.old t s) }
-    ensures columns { (s t : ℕ) → entry_of columns.new s t ≡ (if s == c || t == c then None else entry_of columns.old s t) }
+    ensures columns { (s t : ℕ)
+        → entry_of columns.new s t ≡ (if s == c || t == c then None else entry_of columns.old s t) }
 {
     columns.remove_all(rows.cells(c), c);
     rows.remove_all(columns.cells(c), c);

@@ -9,7 +9,7 @@ ghost use Rattle.block_sparse.specs.StoredBlocks.{complex_in, matrix, AreLive};
 ghost use Rattle.block_complexes.specs.Cochains.{complex_of, of_degree};
 ghost use Rattle.block_sparse.specs.Cochains.{AreStarts};
 
-use crate::blocks::{Blocks, find};
+use crate::blocks::{Blocks, find, size_in};
 use dense_blocks::{Scalars, add_scaled, all_scalars, apply, zeros};
 use std::alloc::{AllocError as NoMemory, Global};
 
@@ -51,10 +51,11 @@ impl Blocks {
     ) -> Result<Vec<u8>, NoMemory>
         requires scalars { IsBlockComplex (F.ops f.now) (complex_in self.now) }
         requires cochain { IsCochain (F.ops f.now) (complex_of (complex_in self.now)) k z.now }
-        ensures coboundary { IfOk result (λ w. w.items ≡ coboundary (F.ops f.now) (complex_of (complex_in self.now)) k z.now) }
-        ensures cochain { IfOk result (λ w. IsCochain (F.ops f.now) (complex_of (complex_in self.now)) (k + 1) w.items) }
+        ensures coboundary { IfOk result
+            (λ w. w.items ≡ coboundary (F.ops f.now) (complex_of (complex_in self.now)) k z.now) }
+        ensures cochain { IfOk result
+            (λ w. IsCochain (F.ops f.now) (complex_of (complex_in self.now)) (k + 1) w.items) }
     {
-        let _ = &self.live;
         let live = self.live();
         let starts = starts_of(alloc, live, k)?;
         let mut all = Vec::new(alloc);
@@ -81,7 +82,8 @@ impl Blocks {
         requires degree { degree_of self.now.live cell.0 ≡ cell.1 }
         requires size { size_of self.now.live cell.0 ≡ cell.2 }
         ensures { OnOk result (all.new.items ≡ all.old.items ++ flat_map
-            (λ t. sum_into (F.ops f.now) (complex_of (complex_in self.now)).arrows (value_at (cells_of (complex_of (complex_in self.now)) starts.now.degree) z.now) t.size t.cell)
+            (λ t. sum_into (F.ops f.now) (complex_of (complex_in self.now)).arrows
+                (value_at (cells_of (complex_of (complex_in self.now)) starts.now.degree) z.now) t.size t.cell)
             (of_degree (starts.now.degree + 1) (cell ∷ []))) }
     {
         if u32::from(cell.1) == u32::from(starts.degree) + 1 {
@@ -106,10 +108,11 @@ impl Blocks {
         requires live { has t (cells self.now.live) ≡ true }
         requires degree { degree_of self.now.live t ≡ starts.now.degree + 1 }
         ensures { IfOk result (λ part. part.items ≡ sum_into (F.ops f.now) (complex_of (complex_in self.now)).arrows
-            (value_at (cells_of (complex_of (complex_in self.now)) starts.now.degree) z.now) (size_of self.now.live t) t) }
+            (value_at (cells_of (complex_of (complex_in self.now)) starts.now.degree) z.now)
+            (size_of self.now.live t) t) }
     {
-        let _ = &self.live;
-        let mut sum = zeros(alloc, self.size(t) as usize)?;
+        let size = size_in(self.live(), t);
+        let mut sum = zeros(alloc, size as usize)?;
         for s in self.row(t) {
             self.add_image(alloc, f, starts, z, *s, t, &mut sum)?;
         }
@@ -133,7 +136,8 @@ impl Blocks {
         requires degree { degree_of self.now.live t ≡ starts.now.degree + 1 }
         requires sum { IsVector (F.ops f.now) (size_of self.now.live t) sum.old.items }
         ensures sum { OnOk result (sum.new.items ≡ plus (F.ops f.now) sum.old.items
-            (image_of (F.ops f.now) (matrix self.now s t) (value_at (cells_of (complex_of (complex_in self.now)) starts.now.degree) z.now s))) }
+            (image_of (F.ops f.now) (matrix self.now s t)
+                (value_at (cells_of (complex_of (complex_in self.now)) starts.now.degree) z.now s))) }
         ensures vector { OnOk result (IsVector (F.ops f.now) (size_of self.now.live t) sum.new.items) }
     {
         if let Some(block) = self.get(s, t) {

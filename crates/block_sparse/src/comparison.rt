@@ -59,7 +59,8 @@ impl Blocks {
         requires width { width ≡ size_of self.now.live s }
         requires rows { row + height ≤ joined.now.rows }
         requires cols { col + width ≤ joined.now.cols }
-        ensures { IsTrue result ↔ (block_matrix (block_at self.now s t) ≡ nonzero (window row height col width (matrix_of joined.now))) }
+        ensures { IsTrue result ↔ (block_matrix (block_at self.now s t)
+            ≡ nonzero (window row height col width (matrix_of joined.now))) }
     {
         match self.get(s, t) {
             Some(b) => is_same_at(b, joined, row, height, col, width),
@@ -82,7 +83,8 @@ impl Blocks {
         requires width { width ≡ size_of self.now.live s }
         requires rows { height ≤ joined.now.rows }
         requires cols { col + width ≤ joined.now.cols }
-        ensures { IsTrue result ↔ (s ≢ x → block_matrix (block_at self.now s y) ≡ nonzero (window 0 height col width (matrix_of joined.now))) }
+        ensures { IsTrue result ↔ (s ≢ x → block_matrix (block_at self.now s y)
+            ≡ nonzero (window 0 height col width (matrix_of joined.now))) }
     {
         s == x || self.is_part(s, y, joined, 0, height, col, width)
     }
@@ -102,7 +104,8 @@ impl Blocks {
         requires width { width ≡ size_of self.now.live x }
         requires rows { row + height ≤ joined.now.rows }
         requires cols { width ≤ joined.now.cols }
-        ensures { IsTrue result ↔ (t ≢ y → block_matrix (block_at self.now x t) ≡ nonzero (window row height 0 width (matrix_of joined.now))) }
+        ensures { IsTrue result ↔ (t ≢ y → block_matrix (block_at self.now x t)
+            ≡ nonzero (window row height 0 width (matrix_of joined.now))) }
     {
         t == y || self.is_part(x, t, joined, row, height, 0, width)
     }
@@ -114,11 +117,13 @@ impl Blocks {
         requires cols { joined.now.cols ≡ width left.now }
         ensures { IsTrue result ↔ ((i : ℕ) → i < length left.now → (slice_index_or left.now i (0, 0)).0 ≢ x
             → block_matrix (block_at self.now (slice_index_or left.now i (0, 0)).0 y)
-            ≡ nonzero (window 0 joined.now.rows (width (take i left.now)) (slice_index_or left.now i (0, 0)).1 (matrix_of joined.now))) }
+            ≡ nonzero (window 0 joined.now.rows (width (take i left.now)) (slice_index_or left.now i (0, 0)).1
+                (matrix_of joined.now))) }
     {
         let height = size_in(self.live(), y);
         let mut col = 0;
         for (i, cell) in left.iter().enumerate() {
+            // The loop's invariant names the place.
             let _at = i;
             let size = cell.1;
             if !self.is_row_part(x, cell.0, y, joined, height, col, size) {
@@ -136,11 +141,13 @@ impl Blocks {
         requires cols { joined.now.cols ≡ size_of self.now.live x }
         ensures { IsTrue result ↔ ((j : ℕ) → j < length below.now → (slice_index_or below.now j (0, 0)).0 ≢ y
             → block_matrix (block_at self.now x (slice_index_or below.now j (0, 0)).0)
-            ≡ nonzero (window (width (take j below.now)) (slice_index_or below.now j (0, 0)).1 0 joined.now.cols (matrix_of joined.now))) }
+            ≡ nonzero (window (width (take j below.now)) (slice_index_or below.now j (0, 0)).1 0 joined.now.cols
+                (matrix_of joined.now))) }
     {
         let size = size_in(self.live(), x);
         let mut row = 0;
         for (j, cell) in below.iter().enumerate() {
+            // The loop's invariant names the place.
             let _at = j;
             let height = cell.1;
             if !self.is_column_part(y, x, cell.0, joined, row, height, size) {

@@ -59,11 +59,13 @@ pub(crate) fn fresh_rows(
     requires cols { width left.now ≤ joined.now.cols }
     requires rows { width below.now ≤ joined.now.rows }
     ensures count { IfOk result (λ ls. length ls.items ≡ length below.now) }
-    ensures fresh { IfOk result (λ ls. AreFreshRows (matrix_of joined.now) left.now below.now rows.now ls.items (length below.now)) }
+    ensures fresh { IfOk result
+        (λ ls. AreFreshRows (matrix_of joined.now) left.now below.now rows.now ls.items (length below.now)) }
 {
     let mut fresh = Vec::with_capacity(alloc, below.len())?;
     let mut row = 0;
     for (j, cell) in below.iter().enumerate() {
+        // The loop's invariant names the place.
         let _at = j;
         let height = cell.1;
         fresh.push(fresh_row(alloc, rows.line(cell.0), left, joined, row, height)?)?;
@@ -85,11 +87,13 @@ pub(crate) fn fresh_columns(
     requires cols { width left.now ≤ joined.now.cols }
     requires rows { width below.now ≤ joined.now.rows }
     ensures count { IfOk result (λ ls. length ls.items ≡ length left.now) }
-    ensures fresh { IfOk result (λ ls. AreFreshColumns (matrix_of joined.now) left.now below.now columns.now ls.items (length left.now)) }
+    ensures fresh { IfOk result
+        (λ ls. AreFreshColumns (matrix_of joined.now) left.now below.now columns.now ls.items (length left.now)) }
 {
     let mut fresh = Vec::with_capacity(alloc, left.len())?;
     let mut col = 0;
     for (i, cell) in left.iter().enumerate() {
+        // The loop's invariant names the place.
         let _at = i;
         let size = cell.1;
         fresh.push(fresh_column(alloc, columns.line(cell.0), below, joined, col, size)?)?;

@@ -2,8 +2,8 @@
 //!
 //! What is here: to make and copy one, to read its blocks by pair, row and column, to put blocks one by one, by list or
 //! as the parts of a joined matrix, to set flags, to take cells away, to compare a joined matrix with the blocks of a
-//! row or of a column, to find the square blocks without a flag, and to apply all blocks to a cochain. Besides, what
-//! joining and comparing such matrices needs: entries added at the end, and parts of a matrix compared.
+//! row or of a column, to find the square blocks without a flag, and to apply all blocks to a cochain. Besides, whether
+//! a part of a joined matrix is zero, or a block.
 #![tactic(auto)]
 
 mod blocks;
@@ -11,9 +11,7 @@ mod coboundary;
 mod comparison;
 mod fresh;
 mod parts;
-#[cfg(test)]
-mod tests;
 
 pub use blocks::Blocks;
 pub use comparison::is_listed;
-pub use parts::{is_same_at, is_zero_at, push_all};
+pub use parts::{is_same_at, is_zero_at};

@@ -9,16 +9,6 @@ use dense_blocks::{Block, Entries};
 use open_columns::Mark;
 use std::alloc::{AllocError as NoMemory, Global};
 
-/// Adds entries at the end; without memory some may have been added.
-pub fn push_all(entries: &mut Entries, more: &[u8]) -> Result<(), NoMemory>
-    ensures { OnOk result (entries.new ≡ entries.old ++ more.now) }
-{
-    for entry in more {
-        entries.push(*entry)?;
-    }
-    Ok(())
-}
-
 /// Whether each entry is 0.
 fn all_zero(entries: &[u8]) -> bool
     ensures { result ≡ list_all (λ a. a == 0) entries.now }
@@ -65,7 +55,7 @@ fn cut(
 {
     let mut entries = Entries::with_room(alloc, height as usize * width as usize)?;
     for i in 0..u32::from(height) {
-        push_all(&mut entries, row_part(joined, row + i, col, width))?;
+        entries.push_all(row_part(joined, row + i, col, width))?;
     }
     Ok(Block {
         rows: u32::from(height),
@@ -105,12 +95,14 @@ pub(crate) fn row_parts(
     requires rows { row + height ≤ joined.now.rows }
     requires cols { width left.now ≤ joined.now.cols }
     ensures count { IfOk result (λ ps. length ps.items ≡ length left.now) }
-    ensures parts { IfOk result (λ ps. (i : ℕ) → i < length left.now → IsPart (slice_index_or ps.items i None) height (slice_index_or left.now i (0, 0)).1
-        (window row height (width (take i left.now)) (slice_index_or left.now i (0, 0)).1 (matrix_of joined.now))) }
+    ensures parts { IfOk result (λ ps. (i : ℕ) → i < length left.now
+        → IsPart (slice_index_or ps.items i None) height (slice_index_or left.now i (0, 0)).1
+            (window row height (width (take i left.now)) (slice_index_or left.now i (0, 0)).1 (matrix_of joined.now))) }
 {
     let mut parts = Vec::with_capacity(alloc, left.len())?;
     let mut col = 0;
     for (i, cell) in left.iter().enumerate() {
+        // The loop's invariant names the place.
         let _at = i;
         let size = cell.1;
         parts.push(part(alloc, joined, row, height, col, size)?)?;
@@ -131,11 +123,13 @@ pub(crate) fn column_marks(
     requires rows { width below.now ≤ joined.now.rows }
     ensures count { IfOk result (λ ms. length ms.items ≡ length below.now) }
     ensures marks { IfOk result (λ ms. (j : ℕ) → j < length below.now → slice_index_or ms.items j None
-        ≡ mark_of (slice_index_or below.now j (0, 0)).1 size (window (width (take j below.now)) (slice_index_or below.now j (0, 0)).1 col size (matrix_of joined.now))) }
+        ≡ mark_of (slice_index_or below.now j (0, 0)).1 size
+            (window (width (take j below.now)) (slice_index_or below.now j (0, 0)).1 col size (matrix_of joined.now))) }
 {
     let mut marks = Vec::with_capacity(alloc, below.len())?;
     let mut row = 0;
     for (j, cell) in below.iter().enumerate() {
+        // The loop's invariant names the place.
         let _at = j;
         let height = cell.1;
         marks.push(mark(joined, row, height, col, size))?;

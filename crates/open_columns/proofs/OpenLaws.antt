@@ -44,22 +44,6 @@ pub fewer : (passes passes' : ℕ → Bool) (o : Option ℕ) → ((t : ℕ) → 
 fewer passes passes' None h f = λ t. fade (passes t) (passes' t) (h t) (f t (omega arith))
 fewer passes passes' (Some t) h f = λ q l. fade (passes q) (passes' q) (h q) (f.none_before q (omega arith) l)
 
--- the first from a number on, below which none passes
-pub first_from-lower : (passes : ℕ → Bool) (was : ℕ) (o : Option ℕ) → ((q : ℕ) → q < was → passes q ≡ false)
-    → FirstFrom passes was o → FirstFrom passes 0 o
-first_from-lower passes was None h f = λ t l. elim (cases_lt t was) [ inl u ↦ h t u | inr u ↦ f t (omega arith) ]
-first_from-lower passes was (Some t) h f = record {
-  after = omega arith;
-  is = f.is;
-  none_before = λ q a b. elim (cases_lt q was) [ inl u ↦ h q u | inr u ↦ f.none_before q (omega arith) b ];
-}
-
--- the first from a number on, where the first of all is not below it
-pub first_from-higher : (passes : ℕ → Bool) (first from : ℕ) → from ≤ first → FirstFrom passes 0 (Some first)
-    → FirstFrom passes from (Some first)
-first_from-higher passes first from l f =
-    record { after = l; is = f.is; none_before = λ q a b. f.none_before q (omega arith) b }
-
 -- a flag set, or a block taken out, opens none
 pub flag-closes : (b sq : Bool) (o o' : Option Mark)
     → is_open (cond b (option_map (λ _. record { flagged = true; square = sq }) o) o') ≡ true → is_open o' ≡ true
@@ -72,12 +56,6 @@ flag-closes false sq o o' e = e
 pub removal-closes : (b : Bool) (o' : Option Mark) → is_open (cond b None o') ≡ true → is_open o' ≡ true
 removal-closes true o' e = cc
 removal-closes false o' e = e
-
--- another first block, put where there was one
-pub first-put : (o o' : Option First) (v : First) (was : ℕ) → first_of o ≡ Some was → o' ≡ option_map (λ _. v) o
-    → first_of o' ≡ v.cell
-first-put None o' v was e h = cc
-first-put (Some x) o' v was e h = ap first_of h
 
 abbrev opens : ByCell (ByCell Mark) → ℕ → ℕ → Bool
 opens marks s t = is_open (entry_of marks s t)
@@ -192,9 +170,8 @@ module _ (passes : ℕ → Bool) (cells : List ℕ) (from : ℕ) (unlisted : (q 
       | inr e ↦ unlisted q e
     ]
 
-    pub first-listed : (i : ℕ) → IsRising cells → i < length cells → NoneTo passes cells from i → from ≤ get_or cells i 0
-        → passes (get_or cells i 0) ≡ true
-        → IsFirst passes from (get_or cells i 0)
+    pub first-listed : (i : ℕ) → IsRising cells → i < length cells → NoneTo passes cells from i
+        → from ≤ get_or cells i 0 → passes (get_or cells i 0) ≡ true → IsFirst passes from (get_or cells i 0)
     first-listed i r l none a is = record {
       after = a;
       is = is;

@@ -179,7 +179,8 @@ fn first_of(firsts: &Line<First>, x: u32) -> Option<u32>
 
 /// The cell and that of the first open block of its column.
 fn first_pair(firsts: &Line<First>, s: u32) -> Option<(u32, u32)>
-    ensures { MatchOption result (first_of (entry firsts.now s) ≡ None) (λ p. (p.0 ≡ s) × (first_of (entry firsts.now s) ≡ Some p.1)) }
+    ensures { MatchOption result (first_of (entry firsts.now s) ≡ None)
+        (λ p. (p.0 ≡ s) × (first_of (entry firsts.now s) ≡ Some p.1)) }
 {
     match first_of(firsts, s) {
         Some(t) => Some((s, t)),

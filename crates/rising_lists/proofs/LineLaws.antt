@@ -41,10 +41,6 @@ pub and-true : (b : Bool) → (b && true) ≡ b
 and-true true = refl
 and-true false = refl
 
-and_false : (b : Bool) → (b && false) ≡ false
-and_false true = refl
-and_false false = refl
-
 pub line-put : {A : Type 0} (ks : List ℕ) (vs : List (ByCell A)) (c i : ℕ) (v : ByCell A)
     → IsLine {A = ByCell A} (record { cells = ks; values = vs }) → i < length ks → get_or ks i 0 ≡ c
     → (k : ℕ) → line_of {A = A} (record { cells = ks; values = set vs i v }) k ≡ cond (eqb k c && has c ks) v
@@ -53,10 +49,6 @@ line-put {A} ks vs c i v line l e k =
     line-set ks vs c i v line l e k
     ∙ ap (λ b. cond b v (line_of {A = A} (record { cells = ks; values = vs }) k)) (sym (and-true (eqb k c))
     ∙ ap (λ b. eqb k c && b) (sym (ap (λ x. has x ks) (sym e) ∙ has-at ks i l)))
-
-pub line-not_put : {A : Type 0} (lines : ByCell (ByCell A)) (c : ℕ) (v : ByCell A) (k : ℕ) → has c lines.cells ≡ false
-    → line_of lines k ≡ cond (eqb k c && has c lines.cells) v (line_of lines k)
-line-not_put lines c v k n = sym (ap (λ b. cond b v (line_of lines k)) (ap (λ b. eqb k c && b) n ∙ and_false (eqb k c)))
 
 -- an empty line at a cell
 pub entry-cleared : {A : Type 0} (lines : ByCell (ByCell A)) (new : ByCell A) (c k p : ℕ)

@@ -1,5 +1,5 @@
 -- Two rising lists are merged into one, cell by cell.
-use Rattle.std.proofs.Common.{◌≡◌, ◌≢◌, ℕ, zero, suc, ◌<◌, ◌≤◌, ◌+◌, ◌-◌, Bool, true, false, cond, refl, sym, ap, ap₂}
+use Rattle.std.proofs.Common.{◌≡◌, ◌≢◌, ℕ, suc, ◌<◌, ◌≤◌, ◌+◌, ◌-◌, Bool, true, false, cond, refl, sym, ap, ap₂}
 use Rattle.std.proofs.Common.{◌∙◌, arith, ◌⊎◌, inl, inr, List, [], ◌∷◌, ◌++◌, length, get_or, drop, Option, Some, None}
 use Rattle.std.proofs.Common.{eqb, subst, length-append, drop-cons, add-one, MatchBool}
 use Rattle.std.specs.Option.{unwrap_or}
@@ -150,18 +150,6 @@ pub record Merged {A : Type 0} (old : List ℕ) (vs : List A) (listed : List ℕ
   pub before : (q : ℕ) → q < low → look q done values ≡ entry_after listed fresh (look q old vs) q
   pub after : (q : ℕ) → low ≤ q → look q done values ≡ None
 
-pub merged-none : {A : Type 0} (old : List ℕ) (vs : List A) (listed : List ℕ) (fresh : List (Option A))
-    → Merged old vs listed fresh fresh 0 0 [] []
-merged-none {A} old vs listed fresh = record {
-  low = 0;
-  old_place = record { within = omega arith; below = λ a l. absurd (omega arith); from = λ a l m. omega arith };
-  listed_place = record { within = omega arith; below = λ a l. absurd (omega arith); from = λ a l m. omega arith };
-  left = refl;
-  line = record { rising = λ i j l m. absurd (omega arith); full = refl };
-  before = λ q l. absurd (omega arith);
-  after = λ q l. refl;
-}
-
 module _ {A : Type 0} (old : List ℕ) (vs : List A) (listed : List ℕ) (fresh rest : List (Option A)) (i j : ℕ)
     (done : List ℕ) (values : List A)
     (old_rises : IsRising old) (listed_rises : IsRising listed) (old_full : length vs ≡ length old)
@@ -171,29 +159,6 @@ module _ {A : Type 0} (old : List ℕ) (vs : List A) (listed : List ℕ) (fresh 
   next-low = elim next.is [
     | inl h ↦ omega (arith, m.listed_place.from j (omega arith) h.0, h.1)
     | inr h ↦ omega (arith, m.old_place.from i (omega arith) h.0, h.1)
-  ]
-
-  -- nothing was merged yet from the next cell on
-  pub next-later : (q : ℕ) → c ≤ q → look q done values ≡ None
-  next-later q l = m.after q (omega (arith, next-low))
-
-  -- a listed cell has a fresh value left
-  pub next-some : stands listed j c ≡ true → 0 < length rest
-  next-some h =
-      let s = stands-true listed j c h in
-      let n : length rest ≡ length (drop j fresh) = ap length m.left in
-      n_pos fresh j (omega (arith, s.0, fresh_full)) n
-    where
-      n_pos : (xs : List (Option A)) (k : ℕ) → k < length xs → length rest ≡ length (drop k xs) → 0 < length rest
-      n_pos [] k l n = absurd (omega arith)
-      n_pos (x ∷ xs) zero l n = omega arith
-      n_pos (x ∷ xs) (suc k) l n = n_pos xs k (omega arith) n
-
-  -- another cell is one of the old
-  pub next-inside : stands listed j c ≡ false → i < length vs
-  next-inside h = elim next.is [
-    | inl s ↦ absurd (stands-false listed j c h s.0 s.1)
-    | inr s ↦ omega (arith, s.0, old_full)
   ]
 
   -- the value that is due at the next cell, and the fresh values left

@@ -6,8 +6,6 @@ mod line;
 mod lines;
 mod merges;
 mod places;
-#[cfg(test)]
-mod tests;
 
 pub use duplicate::Duplicate;
 pub use line::Line;

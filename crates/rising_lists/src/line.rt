@@ -135,7 +135,8 @@ impl<T: Duplicate> Line<T> {
     ) -> Result<Line<T>, NoMemory>
         requires rising { IsRising (keys listed.now) }
         requires full { length fresh.items ≡ length listed.now }
-        ensures { IfOk result (λ l. (q : ℕ) → entry l q ≡ entry_after (keys listed.now) fresh.items (entry self.now q) q) }
+        ensures { IfOk result (λ l. (q : ℕ)
+            → entry l q ≡ entry_after (keys listed.now) fresh.items (entry self.now q) q) }
     {
         let old = self.cells.as_slice();
         let room = old.len().saturating_add(listed.len());

@@ -55,7 +55,8 @@ pub(crate) fn next_value<T: Duplicate>(
     requires inside { listed ≡ false → i < length values.now }
     ensures { IfOk result (λ v. MatchBool listed
         (into_iter_items fresh.old ≡ v ∷ into_iter_items fresh.new)
-        ((into_iter_items fresh.new ≡ into_iter_items fresh.old) × ((d : T) → v ≡ Some (slice_index_or values.now i d)))) }
+        ((into_iter_items fresh.new ≡ into_iter_items fresh.old)
+        × ((d : T) → v ≡ Some (slice_index_or values.now i d)))) }
 {
     if listed {
         match fresh.next() {

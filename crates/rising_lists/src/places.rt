@@ -4,7 +4,8 @@ ghost use Rattle.rising_lists.specs.Rising.{IsRising, has, keys};
 /// Where a cell stands in a rising list.
 pub(crate) fn place(cells: &[u32], c: u32) -> Option<usize>
     requires { IsRising cells.now }
-    ensures { MatchOption result (has c cells.now ≡ false) (λ i. (i < length cells.now) × (slice_index cells.now i ≡ c)) }
+    ensures { MatchOption result (has c cells.now ≡ false)
+        (λ i. (i < length cells.now) × (slice_index cells.now i ≡ c)) }
 {
     match cells.binary_search(&c) {
         Ok(at) => Some(at),

@@ -16,7 +16,7 @@ loop-i-preserved c =
     let A = matrix_of c.args.joined.now in
     let size : c.args.row + c.args.height ≤ length A = omega (arith, block-size c.args.joined.now, c.requires.rows) in
     let inside : c.loop-i.i < c.args.height = omega arith in
-    c.in_ok-push_all.ensures ∙ ap₂ ◌++◌ c.loop-i.invariant c.row_part.ensures
+    c.in_ok-push_all.ensures.ok ∙ ap₂ ◌++◌ c.loop-i.invariant c.row_part.ensures
     ∙ sym (window-next c.args.row c.args.height c.args.col c.args.width A c.loop-i.i size inside)
 
 pub invariant_of-result-clause-full : goal.invariant_of-result-clause-full

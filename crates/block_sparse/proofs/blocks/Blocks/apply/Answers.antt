@@ -10,8 +10,7 @@ use Rattle.dense_blocks.proofs.Shapes.{from_vector}
 use Rattle.rising_lists.specs.Rising.{has}
 use Rattle.rising_lists.proofs.Keyed.{has-at}
 use Rattle.block_complexes.specs.BlockComplexes.{cells, degree_of, size_of}
-use Rattle.block_sparse.specs.StoredBlocks.{StoredBlocks, complex_in}
-use Rattle.block_sparse.specs.Invariants.{IsSound}
+use Rattle.block_sparse.specs.StoredBlocks.{complex_in}
 use Rattle.block_complexes.proofs.SumLaws.{rows_fit}
 use Rattle.block_sparse.proofs.ScalarBlocks.{matrix-size_of}
 use Rattle.block_complexes.specs.Cochains.{complex_of, of_degree}
@@ -87,8 +86,7 @@ returns-clause-cochain g c =
     let k = c.args.k in
     let z = c.args.z.now in
     let C = complex_of (complex_in v) in
-    let sound : IsSound v.live v.rows v.columns = subst (λ (v : StoredBlocks). IsSound v.live v.rows v.columns)
-    c.self.view_is c.self.invariant in
+    let sound = c.live-live.ensures.sound in
     let fits = rows_fit (complex_in v) sound.live_cells.rising (matrix-size_of v sound) in
     subst (λ j. IsCochain K C j c.loop-cell.all.items) (sym (add-one k))
     (subst (IsCochain K C (suc k)) (sym (returns-clause-coboundary g c))

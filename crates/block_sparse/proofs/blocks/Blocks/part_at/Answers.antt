@@ -8,9 +8,8 @@ use Rattle.dense_blocks.proofs.VectorLaws.{zeros-vector}
 use Rattle.cochain_vec.specs.Complexes.{value_at}
 use Rattle.cochain_vec.proofs.PathLaws.{sum_over}
 use Rattle.block_complexes.specs.BlockComplexes.{size_of}
-use Rattle.block_sparse.specs.StoredBlocks.{StoredBlocks, matrix}
+use Rattle.block_sparse.specs.StoredBlocks.{matrix}
 use Rattle.block_complexes.specs.Cochains.{of_degree}
-use Rattle.block_sparse.specs.Invariants.{IsSound}
 use Rattle.block_complexes.proofs.SumLaws.{sum_over-next}
 use Rattle.block_sparse.proofs.ScalarBlocks.{sum_into-row}
 use Rattle.block_sparse.proofs.blocks.Blocks.part_at.Goals as goal
@@ -19,7 +18,8 @@ pub loop-s-init : goal.loop-s-init
 loop-s-init g c =
     let K = g.F.Scalars.ops c.args.f.now in
     let n = size_of c.args.self.now.live c.args.t in
-    let none : c.in_ok-sum.sum.items ≡ zeros n = c.in_ok-sum.ensures.items ∙ ap zeros c.size.ensures in
+    let none : c.in_ok-sum.sum.items ≡ zeros n = c.in_ok-sum.ensures.items
+    ∙ ap zeros (c.size_in-size.ensures ∙ ap (λ l. size_of l c.args.t) c.live.ensures.live) in
     record {
       sum = none;
       vector =
@@ -52,8 +52,7 @@ returns g c =
     let row = c.row-s-items.result.now in
     let end : length row ≤ c.loop-s.s-index = omega arith in
     let value : ℕ → List ℕ = value_at (of_degree c.args.starts.now.degree v.live) c.args.z.now in
-    let sound : IsSound v.live v.rows v.columns = subst (λ (v : StoredBlocks). IsSound v.live v.rows v.columns)
-    c.self.view_is c.self.invariant in
+    let sound = c.live.ensures.sound in
     c.loop-s.invariant.sum
     ∙ ap (sum_over K (size_of v.live t) (λ s. image_of K (matrix v s t) (value s))) (take_all c.loop-s.s-index row end)
     ∙ sym (sum_into-row K (g.met.F.Scalars.is_field c.args.f.now) v sound value t row c.requires.live

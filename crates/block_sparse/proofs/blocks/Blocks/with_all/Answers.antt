@@ -15,12 +15,12 @@ loop-member-preserved c =
     let after = with_block before m.0 m.1 (matrix_of m.2) in
     record {
       live = c.in_ok-place.ensures.live ∙ c.loop-member.invariant.live;
-      held = λ p q.
+      blocks = λ p q.
           with_blocks-same (drop (i + 1) list) (block_at c.place.new.self) after c.in_ok-place.ensures.held p q
           ∙ ap (λ k. with_blocks after (drop k list) p q) (add-one i)
           ∙ ap (λ l. with_blocks before l p q)
           (sym (drop-cons list i m inside ∙ ap (λ x. x ∷ drop (suc i) list) (sym c.member-item.is)))
-          ∙ c.loop-member.invariant.held p q;
+          ∙ c.loop-member.invariant.blocks p q;
     }
 
 pub returns-clause-held : goal.returns-clause-held
@@ -28,4 +28,4 @@ returns-clause-held c = λ p q.
     let list = c.args.list.now in
     let end : length list ≤ c.loop-member.member-index = omega arith in
     ap (λ l. with_blocks (block_at c.loop-member.changed) l p q) (sym (drop-done c.loop-member.member-index list end))
-    ∙ c.loop-member.invariant.held p q
+    ∙ c.loop-member.invariant.blocks p q

@@ -6,6 +6,6 @@ use Rattle.block_sparse.proofs.blocks.Blocks.with_all.Given as goal
 abbrev pub invariant-loop-member : goal.invariant-loop-member
 invariant-loop-member l = record {
   live : l.changed.live ≡ l.self.live;
-  block_at : (p q : ℕ) → with_blocks (block_at l.changed) (drop l.member-index l.list) p q
+  blocks : (p q : ℕ) → with_blocks (block_at l.changed) (drop l.member-index l.list) p q
       ≡ with_blocks (block_at l.self) l.list p q;
 }
