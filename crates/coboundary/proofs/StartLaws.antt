@@ -22,7 +22,7 @@ use Rattle.square_check.proofs.Placed.{some-same}
 use Rattle.cochain_vec.specs.declared.cell.Cell.{Cell}
 use Rattle.sheaf_data.specs.Betti.{numbered_cells, signed_matrix}
 use Rattle.coboundary.specs.Start.{with_stalks, face_matrix}
-use Rattle.coboundary.specs.Put.{prefix_complex, AreFirstPut}
+use Rattle.coboundary.specs.Put.{AreFirstPut}
 use Rattle.block_sparse.specs.StoredBlocks.{StoredBlock, is_zero}
 use Rattle.block_sparse.specs.Grids.{as_block}
 use Rattle.block_sparse.specs.Lists.{with_block}
@@ -121,11 +121,11 @@ module _ (K : Ops) (dims : List ℕ) (s t : ℕ) where
 pub face_matrix-more : (K : Ops) (c : CellComplex) (blocks : List Block) (n s t : ℕ) (f : Face) (b : Block)
     → AllPairs AreApart c.faces
     → slice_get c.faces n ≡ Some f → slice_get blocks n ≡ Some b
-    → face_matrix K (prefix_complex c (n + 1)) (take (n + 1) blocks) s t
-    ≡ (if joins s t f then Some (signed_matrix K f.sign (matrix_of b)) else face_matrix K (prefix_complex c n)
-    (take n blocks) s t)
+    → face_matrix K (with_first_faces c.dims c.faces (n + 1)) (take (n + 1) blocks) s t
+    ≡ (if joins s t f then Some (signed_matrix K f.sign (matrix_of b))
+    else face_matrix K (with_first_faces c.dims c.faces n) (take n blocks) s t)
 face_matrix-more K c blocks n s t f b apart is_f is_b =
-    ap (λ j. face_matrix K (prefix_complex c j) (take j blocks) s t) (add-one n)
+    ap (λ j. face_matrix K (with_first_faces c.dims c.faces j) (take j blocks) s t) (add-one n)
     ∙ matrix_at-more K c.dims s t n c.faces blocks f b apart is_f is_b
 
 -- no earlier face joins what a face does
@@ -140,16 +140,12 @@ no-earlier (suc n) (g ∷ fs) f apart is_f =
     (apart 0 (suc n) g (omega arith) (omega (arith, slice_get_within fs n f is_f))))
     ∙ no-earlier n fs f (λ i j d l m. apart (suc i) (suc j) d (omega arith) (omega arith)) is_f
 
-pub first-put-none : (K : Ops) (c : CellComplex) (blocks : List Block) (held : ℕ → ℕ → Option StoredBlock)
-    → ((s t : ℕ) → held s t ≡ None) → AreFirstPut K c blocks 0 held
-first-put-none K c blocks held none s t = none s t
-
 module _ (K : Ops) (c : CellComplex) (blocks : List Block) (n : ℕ) (f : Face) (b : Block)
     (apart : AllPairs AreApart c.faces)
-    (is_f : slice_get c.faces n ≡ Some f) (is_b : slice_get blocks n ≡ Some b) (held : ℕ → ℕ → Option StoredBlock)
-    (now : AreFirstPut K c blocks n held) where
+    (is_f : slice_get c.faces n ≡ Some f) (is_b : slice_get blocks n ≡ Some b) (stored : ℕ → ℕ → Option StoredBlock)
+    (now : AreFirstPut K c blocks n stored) where
   pub first-put-more : (new : ℕ → ℕ → Option StoredBlock)
-      → ((s t : ℕ) → new s t ≡ with_block held f.s f.t (signed_matrix K f.sign (matrix_of b)) s t)
+      → ((s t : ℕ) → new s t ≡ with_block stored f.s f.t (signed_matrix K f.sign (matrix_of b)) s t)
       → AreFirstPut K c blocks (n + 1) new
   first-put-more new put s t =
       put s t
@@ -159,36 +155,36 @@ module _ (K : Ops) (c : CellComplex) (blocks : List Block) (n : ℕ) (f : Face) 
       A : List (List ℕ)
       A = signed_matrix K f.sign (matrix_of b)
 
-      go : (x : Bool) → cond x (as_block A) (held s t) ≡ option_and_then as_block
-          (cond x (Some A) (face_matrix K (prefix_complex c n) (take n blocks) s t))
+      go : (x : Bool) → cond x (as_block A) (stored s t) ≡ option_and_then as_block
+          (cond x (Some A) (face_matrix K (with_first_faces c.dims c.faces n) (take n blocks) s t))
       go true = refl
       go false = now s t
 
   -- nothing stands yet at the pair of the next face
-  pub first-put-absent : held f.s f.t ≡ None
+  pub first-put-absent : stored f.s f.t ≡ None
   first-put-absent =
       now f.s f.t
       ∙ ap (λ o. option_and_then as_block
       (option_and_then (λ g. option_map (λ b. signed_matrix K g (matrix_of b))
-      (restriction (prefix_complex c n) (take n blocks) f.s f.t))
+      (restriction (with_first_faces c.dims c.faces n) (take n blocks) f.s f.t))
       (option_map (λ (f : Face). f.sign) o))) (no-earlier n c.faces f apart is_f)
 
   -- where the matrix of the face is empty, nothing has to be put
-  pub first-put-empty : as_block (signed_matrix K f.sign (matrix_of b)) ≡ None → AreFirstPut K c blocks (n + 1) held
-  first-put-empty empty = first-put-more held (λ s t. go s t (joins s t f) refl)
+  pub first-put-empty : as_block (signed_matrix K f.sign (matrix_of b)) ≡ None → AreFirstPut K c blocks (n + 1) stored
+  first-put-empty empty = first-put-more stored (λ s t. go s t (joins s t f) refl)
     where
-      go : (s t : ℕ) (x : Bool) → joins s t f ≡ x → held s t ≡ cond x (as_block (signed_matrix K f.sign (matrix_of b)))
-          (held s t)
+      go : (s t : ℕ) (x : Bool) → joins s t f ≡ x → stored s t ≡ cond x (as_block (signed_matrix K f.sign (matrix_of b)))
+          (stored s t)
       go s t true e =
           let p = and_parts (nat_eq s f.s) (nat_eq t f.t) e in
-          ap₂ held (eqb-true s f.s p.0) (eqb-true t f.t p.1) ∙ first-put-absent ∙ sym empty
+          ap₂ stored (eqb-true s f.s p.0) (eqb-true t f.t p.1) ∙ first-put-absent ∙ sym empty
       go s t false e = refl
 
-pub first-put-all : (K : Ops) (c : CellComplex) (blocks : List Block) (held : ℕ → ℕ → Option StoredBlock)
+pub first-put-all : (K : Ops) (c : CellComplex) (blocks : List Block) (stored : ℕ → ℕ → Option StoredBlock)
     → length blocks ≡ length c.faces
-    → AreFirstPut K c blocks (length c.faces) held → (s t : ℕ)
-    → held s t ≡ option_and_then as_block (face_matrix K c blocks s t)
-first-put-all K c blocks held same now s t =
+    → AreFirstPut K c blocks (length c.faces) stored → (s t : ℕ)
+    → stored s t ≡ option_and_then as_block (face_matrix K c blocks s t)
+first-put-all K c blocks stored same now s t =
     now s t
     ∙ ap₂ (λ fs bs. option_and_then as_block (face_matrix K (record c { faces = fs }) bs s t))
     (take_all (length c.faces) c.faces (omega arith))

@@ -1,4 +1,4 @@
--- The coboundary of a coboundary of a sheaf is zero (Curry, Sheaves, Cosheaves and Applications, 2014).
+-- The coboundary of a coboundary of a sheaf is zero.
 use Rattle.std.specs.Prelude.{ℕ, List}
 use Rattle.cell_complex.specs.Complexes.{CellComplex, IsComplex}
 use Rattle.dense_blocks.specs.Field.{Ops, IsField}

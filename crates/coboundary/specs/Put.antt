@@ -2,6 +2,7 @@
 use Rattle.std.specs.Prelude.{◌≡◌, ℕ, false, List, Option, take}
 use Rattle.std.specs.Option.{option_and_then}
 use Rattle.cell_complex.specs.Complexes.{CellComplex}
+use Rattle.cell_complex.specs.Verdicts.{with_first_faces}
 use Rattle.dense_blocks.specs.Field.{Ops}
 use Rattle.dense_blocks.specs.declared.block.Block.{Block}
 use Rattle.block_complexes.specs.BlockComplexes.{HaveSameMatrices}
@@ -9,14 +10,10 @@ use Rattle.block_sparse.specs.StoredBlocks.{StoredBlocks, StoredBlock, complex_i
 use Rattle.block_sparse.specs.Grids.{as_block}
 use Rattle.coboundary.specs.Start.{face_matrix, start_complex}
 
--- the complex with the first so many faces
-abbrev pub prefix_complex : CellComplex → ℕ → CellComplex
-prefix_complex c n = record c { faces = take n c.faces }
-
 -- what stands where the blocks of the first n faces have been put
 abbrev pub AreFirstPut : Ops → CellComplex → List Block → ℕ → (ℕ → ℕ → Option StoredBlock) → Type 0
-AreFirstPut K c blocks n block_at = (s t : ℕ) → block_at s t ≡ option_and_then as_block
-    (face_matrix K (prefix_complex c n) (take n blocks) s t)
+AreFirstPut K c blocks n stored = (s t : ℕ) → stored s t ≡ option_and_then as_block
+    (face_matrix K (with_first_faces c.dims c.faces n) (take n blocks) s t)
 
 -- the start complex of a sheaf is stored, and no block has its flag set
 pub record IsStart (K : Ops) (c : CellComplex) (stalks : List ℕ) (blocks : List Block) (b : StoredBlocks) : Type 0 where

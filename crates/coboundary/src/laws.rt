@@ -1,5 +1,6 @@
 ghost use Rattle.coboundary.specs.Closed.{CoboundaryOfCoboundaryIsZero, CoboundariesAreCocycles};
-ghost use Rattle.coboundary.specs.StartCoboundary.{StartIsBlockComplex, StartHasTheCoboundary, StartIsCochainComplex, StartHasTheCohomology};
+ghost use Rattle.coboundary.specs.StartCoboundary.{StartIsBlockComplex, StartHasTheCoboundary};
+ghost use Rattle.coboundary.specs.StartCoboundary.{StartIsCochainComplex, StartHasTheCohomology};
 
 /// A law, with nothing to run: on every sheaf over a field, the coboundary of the coboundary of a cochain is zero.
 pub fn dd_zero()

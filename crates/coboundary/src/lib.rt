@@ -1,11 +1,8 @@
-//! The coboundary of a cellular sheaf: taken twice it is zero, as in Curry, "Sheaves, Cosheaves and Applications"
-//! (2014); and the block complex that a sheaf is.
+//! The coboundary of a cellular sheaf: taken twice it is zero; and the block complex that a sheaf is.
 #![tactic(auto)]
 
 mod laws;
 mod start;
-#[cfg(test)]
-mod tests;
 
 pub use laws::{
     coboundaries_are_cocycles, dd_zero, start_has_the_coboundary, start_has_the_cohomology,

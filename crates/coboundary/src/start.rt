@@ -1,4 +1,5 @@
-ghost use Rattle.std.specs.Prelude.{◌≡◌, ◌<◌, ◌≤◌, ◌+◌, ℕ, None, [], ◌∷◌, ◌++◌, length, slice_get, slice_index, IfOk, OnOk, OnErr, IfSome};
+ghost use Rattle.std.specs.Prelude.{◌≡◌, ◌<◌, ◌≤◌, ◌+◌, ℕ, None, [], ◌∷◌, ◌++◌};
+ghost use Rattle.std.specs.Prelude.{length, slice_get, slice_index, IfOk, OnOk, OnErr, IfSome};
 ghost use Rattle.dense_blocks.specs.Vectors.{AllScalars};
 ghost use Rattle.dense_blocks.specs.Blocks.{matrix_of, IsBlock};
 ghost use Rattle.block_sparse.specs.StoredBlocks.{FitsPair, block_at};
@@ -41,9 +42,11 @@ fn put_face<F: Scalars>(
     requires complex { IsComplex draft.now.complex }
     requires face { place < length draft.now.complex.faces }
     requires live { blocks.old.live ≡ with_stalks (numbered_cells 0 draft.now.complex.dims draft.now.stalks) }
-    requires first { AreFirstPut (F.ops draft.now.field) draft.now.complex draft.now.blocks place (block_at blocks.old) }
+    requires first { AreFirstPut (F.ops draft.now.field) draft.now.complex draft.now.blocks place
+        (block_at blocks.old) }
     ensures live { OnOk result (blocks.new.live ≡ blocks.old.live) }
-    ensures next { OnOk result (AreFirstPut (F.ops draft.now.field) draft.now.complex draft.now.blocks (place + 1) (block_at blocks.new)) }
+    ensures next { OnOk result (AreFirstPut (F.ops draft.now.field) draft.now.complex draft.now.blocks (place + 1)
+        (block_at blocks.new)) }
 {
     let face = draft.complex.face_at(place);
     let restriction = &draft.blocks.as_slice()[place as usize];
@@ -58,7 +61,8 @@ fn put_face<F: Scalars>(
 fn put(blocks: &mut Blocks, face: Face, b: Block) -> Result<(), NoMemory>
     requires { FitsPair blocks.old.live face.s face.t b }
     ensures live { OnOk result (blocks.new.live ≡ blocks.old.live) }
-    ensures held { OnOk result ((s t : ℕ) → block_at blocks.new s t ≡ with_block (block_at blocks.old) face.s face.t (matrix_of b) s t) }
+    ensures blocks { OnOk result ((s t : ℕ) → block_at blocks.new s t
+        ≡ with_block (block_at blocks.old) face.s face.t (matrix_of b) s t) }
 {
     match blocks.set(face.s, face.t, b) {
         Ok(()) => Ok(()),

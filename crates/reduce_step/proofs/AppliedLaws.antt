@@ -16,18 +16,18 @@ use Rattle.removals.specs.Removals.{corner, live_without, IsRemoval}
 use Rattle.block_sparse.specs.Flags.{KeepsFlags}
 use Rattle.block_complexes.proofs.Sums.{is_other}
 use Rattle.removals.proofs.CornerLaws.{has-without, without-twice, spared}
-use Rattle.reduce_step.proofs.HeldLaws.{written-removal, written-flags}
+use Rattle.reduce_step.proofs.PairwiseRemoval.{written-removal, written-flags}
 
 -- the three steps: the parts of N are put at the listed cells of v, then the cell x is taken out, and then the cell y
-pub record AreSteps (v grid first w : StoredBlocks) (x y : ℕ) (left below : List (ℕ × ℕ)) (N : List (List ℕ)) :
+pub record AreStages (v grid first w : StoredBlocks) (x y : ℕ) (left below : List (ℕ × ℕ)) (N : List (List ℕ)) :
     Type 0 where
   pub grid_live : grid.live ≡ v.live
-  pub grid_held : (s t : ℕ) → block_at grid s t ≡ (if has s (keys left) && has t (keys below) then
+  pub grid_blocks : (s t : ℕ) → block_at grid s t ≡ (if has s (keys left) && has t (keys below) then
       as_block (part left below N s t) else block_at v s t)
   pub first_live : first.live ≡ filter (λ l. not (l.0 == x)) grid.live
-  pub first_held : (s t : ℕ) → block_at first s t ≡ (if s == x || t == x then None else block_at grid s t)
+  pub first_blocks : (s t : ℕ) → block_at first s t ≡ (if s == x || t == x then None else block_at grid s t)
   pub second_live : w.live ≡ filter (λ l. not (l.0 == y)) first.live
-  pub second_held : (s t : ℕ) → block_at w s t ≡ (if s == y || t == y then None else block_at first s t)
+  pub second_blocks : (s t : ℕ) → block_at w s t ≡ (if s == y || t == y then None else block_at first s t)
 
 -- a block stands from x to y; on the left are the other cells from which blocks go to y, below the other cells to which
 -- blocks go from x
@@ -45,7 +45,7 @@ pub record IsApplied (K : Ops) (v : StoredBlocks) (x y : ℕ) (a : List (List �
   pub inverse : IsInverse K (size_of v.live x) (matrix v x y) a
   pub corners : (s t : ℕ) → has s (keys left) ≡ true → has t (keys below) ≡ true → part left below N s t
       ≡ corner K (complex_in v) x y a s t
-  pub steps : AreSteps v grid first w x y left below N
+  pub steps : AreStages v grid first w x y left below N
 
 -- a cell that is neither of two
 apart : (b c : Bool) → not (b || c) ≡ true → (b ≡ false) × (c ≡ false)
@@ -100,10 +100,10 @@ module _ (K : Ops) (F : IsField K) (v : StoredBlocks) (sound : IsSound v.live v.
   written s t hs ht =
       let os = other s hs in
       let ot = other t ht in
-      h.steps.second_held s t
-      ∙ ap (cond (eqb s y || eqb t y) None) (h.steps.first_held s t)
+      h.steps.second_blocks s t
+      ∙ ap (cond (eqb s y || eqb t y) None) (h.steps.first_blocks s t)
       ∙ spared x y s t (block_at grid s t) os ot
-      ∙ h.steps.grid_held s t
+      ∙ h.steps.grid_blocks s t
       ∙ chosen (has s (keys left) && has t (keys below)) refl
       ∙ ap (λ b. cond b (as_block (corner K (complex_in v) x y a s t)) (block_at v s t)) (both-listed s t os ot)
     where

@@ -20,7 +20,7 @@ use Rattle.removals.specs.Removals.{IsRemoval}
 use Rattle.block_sparse.specs.Flags.{KeepsFlags}
 use Rattle.block_sparse.proofs.StoredLaws.{block_complex-full}
 use Rattle.reduce_step.proofs.JoinedCorners.{AreAround, part-reduced}
-use Rattle.reduce_step.proofs.AppliedLaws.{AreSteps, IsApplied, image_of-removal, image_of-flags}
+use Rattle.reduce_step.proofs.AppliedLaws.{AreStages, IsApplied, image_of-removal, image_of-flags}
 use Rattle.reduce_step.specs.declared.footprint.Footprint.{Footprint}
 use Rattle.reduce_step.specs.Footprints.{IsFootprint}
 use Rattle.reduce_step.specs.Records.{IsRecord}
@@ -32,7 +32,7 @@ one-width zero n p q (r ∷ A) e h k = absurd h
 one-width (suc m) n zero q (r ∷ A) e h k = absurd k
 one-width (suc m) n (suc p) q (r ∷ A) e h k = sym h.0 ∙ k.0
 
-block-block_at : (o : Option Block) (m : Option Mark) → is_some (stored_block o m) ≡ true → is_some o ≡ true
+pub block-block_at : (o : Option Block) (m : Option Mark) → is_some (stored_block o m) ≡ true → is_some o ≡ true
 block-block_at None m e = e
 block-block_at (Some b) m e = e
 
@@ -72,7 +72,7 @@ module _ (K : Ops) (F : IsField K) (v : StoredBlocks) (sound : IsSound v.live v.
 
   -- once the new corners are put and x and y are taken out, the record is applied
   record-image_of : (inverse new_corners : Block) → IsRecord K foot inverse new_corners → (grid first w : StoredBlocks)
-      → AreSteps v grid first w foot.x foot.y foot.left foot.below (matrix_of new_corners)
+      → AreStages v grid first w foot.x foot.y foot.left foot.below (matrix_of new_corners)
       → IsApplied K v foot.x foot.y (matrix_of inverse) foot.left foot.below (matrix_of new_corners) grid first w
   record-image_of inverse new_corners r grid first w steps =
       let a = matrix_of inverse in
@@ -91,13 +91,14 @@ module _ (K : Ops) (F : IsField K) (v : StoredBlocks) (sound : IsSound v.live v.
 
   module _ (inverse new_corners : Block) (r : IsRecord K foot inverse new_corners) (left below : List (ℕ × ℕ))
       (on_left : left ≡ foot.left) (is_below : below ≡ foot.below)
-      (grid first w : StoredBlocks) (steps : AreSteps v grid first w foot.x foot.y left below (matrix_of new_corners))
+      (grid first w : StoredBlocks) (steps : AreStages v grid first w foot.x foot.y left below (matrix_of new_corners))
     where
-      applied : IsApplied K v foot.x foot.y (matrix_of inverse) foot.left foot.below (matrix_of new_corners) grid first w
+      applied : IsApplied K v foot.x foot.y (matrix_of inverse) foot.left foot.below (matrix_of new_corners) grid first
+          w
       applied =
           record-image_of inverse new_corners r grid first w
-          (subst (λ l. AreSteps v grid first w foot.x foot.y l foot.below (matrix_of new_corners)) on_left
-          (subst (λ l. AreSteps v grid first w foot.x foot.y left l (matrix_of new_corners)) is_below steps))
+          (subst (λ l. AreStages v grid first w foot.x foot.y l foot.below (matrix_of new_corners)) on_left
+          (subst (λ l. AreStages v grid first w foot.x foot.y left l (matrix_of new_corners)) is_below steps))
 
       pub record-removed : IsRemoval K (complex_in v) foot.x foot.y (matrix_of inverse) (complex_in w)
           × KeepsFlags v foot.x foot.y w

@@ -68,7 +68,8 @@ module _ (v : StoredBlocks) (in_row in_column : List ℕ) (foot : Footprint)
     copy-footprint = record {
       from = refl;
       to = refl;
-      left = λ s. others-has v.live in_row foot.x foot.left h.left_is s ∙ ap (λ b. b && not (s == foot.x)) (h.row_has s);
+      left = λ s.
+          others-has v.live in_row foot.x foot.left h.left_is s ∙ ap (λ b. b && not (s == foot.x)) (h.row_has s);
       below = λ t. others-has v.live in_column foot.y foot.below h.below_is t
           ∙ ap (λ b. b && not (t == foot.y)) (h.column_has t);
       left_sized = h.left_listed.sized;

@@ -36,7 +36,7 @@ live-size live c are h =
       All-get_or (λ l. 1 ≤ l.2) live p.at (0, 0, 0) l are.sizes,
     )
 
--- the pair was not copied: nothing was to be copied_matrix
+-- the pair was not copied: nothing has to be as it was copied
 pub not-both : {A : Type 0} (b : Bool) → b ≡ true → b ≡ false → A
 not-both b e f = let g : true ≡ false = sym e ∙ f in cc
 
@@ -48,9 +48,9 @@ pub both-listed : (foot : Footprint) (s t : ℕ) → has s (keys (sources foot))
     → is_copied foot s t ≡ true
 both-listed foot s t hs ht = ap₂ (λ a b. a && b) hs ht
 
-pub same-kept : (v : StoredBlocks) (foot : Footprint) (s t : ℕ) → is_copied foot s t ≡ true → IsAsCopied v foot s t
+pub same-copied : (v : StoredBlocks) (foot : Footprint) (s t : ℕ) → is_copied foot s t ≡ true → IsAsCopied v foot s t
     → IsSameAt v foot s t
-same-kept v foot s t e k = record { copied = λ _. k; others = λ f _. not-both (is_copied foot s t) e f }
+same-copied v foot s t e k = record { copied = λ _. k; others = λ f _. not-both (is_copied foot s t) e f }
 
 -- a stretch of the first cells is that of all
 segment-take : {T : Type 0} (n : ℕ) (ls : List (ℕ × ℕ)) (xs : List T) (c : ℕ) → has c (keys (take n ls)) ≡ true
@@ -136,14 +136,14 @@ least-first c m ls r low first k h = elim (cell-of c ls k h) [
       )
 ]
 
--- cells that are copied_matrix up to a place of a list
-pub each-kept : (there all : List ℕ) → ((i : ℕ) → i < length there → has (get_or there i 0) all ≡ true) → (c : ℕ)
+-- cells that are as listed up to a place of a list
+pub each-among : (there all : List ℕ) → ((i : ℕ) → i < length there → has (get_or there i 0) all ≡ true) → (c : ℕ)
     → has c there ≡ true → has c all ≡ true
-each-kept there all h c m = let p = place_of there c m in subst (λ k. has k all ≡ true) p.is (h p.at p.inside)
+each-among there all h c m = let p = place_of there c m in subst (λ k. has k all ≡ true) p.is (h p.at p.inside)
 
-pub before-kept : (there all : List ℕ) (i : ℕ) → IsRising there → ((j : ℕ) → j < i → has (get_or there j 0) all ≡ true)
+pub before-among : (there all : List ℕ) (i : ℕ) → IsRising there → ((j : ℕ) → j < i → has (get_or there j 0) all ≡ true)
     → (c : ℕ) → has c there ≡ true → c < get_or there i 0 → has c all ≡ true
-before-kept there all i r h c m u =
+before-among there all i r h c m u =
     let p = place_of there c m in
     elim (cases_lt p.at i) [
       | inl k ↦ subst (λ k. has k all ≡ true) p.is (h p.at k)
@@ -311,24 +311,8 @@ taken-rises_as n ls all e r = subst (λ ls. IsRising (keys (take n ls))) (sym e)
 pub taken-width_as : (n m : ℕ) (ls all : List (ℕ × ℕ)) → ls ≡ all → m ≡ width all → width (take n ls) ≤ m
 taken-width_as n m ls all e w = subst (λ ls. width (take n ls) ≤ m) (sym e) (omega (arith, width-take all n))
 
-taken-first : {T : Type 0} (k i : ℕ) (x d : T) → i < length (take k (x ∷ [])) → get_or (take k (x ∷ [])) i d ≡ x
-taken-first zero i x d l = absurd (omega arith)
-taken-first (suc k) zero x d l = refl
-taken-first {T} (suc k) (suc i) x d l = absurd (omega (arith, length-take {A = T} k []))
-
 -- a list of one cell, as far as that is live with a size
 module _ (live : List (ℕ × ℕ × ℕ)) (k c n : ℕ) where
-  pub taken-rises : IsRising (keys (take k ((c, n) ∷ [])))
-  taken-rises = rising-take k ((c, n) ∷ []) (one-rises c)
-
-  pub taken-width : width (take k ((c, n) ∷ [])) ≤ n
-  taken-width = omega (arith, width-take ((c, n) ∷ []) k)
-
-  pub taken-sized : (0 < k → IsSized live c n) → AreSized live (take k ((c, n) ∷ []))
-  taken-sized h = All-from_get_or (λ l. IsSized live l.0 l.1) (take k ((c, n) ∷ [])) (0, 0) (λ i l.
-      subst (λ (l : ℕ × ℕ). IsSized live l.0 l.1) (sym (taken-first k i (c, n) (0, 0) l))
-      (h (omega (arith, length-take {A = ℕ × ℕ} k ((c, n) ∷ [])))))
-
   pub taken-same : (0 < k → IsSized live c n) → take {A = ℕ × ℕ} k ((c, size_of live c) ∷ []) ≡ take k ((c, n) ∷ [])
   taken-same h = elim (cases_lt 0 k) [
     | inl l ↦ ap (λ m. take k ((c, m) ∷ [])) (h l).1
@@ -341,10 +325,10 @@ module _ (v : StoredBlocks) (foot : Footprint) where
   abbrev Same : ℕ → ℕ → Type 0
   Same = IsSameAt v foot
 
-  pub kept-at : (s t : ℕ) (a b : Bool) → eqb s foot.x ≡ a → eqb t foot.y ≡ b
+  pub copied-at : (s t : ℕ) (a b : Bool) → eqb s foot.x ≡ a → eqb t foot.y ≡ b
       → copied_matrix foot s t ≡ cond a (cond b (matrix_of foot.pivot) (segment foot.below (matrix_of foot.column) t))
       (cond b (columns_of foot.left (matrix_of foot.row) s) (part foot.left foot.below (matrix_of foot.corners) s t))
-  kept-at s t a b e f =
+  copied-at s t a b e f =
       ap₂ (λ a b. cond a (cond b (matrix_of foot.pivot) (segment foot.below (matrix_of foot.column) t))
       (cond b (columns_of foot.left (matrix_of foot.row) s) (part foot.left foot.below (matrix_of foot.corners) s t))) e
       f
@@ -377,7 +361,7 @@ module _ (v : StoredBlocks) (foot : Footprint) where
   found-joined ls bs A o found lies = go o found
     where
       same : (s t : ℕ) → Lies ls bs A s t → part ls bs A s t ≡ matrix v s t → Same s t
-      same s t h e = same-kept v foot s t h.copied (record { from = h.from; to = h.to; matrix_is = sym e ∙ h.part_is })
+      same s t h e = same-copied v foot s t h.copied (record { from = h.from; to = h.to; matrix_is = sym e ∙ h.part_is })
 
       go : (o : Option (ℕ × ℕ)) → MatchOption o (IsJoined v ls bs A) (λ p. IsFirstOther v ls bs A p.0 p.1)
           → Found Same (Within ls bs) o
@@ -415,7 +399,7 @@ module _ (v : StoredBlocks) (foot : Footprint) where
       part_is =
           ap (map (λ row. segment (take m foot.left) row s)) (segment-take n foot.below (matrix_of foot.corners) t ht)
           ∙ segments-take m foot.left (segment foot.below (matrix_of foot.corners) t) s hs
-          ∙ sym (kept-at s t false false (not_x s (has-take m foot.left s hs)) (not_y t (has-take n foot.below t ht)));
+          ∙ sym (copied-at s t false false (not_x s (has-take m foot.left s hs)) (not_y t (has-take n foot.below t ht)));
     }
 
     pub lies-row : (k : ℕ) → (0 < k → IsSized v.live foot.y foot.pivot.rows) → (s t : ℕ)
@@ -433,7 +417,7 @@ module _ (v : StoredBlocks) (foot : Footprint) where
           part_is =
               row-part (take m foot.left) foot.y foot.pivot.rows foot.row s foot.parts.row_rows
               ∙ segments-take m foot.left (matrix_of foot.row) s hs
-              ∙ sym (kept-at s foot.y false true (not_x s (has-take m foot.left s hs)) (eq-eqb foot.y foot.y refl));
+              ∙ sym (copied-at s foot.y false true (not_x s (has-take m foot.left s hs)) (eq-eqb foot.y foot.y refl));
         }))
 
     pub lies-column : (k : ℕ) → (0 < k → IsSized v.live foot.x foot.pivot.cols) → (s t : ℕ)
@@ -452,7 +436,7 @@ module _ (v : StoredBlocks) (foot : Footprint) where
           part_is =
               column-part foot.x foot.pivot.cols (take n foot.below) foot.column t foot.parts.column_cols
               ∙ segment-take n foot.below (matrix_of foot.column) t ht
-              ∙ sym (kept-at foot.x t true false (eq-eqb foot.x foot.x refl) (not_y t (has-take n foot.below t ht)));
+              ∙ sym (copied-at foot.x t true false (eq-eqb foot.x foot.x refl) (not_y t (has-take n foot.below t ht)));
         }))
 
     pub lies-pivot : (j k : ℕ) → (0 < j → IsSized v.live foot.x foot.pivot.cols)
@@ -478,7 +462,7 @@ module _ (v : StoredBlocks) (foot : Footprint) where
           part_is =
               row-part ((foot.x, foot.pivot.cols) ∷ []) foot.y foot.pivot.rows foot.pivot foot.x refl
               ∙ columns-one foot.x foot.pivot.cols foot.pivot refl
-              ∙ sym (kept-at foot.x foot.y true true (eq-eqb foot.x foot.x refl) (eq-eqb foot.y foot.y refl));
+              ∙ sym (copied-at foot.x foot.y true true (eq-eqb foot.x foot.x refl) (eq-eqb foot.y foot.y refl));
         }))))
 
   -- the pairs that were copied and whose cells are reached lie in one of the four

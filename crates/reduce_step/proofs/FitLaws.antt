@@ -24,7 +24,7 @@ use Rattle.reduce_step.specs.Footprints.{IsFootprint}
 use Rattle.reduce_step.specs.Differences.{sources, targets, Fits, IsAsCopied, IsSized}
 use Rattle.reduce_step.proofs.PartLaws.{row-part, column-part}
 use Rattle.reduce_step.proofs.DifferenceLaws.{not-both, and_false, live-size, both-listed, listed-one, listed-too}
-use Rattle.reduce_step.proofs.DifferenceLaws.{sized-one, all-sized, one-of, kept-at, not_x, not_y}
+use Rattle.reduce_step.proofs.DifferenceLaws.{sized-one, all-sized, one-of, copied-at, not_x, not_y}
 
 zeros-zero : (n : ℕ) → list_all (λ a. a == 0) (zeros n) ≡ true
 zeros-zero zero = refl
@@ -35,8 +35,8 @@ zero_matrix-zero zero n = refl
 zero_matrix-zero (suc m) n = ap₂ (λ a b. a && b) (zeros-zero n) (zero_matrix-zero m n)
 
 -- a matrix that is not zero is that of a block
-nonzero-block_at : (K : Ops) (v : StoredBlocks) (s t : ℕ) → is_zero (matrix v s t) ≡ false → is_some (block_at v s t)
-    ≡ true
+pub nonzero-block_at : (K : Ops) (v : StoredBlocks) (s t : ℕ) → is_zero (matrix v s t) ≡ false
+    → is_some (block_at v s t) ≡ true
 nonzero-block_at K v s t e = elim (cases_Bool (is_some (block_at v s t))) [
   | inl h ↦ h
   | inr n ↦ not-both (is_zero (matrix v s t))
@@ -82,33 +82,37 @@ module _ (K : Ops) (v : StoredBlocks) (foot : Footprint) (fits : Fits v foot) wh
   y-target : has foot.y (keys (targets foot)) ≡ true
   y-target = listed-one v.live foot.y foot.pivot.rows foot.below foot.parts.below_rises foot.parts.without_y
 
-  kept-pair : (s t : ℕ) → has s (keys (sources foot)) ≡ true → has t (keys (targets foot)) ≡ true
+  copied-pair : (s t : ℕ) → has s (keys (sources foot)) ≡ true → has t (keys (targets foot)) ≡ true
       → IsAsCopied v foot s t
-  kept-pair s t hs ht = (fits s t).copied (both-listed foot s t hs ht)
+  copied-pair s t hs ht = (fits s t).copied (both-listed foot s t hs ht)
 
   x-sized : IsSized v.live foot.x foot.pivot.cols
   x-sized = sized-one v.live foot.x foot.pivot.cols foot.left foot.parts.left_rises foot.parts.without_x
-      (kept-pair foot.x foot.y x-source y-target).from
+      (copied-pair foot.x foot.y x-source y-target).from
 
   y-sized : IsSized v.live foot.y foot.pivot.rows
   y-sized = sized-one v.live foot.y foot.pivot.rows foot.below foot.parts.below_rises foot.parts.without_y
-      (kept-pair foot.x foot.y x-source y-target).to
+      (copied-pair foot.x foot.y x-source y-target).to
 
   pivot-is : matrix v foot.x foot.y ≡ matrix_of foot.pivot
   pivot-is =
-      (kept-pair foot.x foot.y x-source y-target).matrix_is
-      ∙ kept-at v foot foot.x foot.y true true (eq-eqb foot.x foot.x refl) (eq-eqb foot.y foot.y refl)
+      (copied-pair foot.x foot.y x-source y-target).matrix_is
+      ∙ copied-at v foot foot.x foot.y true true (eq-eqb foot.x foot.x refl) (eq-eqb foot.y foot.y refl)
 
   row-is : (s : ℕ) → has s (keys foot.left) ≡ true → matrix v s foot.y ≡ columns_of foot.left (matrix_of foot.row) s
   row-is s h =
-      (kept-pair s foot.y (source s h) y-target).matrix_is ∙ kept-at v foot s foot.y false true (not_x v foot s h)
+      (copied-pair s foot.y (source s h) y-target).matrix_is ∙ copied-at v foot s foot.y false true (not_x v foot s h)
       (eq-eqb foot.y foot.y refl)
 
   column-is : (t : ℕ) → has t (keys foot.below) ≡ true → matrix v foot.x t ≡ segment foot.below (matrix_of foot.column)
       t
   column-is t h =
-      (kept-pair foot.x t x-source (target t h)).matrix_is
-      ∙ kept-at v foot foot.x t true false (eq-eqb foot.x foot.x refl) (not_y v foot t h)
+      (copied-pair foot.x t x-source (target t h)).matrix_is
+      ∙ copied-at v foot foot.x t true false (eq-eqb foot.x foot.x refl) (not_y v foot t h)
+
+  -- the pivot's cells have as many coordinates
+  pub fit-square : size_of v.live foot.y ≡ size_of v.live foot.x
+  fit-square = y-sized.1 ∙ foot.parts.square ∙ sym x-sized.1
 
   pub fit-footprint : IsFootprint v foot.x foot.y foot
   fit-footprint = record {
@@ -124,9 +128,9 @@ module _ (K : Ops) (v : StoredBlocks) (foot : Footprint) (fits : Fits v foot) wh
         ∙ and_false (has foot.x (keys (sources foot))))
         (record { from = x-sized.0; to = y-sized.0; beside = inl refl }));
     left_sized = all-sized v.live foot.x foot.pivot.cols foot.left foot.parts.left_rises foot.parts.without_x
-        (λ s h. (kept-pair s foot.y (source s h) y-target).from);
+        (λ s h. (copied-pair s foot.y (source s h) y-target).from);
     below_sized = all-sized v.live foot.y foot.pivot.rows foot.below foot.parts.below_rises foot.parts.without_y
-        (λ t h. (kept-pair foot.x t x-source (target t h)).to);
+        (λ t h. (copied-pair foot.x t x-source (target t h)).to);
     pivot = sym pivot-is;
     row = subst (λ n. IsJoined v foot.left ((foot.y, n) ∷ []) (matrix_of foot.row)) (sym y-sized.1) (λ s t hs ht.
         subst (λ t. part foot.left ((foot.y, foot.pivot.rows) ∷ []) (matrix_of foot.row) s t ≡ matrix v s t)
@@ -137,7 +141,7 @@ module _ (K : Ops) (v : StoredBlocks) (foot : Footprint) (fits : Fits v foot) wh
         (one-of foot.x s hs)
         (column-part foot.x foot.pivot.cols foot.below foot.column t foot.parts.column_cols ∙ sym (column-is t ht)));
     corners = λ s t hs ht.
-        sym ((kept-pair s t (source s hs) (target t ht)).matrix_is ∙ kept-at v foot s t false false (not_x v foot s hs)
+        sym ((copied-pair s t (source s hs) (target t ht)).matrix_is ∙ copied-at v foot s t false false (not_x v foot s hs)
         (not_y v foot t ht));
   }
 

@@ -9,5 +9,6 @@ pub mod FitLaws
 pub mod JoinedParts
 pub mod JoinedCorners
 pub mod JoinedScalars
-pub mod HeldLaws
+pub mod PairwiseRemoval
 pub mod AppliedLaws
+pub mod LogLaws

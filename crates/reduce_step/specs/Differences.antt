@@ -51,12 +51,12 @@ pub record IsBeside (v : StoredBlocks) (foot : Footprint) (s t : ℕ) : Type 0 w
   pub to : has foot.y (cells v.live) ≡ true
   pub beside : (s ≡ foot.x) ⊎ (t ≡ foot.y)
 
--- at the pair nothing differs: what was copied is copied_matrix; beside x and y no block stands that was not copied
+-- at the pair nothing differs: what was copied is as it was; beside x and y no block stands that was not copied
 pub record IsSameAt (v : StoredBlocks) (foot : Footprint) (s t : ℕ) : Type 0 where
   pub copied : is_copied foot s t ≡ true → IsAsCopied v foot s t
   pub others : is_copied foot s t ≡ false → IsBeside v foot s t → is_some (block_at v s t) ≡ false
 
--- nothing differs from what was copied_matrix
+-- nothing differs from what was copied
 abbrev pub Fits : StoredBlocks → Footprint → Type 0
 Fits v foot = (s t : ℕ) → IsSameAt v foot s t
 

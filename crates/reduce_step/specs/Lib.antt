@@ -4,3 +4,5 @@ pub mod Records
 pub mod Finishes
 pub mod Differences
 pub mod Steps
+pub mod Logs
+pub mod Laws

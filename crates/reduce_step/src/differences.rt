@@ -1,8 +1,10 @@
-ghost use Rattle.std.specs.Prelude.{◌≡◌, ◌<◌, ◌≤◌, ◌↔◌, ◌∷◌, ◌⊎◌, ℕ, true, false, length, option_map, slice_index_or, take, IsTrue, MatchResult};
+ghost use Rattle.std.specs.Prelude.{◌≡◌, ◌<◌, ◌≤◌, ◌↔◌, ◌∷◌, ◌⊎◌, ℕ, true, false, IsTrue, MatchResult};
+ghost use Rattle.std.specs.Prelude.{length, option_map, slice_index_or, take};
 ghost use Rattle.rising_lists.specs.Rising.{IsRising, has, keys};
 ghost use Rattle.block_complexes.specs.BlockComplexes.{cells};
 ghost use Rattle.block_sparse.specs.Grids.{AreSized};
-ghost use Rattle.reduce_step.specs.Differences.{Found, FoundResized, FoundUnlisted, IsBefore, IsEarlier, IsGained, IsReached, IsResized, IsSized, IsSameAt};
+ghost use Rattle.reduce_step.specs.Differences.{Found, FoundResized, FoundUnlisted, IsBefore, IsEarlier};
+ghost use Rattle.reduce_step.specs.Differences.{IsGained, IsReached, IsResized, IsSized, IsSameAt};
 
 use crate::footprint::Footprint;
 use crate::record::Record;
@@ -10,7 +12,7 @@ use block_grids::first_other;
 use block_sparse::{Blocks, is_listed};
 use dense_blocks::Scalars;
 
-/// A pair of cells at which a block complex differs from what was kept.
+/// A pair of cells at which a block complex differs from what was copied.
 #[derive(Clone, Copy, Debug, PartialEq, Eq)]
 pub struct Differs {
     /// The cell that the block goes from.
@@ -22,7 +24,7 @@ pub struct Differs {
 impl<F: Scalars> Record<F> {
     ghost use Rattle.reduce_step.specs.Differences.{Fits, IsFirstDifference};
 
-    /// Whether the blocks are still those that were kept; else the first pair at which something differs, by `s` and
+    /// Whether the blocks are still those that were copied; else the first pair at which something differs, by `s` and
     /// then by `t`.
     ///
     /// Something differs at a pair that was copied where one of the cells is not live with its size, or another matrix
@@ -31,7 +33,8 @@ impl<F: Scalars> Record<F> {
     /// lists, and of row `y` and column `x`; and one step for each block in the rows of the cells below, for each pair
     /// copied, and for each entry.
     pub fn fits(&self, b: &Blocks) -> Result<(), Differs>
-        ensures { MatchResult result (λ _. Fits b.now self.now.foot) (λ d. IsFirstDifference b.now self.now.foot d.s d.t) }
+        ensures { MatchResult result (λ _. Fits b.now self.now.foot)
+            (λ d. IsFirstDifference b.now self.now.foot d.s d.t) }
     {
         match first_difference(&self.foot, b) {
             None => Ok(()),
@@ -119,7 +122,8 @@ fn resized_cell(b: &Blocks, c: u32, size: u32, listed: &[(u32, u8)]) -> Option<u
 fn count_live(b: &Blocks, listed: &[(u32, u8)]) -> usize
     ensures within { result ≤ length listed.now }
     ensures live { AreSized b.now.live (take result listed.now) }
-    ensures other { result < length listed.now → IsSized b.now.live (slice_index_or listed.now result (0, 0)).0 (slice_index_or listed.now result (0, 0)).1 → ⊥ }
+    ensures other { result < length listed.now → IsSized b.now.live
+        (slice_index_or listed.now result (0, 0)).0 (slice_index_or listed.now result (0, 0)).1 → ⊥ }
 {
     for (i, cell) in listed.iter().enumerate() {
         if !is_live_as(b, cell.0, u32::from(cell.1)) {
@@ -165,7 +169,7 @@ fn unlisted(cells: &[u32], but: u32, listed: &[(u32, u8)]) -> Option<u32>
     ensures { FoundUnlisted cells.now (but ∷ keys listed.now) result }
 {
     for c in cells {
-        if !is_kept(*c, but, listed) {
+        if !is_among(*c, but, listed) {
             return Some(*c);
         }
     }
@@ -173,7 +177,7 @@ fn unlisted(cells: &[u32], but: u32, listed: &[(u32, u8)]) -> Option<u32>
 }
 
 /// Whether the cell is the one given or listed.
-fn is_kept(c: u32, but: u32, listed: &[(u32, u8)]) -> bool
+fn is_among(c: u32, but: u32, listed: &[(u32, u8)]) -> bool
     requires { IsRising (keys listed.now) }
     ensures { result ≡ has c (but ∷ keys listed.now) }
 {

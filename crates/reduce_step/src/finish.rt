@@ -132,7 +132,8 @@ fn new_corners<F: Scalars>(
 ) -> Result<Block, NoMemory>
     requires over { IsOverField (F.ops f.now) foot.now }
     requires inverse { IsInverseBlock (F.ops f.now) foot.now.pivot inverse.now }
-    ensures block { IfOk result (λ c. IsBlock c foot.now.corners.rows foot.now.corners.cols (reduced (F.ops f.now) foot.now (matrix_of inverse.now))) }
+    ensures block { IfOk result (λ c. IsBlock c foot.now.corners.rows foot.now.corners.cols
+        (reduced (F.ops f.now) foot.now (matrix_of inverse.now))) }
     ensures scalars { IfOk result (λ c. AllScalars (F.ops f.now) c.entries) }
 {
     let moved = product(alloc, f, inverse, &foot.row)?;

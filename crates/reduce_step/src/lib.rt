@@ -1,21 +1,15 @@
 //! One step of a reduction of a block complex: what a pair of cells touches, and what its removal would make of that.
 #![tactic(auto)]
 
-#[cfg(test)]
-mod apply_tests;
 mod differences;
 mod finish;
-#[cfg(test)]
-mod fits_tests;
 mod footprint;
+mod laws;
 mod record;
 mod removal;
-#[cfg(test)]
-mod samples;
-#[cfg(test)]
-mod tests;
 
 pub use differences::Differs;
 pub use finish::Finish;
 pub use footprint::Footprint;
+pub use laws::{steps_are_one_more, steps_are_removals, steps_keep_same};
 pub use record::{Record, Step};

@@ -1,3 +1,4 @@
+ghost use Rattle.std.specs.Prelude.{◌≡◌};
 ghost use Rattle.reduce_step.specs.Parts.{AreFootprintParts};
 
 use crate::footprint::Footprint;
@@ -44,11 +45,13 @@ pub struct Step {
     pub below: Listed<(u32, u8)>,
     /// The square block from `x` to `y`.
     pub pivot: Block,
-    /// Its inverse.
+    /// Its inverse, of the same shape.
     pub inverse: Block,
     /// The joined matrix of the blocks from the cells on the left to `y`.
     pub row: Block,
     /// The joined matrix of the blocks from `x` to the cells below.
     pub column: Block,
     pub ghost parts: { AreFootprintParts x y left below pivot row column },
+    pub ghost inverse_rows: { inverse.rows ≡ pivot.rows },
+    pub ghost inverse_cols: { inverse.cols ≡ pivot.cols },
 }

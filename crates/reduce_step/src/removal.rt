@@ -5,6 +5,8 @@ ghost use Rattle.removals.specs.Removals.{IsRemoval};
 ghost use Rattle.block_sparse.specs.Flags.{KeepsFlags};
 ghost use Rattle.reduce_step.specs.Differences.{Fits};
 ghost use Rattle.reduce_step.specs.Steps.{IsStepOf};
+ghost use Rattle.reduce_step.specs.Logs.{IsStepFrom};
+ghost use Rattle.reduce_step.specs.declared.record.Step.{Step};
 ghost use Rattle.block_sparse.specs.StoredBlocks.{complex_in};
 
 use crate::footprint::Footprint;
@@ -23,9 +25,11 @@ impl<F: Scalars> Record<F> {
     pub fn apply(self, b: &mut Blocks) -> Result<Step, (Record<F>, NoMemory)>
         requires fits { Fits b.old self.foot }
         requires over { IsBlockComplex (F.ops self.f) (complex_in b.old) }
-        ensures removal { OnOk result (IsRemoval (F.ops self.f) (complex_in b.old) self.foot.x self.foot.y (matrix_of self.inverse) (complex_in b.new)) }
+        ensures removal { OnOk result (IsRemoval (F.ops self.f) (complex_in b.old) self.foot.x self.foot.y
+            (matrix_of self.inverse) (complex_in b.new)) }
         ensures flags { OnOk result (KeepsFlags b.old self.foot.x self.foot.y b.new) }
         ensures step { IfOk result (IsStepOf self) }
+        ensures step_from { IfOk result (IsStepFrom (F.ops self.f) (complex_in b.old)) }
         ensures err { OnErr result (b.new ≡ b.old) }
         ensures back { IfErr result (λ e. e.0 ≡ self) }
     {
@@ -39,8 +43,11 @@ impl<F: Scalars> Record<F> {
     fn remove(&self, b: &mut Blocks) -> Result<(), NoMemory>
         requires fits { Fits b.old self.now.foot }
         requires over { IsBlockComplex (F.ops self.now.f) (complex_in b.old) }
-        ensures removed { OnOk result (IsRemoval (F.ops self.now.f) (complex_in b.old) self.now.foot.x self.now.foot.y (matrix_of self.now.inverse) (complex_in b.new)
+        ensures removed { OnOk result (IsRemoval (F.ops self.now.f) (complex_in b.old) self.now.foot.x self.now.foot.y
+            (matrix_of self.now.inverse) (complex_in b.new)
             × KeepsFlags b.old self.now.foot.x self.now.foot.y b.new) }
+        ensures step_from { OnOk result ((step : Step) → IsStepOf self.now step
+            → IsStepFrom (F.ops self.now.f) (complex_in b.old) step) }
         ensures err { OnErr result (b.new ≡ b.old) }
     {
         let _live = b.live();

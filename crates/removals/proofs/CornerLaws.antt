@@ -1,4 +1,4 @@
--- The matrices of a block complex, and of what is left of it live_without a pair of cells.
+-- The matrices of a block complex, and of what is left of it without a pair of cells.
 use Rattle.std.proofs.Common.{◌≡◌, ℕ, Bool, true, false, cond, not, ◌||◌, ◌&&◌, refl, sym, ap, ap₂, ◌∙◌, subst, arith}
 use Rattle.std.proofs.Common.{◌⊎◌, inl, inr, List, [], ◌∷◌, filter, eqb, Option, None}
 use Rattle.std.proofs.lemmas.Bool.{eq-eqb, ne_eqb, cases_eq}

@@ -1,11 +1,11 @@
--- Several removals: what they keep, that they leave one block complex at most, and one removal more.
-use Rattle.std.proofs.Common.{ℕ, List, [], ◌∷◌, ◌++◌, subst}
+-- Several removals: what they keep, and that they leave one block complex at most.
+use Rattle.std.proofs.Common.{ℕ, List, [], ◌∷◌, subst}
 use Rattle.dense_blocks.specs.Field.{Ops}
 use Rattle.dense_blocks.specs.Matrices.{IsMatrix}
 use Rattle.dense_blocks.proofs.Shapes.{to_matrix}
 use Rattle.dense_blocks.proofs.MatrixLaws.{inverse-unique}
 use Rattle.block_complexes.specs.BlockComplexes.{BlockComplex, HaveSameMatrices, size_of}
-use Rattle.block_complexes.proofs.SameLaws.{same-refl, same-sym, same-trans, same-block_complex, same-differential}
+use Rattle.block_complexes.proofs.SameLaws.{same-sym, same-trans, same-block_complex, same-differential}
 use Rattle.removals.specs.Removals.{IsRemoval}
 use Rattle.removals.specs.Reductions.{IsAfter}
 use Rattle.removals.specs.Laws.{RemovalsKeepAll, RemovalsLeaveOne}
@@ -24,31 +24,12 @@ removals_keep_all K v w (p ∷ pairs) F is after =
       differential = λ closed. rest.differential (removal_keeps_differential K v m p.0 p.1 a F is after.2 closed);
     }
 
--- from the same block complex, and to the same
+-- from the same block complex
 pub after-same-before : (K : Ops) (v m w : BlockComplex) (pairs : List (ℕ × ℕ)) → HaveSameMatrices v m
     → IsAfter K v pairs w → IsAfter K m pairs w
 after-same-before K v m w [] h after = same-trans m v w (same-sym v m h) after
 after-same-before K v m w (p ∷ pairs) h after =
     (after.0, after.1, removal-same-before K v m p.0 p.1 after.1 after.0 h after.2, after.3)
-
-pub after-same-after : (K : Ops) (v w m : BlockComplex) (pairs : List (ℕ × ℕ)) → HaveSameMatrices w m
-    → IsAfter K v pairs w → IsAfter K v pairs m
-after-same-after K v w m [] h after = same-trans v w m after h
-after-same-after K v w m (p ∷ pairs) h after =
-    (after.0, after.1, after.2, after-same-after K after.0 w m pairs h after.3)
-
--- one removal more
-pub after-more : (K : Ops) (v m w : BlockComplex) (pairs : List (ℕ × ℕ)) (x y : ℕ) (a : List (List ℕ))
-    → IsAfter K v pairs m → IsRemoval K m x y a w
-    → IsAfter K v (pairs ++ (x, y) ∷ []) w
-after-more K v m w [] x y a after removal = (
-  w,
-  a,
-  removal-same-before K m v x y a w (same-sym v m after) removal,
-  same-refl w,
-)
-after-more K v m w (p ∷ pairs) x y a after removal =
-    (after.0, after.1, after.2, after-more K after.0 m w pairs x y a after.3 removal)
 
 pub removals_leave_one : RemovalsLeaveOne
 removals_leave_one K v w m [] F is one other = same-trans w v m (same-sym v w one) other

@@ -14,11 +14,11 @@ corner K v x y a s t =
 abbrev pub is_corner : List (ℕ × ℕ × ℕ) → ℕ → ℕ → ℕ → ℕ → Bool
 is_corner live x y s t = degree_of live s == degree_of live x && degree_of live t == degree_of live y
 
--- live_without the cells x and y
+-- the live cells without x and y
 abbrev pub live_without : List (ℕ × ℕ × ℕ) → ℕ → ℕ → List (ℕ × ℕ × ℕ)
 live_without live x y = filter (λ l. not (l.0 == x || l.0 == y)) live
 
--- w is what is left of v live_without the cells x and y, where a is the inverse of the matrix from x to y: between
+-- w is what is left of v without the cells x and y, where a is the inverse of the matrix from x to y: between
 -- cells that are left, a corner M(s, t) becomes M(s, t) - M(x, t) a M(s, y), and each other matrix stays
 pub record IsRemoval (K : Ops) (v : BlockComplex) (x y : ℕ) (a : List (List ℕ)) (w : BlockComplex) : Type 0 where
   pub pair : AreConsecutive v.live x y

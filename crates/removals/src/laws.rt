@@ -1,4 +1,5 @@
-ghost use Rattle.removals.specs.Laws.{RemovalKeepsBlockComplex, RemovalKeepsDifferential, RemovalKeepsCochainComplex, RemovalsKeepAll, RemovalsLeaveOne};
+ghost use Rattle.removals.specs.Laws.{RemovalKeepsBlockComplex, RemovalKeepsDifferential, RemovalKeepsCochainComplex};
+ghost use Rattle.removals.specs.Laws.{RemovalsKeepAll, RemovalsLeaveOne};
 
 /// A law, with nothing to run: what a removal leaves of a block complex over a field is a block complex over that
 /// field.

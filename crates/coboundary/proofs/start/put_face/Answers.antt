@@ -59,4 +59,4 @@ returns-clause-next g c =
     first-put-more K d.complex d.blocks c.args.place f b c.requires.complex.apart next.face_is next.block_is old
     c.requires.first new
     (λ s t. put s t ∙ ap (λ A. with_block old f.s f.t A s t) is.matrix_is))
-    c.put.ensures.held
+    c.put.ensures.blocks

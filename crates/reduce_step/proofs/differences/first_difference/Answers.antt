@@ -11,9 +11,9 @@ returns c =
     let resized = c.first_resized-resized in
     let other = c.first_changed-other in
     let gained = c.first_gained-gained in
-    let Kept : ℕ → ℕ → Type 0 = λ s t. IsResized v foot s t ⊎ IsReached v foot s t in
-    found-all (IsSameAt v foot) (λ s t. Kept s t ⊎ IsGained v foot s t) (λ _ _. Unit {0}) c.earlier-2.result
-    (found-either (IsSameAt v foot) Kept (IsGained v foot) c.earlier.result gained.result c.earlier-2.result
+    let Copied : ℕ → ℕ → Type 0 = λ s t. IsResized v foot s t ⊎ IsReached v foot s t in
+    found-all (IsSameAt v foot) (λ s t. Copied s t ⊎ IsGained v foot s t) (λ _ _. Unit {0}) c.earlier-2.result
+    (found-either (IsSameAt v foot) Copied (IsGained v foot) c.earlier.result gained.result c.earlier-2.result
     c.earlier-2.ensures
     (found-either (IsSameAt v foot) (IsResized v foot) (IsReached v foot) resized.result other.result c.earlier.result
     c.earlier.ensures resized.ensures other.ensures)

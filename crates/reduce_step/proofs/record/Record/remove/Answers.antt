@@ -8,7 +8,11 @@ use Rattle.block_sparse.specs.Flags.{KeepsFlags}
 use Rattle.reduce_step.proofs.AppliedLaws.{listed-degrees}
 use Rattle.reduce_step.specs.Differences.{Fits}
 use Rattle.reduce_step.proofs.ApplyLaws.{record-removed}
-use Rattle.reduce_step.proofs.FitLaws.{fit-footprint, fit-stands}
+use Rattle.reduce_step.proofs.FitLaws.{fit-footprint, fit-square, fit-stands}
+use Rattle.reduce_step.proofs.LogLaws.{step-from}
+use Rattle.reduce_step.specs.declared.record.Step.{Step}
+use Rattle.reduce_step.specs.Steps.{IsStepOf}
+use Rattle.reduce_step.specs.Logs.{IsStepFrom}
 use Rattle.reduce_step.proofs.record.Record.remove.Goals as goal
 use Rattle.block_sparse.specs.StoredBlocks.{complex_in}
 
@@ -61,9 +65,24 @@ returns-clause-removed g c =
     c.set_grid.new.self c.remove_cell.new.self w
     (record {
       grid_live = c.in_ok-set_grid.ensures.live;
-      grid_held = c.in_ok-set_grid.ensures.held;
+      grid_blocks = c.in_ok-set_grid.ensures.held;
       first_live = c.remove_cell.ensures.live;
-      first_held = c.remove_cell.ensures.held;
+      first_blocks = c.remove_cell.ensures.held;
       second_live = c.remove_cell-2.ensures.live;
-      second_held = c.remove_cell-2.ensures.held;
+      second_blocks = c.remove_cell-2.ensures.held;
     }))
+
+pub returns-clause-step_from : goal.returns-clause-step_from
+returns-clause-step_from g c =
+    let v = c.args.b.now in
+    let r = c.self.inside in
+    let K = g.F.Scalars.ops r.f in
+    let fits = subst (λ r. Fits v r.foot) (sym c.self.view_is) c.requires.fits in
+    let sound = c.live-live.ensures.sound in
+    let inverse_is = c.self.invariant.inverse_is in
+    subst (λ r. (step : Step) → IsStepOf r step → IsStepFrom (g.F.Scalars.ops r.f) (complex_in v) step) c.self.view_is
+    (step-from K v sound (record { f = r.f; foot = r.foot; inverse = r.inverse; new_corners = r.new_corners })
+    inverse_is (fit-footprint K v r.foot fits)
+    (fit-stands K v r.foot fits (g.met.F.Scalars.is_field r.f) (matrix_of r.inverse) sound.live_cells
+    inverse_is.inverse)
+    (fit-square K v r.foot fits))
