@@ -52,7 +52,7 @@ written-more c script events i event start old new h more next =
     ∙ ap lines_text (sym (client_lines-more c script [] (take i events) event))
     ∙ ap (λ es. lines_text (client_lines c script [] es)) (sym next))
 
--- the event ends the command after those that have ended_count
+-- the event ends the command after those that have ended
 pub number_of-ends : (c : ℕ) (events : List Event) (event : Event) → ends_for c event ≡ true
     → command_number events event ≡ ended_count c events + 1
 number_of-ends c events (Edit d verdict) h = ap (λ k. ended_count k events + 1) (eqb-true d c h)

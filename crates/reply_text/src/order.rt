@@ -45,7 +45,8 @@ fn count_event(counts: &mut Vec<u32>, event: &Event)
     requires known { IfSome (client_of event.now) (λ c. c < length counts.old.items) }
     requires fits { All (λ n. n + 1 < 2 ^ 32) counts.old.items }
     ensures len { length counts.new.items ≡ length counts.old.items }
-    ensures counted { (events : List Event) → AreCounted events counts.old.items → AreCounted (events ++ event.now ∷ []) counts.new.items }
+    ensures counted { (events : List Event) → AreCounted events counts.old.items
+        → AreCounted (events ++ event.now ∷ []) counts.new.items }
 {
     if let Some(c) = ender_of(event) {
         counts[c as usize] += 1;

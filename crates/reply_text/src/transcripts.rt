@@ -62,7 +62,8 @@ impl Counts {
     fn after(self, client: u32, event: &Event) -> Counts
         requires ended_fits { self.ended + 1 < 2 ^ 32 }
         requires standing_fits { self.standing + 1 < 2 ^ 32 }
-        ensures { (events : List Event) → IsCountOf client events self → IsCountOf client (events ++ event.now ∷ []) result }
+        ensures { (events : List Event) → IsCountOf client events self
+            → IsCountOf client (events ++ event.now ∷ []) result }
     {
         let ended = self.ended + u32::from(ends_for(client, event));
         let standing = self.standing + u32::from(is_accepted(event));
@@ -81,7 +82,8 @@ impl Counts {
     /// The version that the reply names which the event gives.
     fn version_named(self, event: &Event) -> u32
         requires standing_fits { self.standing + 1 < 2 ^ 32 }
-        ensures { (events : List Event) (c : ℕ) → ends_for c event.now ≡ true → IsCountOf c events self → result ≡ version_named events event.now }
+        ensures { (events : List Event) (c : ℕ) → ends_for c event.now ≡ true → IsCountOf c events self
+            → result ≡ version_named events event.now }
     {
         match event {
             Event::Edit {
@@ -97,7 +99,8 @@ impl Counts {
 
 /// The command at a place of a script, if there is one.
 fn command_at(script: &[Command], place: u32) -> Option<&Command>
-    ensures { MatchOption result (slice_get script.now place ≡ None) (λ command. slice_get script.now place ≡ Some command.now) }
+    ensures { MatchOption result (slice_get script.now place ≡ None)
+        (λ command. slice_get script.now place ≡ Some command.now) }
 {
     script.get(place as usize)
 }
@@ -113,7 +116,8 @@ fn put_answer(
 ) -> Result<(), NoMemory>
     requires ended_fits { counts.ended + 1 < 2 ^ 32 }
     requires standing_fits { counts.standing + 1 < 2 ^ 32 }
-    requires answers { ends_for client event.now ≡ true → IfPresent (slice_get script.now counts.ended) (λ command. IsAnswerTo command event.now) }
+    requires answers { ends_for client event.now ≡ true
+        → IfPresent (slice_get script.now counts.ended) (λ command. IsAnswerTo command event.now) }
     ensures { (events : List Event) → IsCountOf client events counts →
         OnOk result (out.new.items ≡ out.old.items ++ lines_text (event_lines client script.now events event.now)) }
 {
