@@ -1,4 +1,4 @@
-ghost use Rattle.std.specs.Prelude.{◌≡◌, ℕ, ◌+◌, ◌<◌, ◌≤◌, ◌∷◌, [], ◌++◌, List, Some, None, MatchOption, length, take, slice_get, IfOk, OnOk, codes, true, ◌^◌};
+ghost use Rattle.std.specs.Prelude.{◌≡◌, ℕ, ◌+◌, ◌<◌, ◌≤◌, ◌∷◌, [], ◌++◌, List, Some, None, MatchOption, length, take, slice_get, sum_by, IfOk, OnOk, codes, true, ◌^◌};
 ghost use Rattle.sheaf_words.specs.declared.event.Event.{Event};
 ghost use Rattle.reply_text.specs.Lines.{lines_text};
 ghost use Rattle.reply_text.specs.Replies.{IsAnswerTo};
@@ -140,7 +140,8 @@ fn put_client(
     script: &[Command],
     events: &[Event],
 ) -> Result<(), NoMemory>
-    requires few { length events.now + 1 < 2 ^ 32 }
+    requires few { length script.now + 1 < 2 ^ 32 }
+    requires few_versions { current_version events.now + 1 < 2 ^ 32 }
     requires answers { AreAnswered client script.now events.now }
     ensures { OnOk result (out.new.items ≡ out.old.items ++ lines_text (client_lines client script.now [] events.now)) }
 {
@@ -160,7 +161,8 @@ fn put_part(
     script: &[Command],
     events: &[Event],
 ) -> Result<(), NoMemory>
-    requires few { length events.now + 1 < 2 ^ 32 }
+    requires few { length script.now + 1 < 2 ^ 32 }
+    requires few_versions { current_version events.now + 1 < 2 ^ 32 }
     requires answers { AreAnswered client script.now events.now }
     ensures { OnOk result (out.new.items ≡ out.old.items ++ lines_text (client_part client script.now events.now)) }
 {
@@ -177,7 +179,7 @@ fn put_clients(
     scripts: &[Listed<Command>],
     events: &[Event],
 ) -> Result<(), NoMemory>
-    requires few { length events.now + 1 < 2 ^ 32 }
+    requires few { sum_by length scripts.now + 1 < 2 ^ 32 }
     requires few_clients { length scripts.now < 2 ^ 32 }
     requires of { AreOf scripts.now events.now }
     ensures { OnOk result (out.new.items ≡ out.old.items ++ lines_text (clients_lines 0 scripts.now events.now)) }
@@ -200,7 +202,7 @@ pub fn transcript(
     scripts: &[Listed<Command>],
     events: &[Event],
 ) -> Result<Vec<u8>, NoMemory>
-    requires few { length events.now + 1 < 2 ^ 32 }
+    requires few { sum_by length scripts.now + 1 < 2 ^ 32 }
     requires few_clients { length scripts.now < 2 ^ 32 }
     requires of { AreOf scripts.now events.now }
     ensures { IfOk result (λ text. text.items ≡ transcript scripts.now events.now) }
@@ -208,7 +210,7 @@ pub fn transcript(
     let mut text = Vec::new(alloc);
     put_clients(alloc, &mut text, scripts, events)?;
     text.extend_from_slice(b"order\n")?;
-    put_order(alloc, &mut text, scripts.len(), events)?;
+    put_order(alloc, &mut text, scripts, events)?;
     text.extend_from_slice(b"end\n")?;
     Ok(text)
 }
