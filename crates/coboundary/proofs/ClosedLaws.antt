@@ -133,7 +133,7 @@ module _ (K : Ops) (F : IsField K) (c : CellComplex) (stalks : List ℕ) (blocks
 
   sized : All (λ (u : Cell). (u.size ≡ size u.cell) × (u.degree ≡ slice_index c.dims u.cell)) W.cells
   sized = all-numbered_cells (λ (u : Cell). (u.size ≡ size u.cell) × (u.degree ≡ slice_index c.dims u.cell)) 0 c.dims
-      stalks sheaf.one_each
+      stalks sheaf.stalks_fit.one_each
       (λ i l. let start : i ≡ 0 + i = omega arith in (ap size start, ap (slice_index c.dims) start))
 
   fits : RowsFit W
@@ -160,7 +160,7 @@ module _ (K : Ops) (F : IsField K) (c : CellComplex) (stalks : List ℕ) (blocks
           let fit = face-fits c complex p f is_f in
           let start : f.s ≡ 0 + f.s = omega arith in
           ap (size_at (cells_of W (suc k))) start
-          ∙ size-numbered_cells (suc k) 0 f.s c.dims stalks sheaf.one_each fit.s_is_cell
+          ∙ size-numbered_cells (suc k) 0 f.s c.dims stalks sheaf.stalks_fit.one_each fit.s_is_cell
           (omega (arith, fit.one_up, ap (slice_index c.dims) e)))
 
   -- from the cell s to the cell u

@@ -102,7 +102,7 @@ module _ (K : Ops) (F : IsField K) (c : CellComplex) (stalks : List ℕ) (blocks
 
   live_rises : IsRising (cells v.live)
   live_rises = subst (λ (live : List (ℕ × ℕ × ℕ)). IsRising (cells live)) (sym start.live)
-      (with_stalks-rising c.dims stalks sheaf.one_each)
+      (with_stalks-rising c.dims stalks sheaf.stalks_fit.one_each)
 
   -- a live cell has a stalk, which is as large as the cell, and its degree
   record IsAlive (t : ℕ) : Type 0 where
@@ -119,7 +119,7 @@ module _ (K : Ops) (F : IsField K) (c : CellComplex) (stalks : List ℕ) (blocks
       (All-filter has_coordinates (λ (u : Cell). (u.cell < length c.dims) × (u.size ≡ size u.cell)
       × (u.degree ≡ slice_index c.dims u.cell)) W.cells
       (all-numbered_cells (λ (u : Cell). (u.cell < length c.dims) × (u.size ≡ size u.cell)
-      × (u.degree ≡ slice_index c.dims u.cell)) 0 c.dims stalks sheaf.one_each
+      × (u.degree ≡ slice_index c.dims u.cell)) 0 c.dims stalks sheaf.stalks_fit.one_each
       (λ i l. let same : i ≡ 0 + i = omega arith in (omega arith, ap size same, ap (slice_index c.dims) same)))))
 
   alive : (t : ℕ) → has t (cells v.live) ≡ true → IsAlive t
@@ -273,7 +273,7 @@ module _ (K : Ops) (F : IsField K) (c : CellComplex) (stalks : List ℕ) (blocks
   }
     where
       rising : stalkless.HasRisingCells W.cells
-      rising = numbered_cells-rising 0 c.dims stalks sheaf.one_each
+      rising = numbered_cells-rising 0 c.dims stalks sheaf.stalks_fit.one_each
 
       each : (k : ℕ) (z : List ℕ)
           → All (λ (t : Cell). sum_into K (complex_of v).arrows (value_at (cells_of (complex_of v) k) z) t.size t.cell

@@ -11,7 +11,7 @@ use Rattle.cell_complex.specs.Complexes.{CellComplex}
 use Rattle.square_check.specs.Answers.{IsFirstFailure, is_before}
 use Rattle.square_check.specs.Squares.{Commutes}
 use Rattle.sheaf_data.specs.Sheaves.{SheafData}
-use Rattle.sheaf_words.specs.declared.edit.Set.{Set}
+use Rattle.sheaf_words.specs.declared.edit.Edit.{Edit}
 use Rattle.sheaf_words.specs.declared.edit.Cause.{Cause}
 use Rattle.sheaf_words.specs.declared.edit.Cause.TheVariants.{TotalLimit}
 use Rattle.sheaf_words.specs.declared.edit.Verdict.{Verdict}
@@ -204,9 +204,9 @@ list-unique K c v w l = by (nat_lt 4096 (sum l.stalks))
     by true h k = h ∙ sym k
     by false h k = square-unique K c l.matrices v w h k
 
-pub verdict-unique : {F : Type 0} (K : Ops) (sheaf : SheafData F) (sets : List Set) (v w : Verdict)
-    → IsVerdict K sheaf sets v → IsVerdict K sheaf sets w → v ≡ w
-verdict-unique K sheaf sets v w = by (sets_made K sheaf.complex (sheaf_lists sheaf.stalks sheaf.blocks) 0 sets)
+pub verdict-unique : {F : Type 0} (K : Ops) (sheaf : SheafData F) (edit : Edit) (v w : Verdict)
+    → IsVerdict K sheaf edit v → IsVerdict K sheaf edit w → v ≡ w
+verdict-unique K sheaf edit v w = by (sets_made K sheaf.complex (sheaf_lists sheaf.stalks sheaf.blocks) 0 edit.sets)
   where
     by : (r : Result SheafLists Cause) → MatchResult r (IsListVerdict K sheaf.complex v) (λ cause. v ≡ Refused cause)
         → MatchResult r (IsListVerdict K sheaf.complex w) (λ cause. w ≡ Refused cause) → v ≡ w
@@ -214,10 +214,10 @@ verdict-unique K sheaf sets v w = by (sets_made K sheaf.complex (sheaf_lists she
     by (Err cause) h k = h ∙ sym k
 
 -- an answer that has a verdict tells each verdict
-pub tells : {F : Type 0} (K : Ops) (sheaf : SheafData F) (sets : List Set) (r : Result (Unit {0}) EditFault)
-    → OnOk r (IsVerdict K sheaf sets Accepted)
-    → ((cause : Cause) → IsErrOf r (refused cause) → IsVerdict K sheaf sets (Refused cause)) → (v : Verdict)
-    → IsVerdict K sheaf sets v → Tells r v
-tells K sheaf sets (Ok x) ok err v h = verdict-unique K sheaf sets v Accepted h ok
-tells K sheaf sets (Err (refused cause)) ok err v h = verdict-unique K sheaf sets v (Refused cause) h (err cause refl)
-tells K sheaf sets (Err NoMemory) ok err v h = tt
+pub tells : {F : Type 0} (K : Ops) (sheaf : SheafData F) (edit : Edit) (r : Result (Unit {0}) EditFault)
+    → OnOk r (IsVerdict K sheaf edit Accepted)
+    → ((cause : Cause) → IsErrOf r (refused cause) → IsVerdict K sheaf edit (Refused cause)) → (v : Verdict)
+    → IsVerdict K sheaf edit v → Tells r v
+tells K sheaf edit (Ok x) ok err v h = verdict-unique K sheaf edit v Accepted h ok
+tells K sheaf edit (Err (refused cause)) ok err v h = verdict-unique K sheaf edit v (Refused cause) h (err cause refl)
+tells K sheaf edit (Err NoMemory) ok err v h = tt

@@ -6,7 +6,7 @@ use Rattle.dense_blocks.specs.declared.block.Block.{Block}
 use Rattle.square_check.specs.Answers.{IsFirstFailure}
 use Rattle.square_check.specs.Squares.{Commutes}
 use Rattle.sheaf_data.specs.Sheaves.{SheafData}
-use Rattle.sheaf_words.specs.declared.edit.Set.{Set}
+use Rattle.sheaf_words.specs.declared.edit.Edit.{Edit}
 use Rattle.sheaf_words.specs.declared.edit.Cause.TheVariants.{TotalLimit, Square}
 use Rattle.sheaf_words.specs.declared.edit.Verdict.{Verdict}
 use Rattle.sheaf_words.specs.declared.edit.Verdict.TheVariants.{Accepted, Refused}
@@ -31,14 +31,14 @@ IsListVerdict K c v l = MatchBool (nat_lt 4096 (sum l.stalks)) (v ≡ Refused To
     (IsSquareVerdict K c l.matrices v)
 
 -- the verdict on an edit of a sheaf over the field of K: the first set at fault, else that on what all sets make
-abbrev pub IsVerdict : {F : Type 0} → Ops → SheafData F → List Set → Verdict → Type 0
-IsVerdict K sheaf sets v =
-    MatchResult (sets_made K sheaf.complex (sheaf_lists sheaf.stalks sheaf.blocks) 0 sets)
+abbrev pub IsVerdict : {F : Type 0} → Ops → SheafData F → Edit → Verdict → Type 0
+IsVerdict K sheaf edit v =
+    MatchResult (sets_made K sheaf.complex (sheaf_lists sheaf.stalks sheaf.blocks) 0 edit.sets)
     (IsListVerdict K sheaf.complex v) (λ cause. v ≡ Refused cause)
 
 -- the edited sheaf: what all sets make, over the same complex and field
-pub record IsEdited {F : Type 0} (K : Ops) (old : SheafData F) (sets : List Set) (new : SheafData F) : Type 0 where
+pub record IsEdited {F : Type 0} (K : Ops) (old : SheafData F) (edit : Edit) (new : SheafData F) : Type 0 where
   pub complex : new.complex ≡ old.complex
   pub field : new.field ≡ old.field
-  pub lists : sets_made K old.complex (sheaf_lists old.stalks old.blocks) 0 sets
+  pub lists : sets_made K old.complex (sheaf_lists old.stalks old.blocks) 0 edit.sets
       ≡ Ok (sheaf_lists new.stalks new.blocks)

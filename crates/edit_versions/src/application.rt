@@ -12,7 +12,7 @@ use crate::fault::EditFault;
 use crate::work::Work;
 use dense_blocks::{Listed, Scalars};
 use sheaf_data::{Sheaf, stalks_fit};
-use sheaf_words::{Cause, Edit, Set};
+use sheaf_words::{Cause, Edit};
 use std::alloc::Global;
 
 /// Makes the edit, or refuses it by the verdict on it.
@@ -30,35 +30,35 @@ use std::alloc::Global;
 /// cells, in order, whose square does not commute.
 pub fn apply<F: Scalars>(alloc: Global, sheaf: &mut Sheaf<F>, edit: &Edit) -> Result<(), EditFault>
     requires { length edit.now.sets ≤ 1000000000 }
-    ensures told { (v : Verdict) → IsVerdict (F.ops sheaf.old.field) sheaf.old edit.now.sets v → Tells result v }
-    ensures accepted { OnOk result (IsVerdict (F.ops sheaf.old.field) sheaf.old edit.now.sets Accepted) }
+    ensures told { (v : Verdict) → IsVerdict (F.ops sheaf.old.field) sheaf.old edit.now v → Tells result v }
+    ensures accepted { OnOk result (IsVerdict (F.ops sheaf.old.field) sheaf.old edit.now Accepted) }
     ensures refused { (cause : Cause) → IsErrOf result (EditFault.Refused cause)
-        → IsVerdict (F.ops sheaf.old.field) sheaf.old edit.now.sets (Refused cause) }
+        → IsVerdict (F.ops sheaf.old.field) sheaf.old edit.now (Refused cause) }
 
-    ensures edited { OnOk result (IsEdited (F.ops sheaf.old.field) sheaf.old edit.now.sets sheaf.new) }
+    ensures edited { OnOk result (IsEdited (F.ops sheaf.old.field) sheaf.old edit.now sheaf.new) }
     ensures err { OnErr result (sheaf.new ≡ sheaf.old) }
 {
-    apply_sets(alloc, sheaf, edit.sets.as_slice())
+    apply_sets(alloc, sheaf, edit)
 }
 
 /// Makes all sets, or none.
 fn apply_sets<F: Scalars>(
     alloc: Global,
     sheaf: &mut Sheaf<F>,
-    sets: &[Set],
+    edit: &Edit,
 ) -> Result<(), EditFault>
-    requires { length sets.now ≤ 1000000000 }
-    ensures accepted { OnOk result (IsVerdict (F.ops sheaf.old.field) sheaf.old sets.now Accepted) }
+    requires { length edit.now.sets ≤ 1000000000 }
+    ensures accepted { OnOk result (IsVerdict (F.ops sheaf.old.field) sheaf.old edit.now Accepted) }
     ensures refused { (cause : Cause) → IsErrOf result (EditFault.Refused cause)
-        → IsVerdict (F.ops sheaf.old.field) sheaf.old sets.now (Refused cause) }
-    ensures edited { OnOk result (IsEdited (F.ops sheaf.old.field) sheaf.old sets.now sheaf.new) }
+        → IsVerdict (F.ops sheaf.old.field) sheaf.old edit.now (Refused cause) }
+    ensures edited { OnOk result (IsEdited (F.ops sheaf.old.field) sheaf.old edit.now sheaf.new) }
     ensures err { OnErr result (sheaf.new ≡ sheaf.old) }
 {
     let draft = sheaf.draft();
     let complex = &draft.complex;
     let dims = complex.dims();
     let mut work = Work::of(alloc, draft.stalks.as_slice(), &draft.blocks)?;
-    make_sets(alloc, &draft.field, complex, &mut work, sets)?;
+    make_sets(alloc, &draft.field, complex, &mut work, edit.sets.as_slice())?;
     if !stalks_fit(dims, &work.stalks) {
         return Err(EditFault::Refused(Cause::TotalLimit));
     }

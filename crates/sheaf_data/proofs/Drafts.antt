@@ -97,7 +97,7 @@ pub sheaf-replaced : (K : Ops) (c : CellComplex) (stalks stalks' : List ℕ) (bl
     → ((s u : ℕ) → Commutes K c blocks' s u) → IsSheaf K c stalks' blocks'
 sheaf-replaced K c stalks stalks' blocks blocks' h fits commutes = record {
   regular = h.regular;
-  one_each = fits.stalks_fit.one_each;
+  stalks_fit = fits.stalks_fit;
   restrictions = fits.blocks_fit;
   commutes = commutes;
 }

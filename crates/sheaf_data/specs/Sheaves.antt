@@ -47,10 +47,10 @@ pub record IsDraft (K : Ops) (c : CellComplex) (stalks : List ℕ) (blocks : Lis
   pub stalks_fit : AreStalks c.dims stalks
   pub blocks_fit : AreBlocks K c.faces stalks blocks
 
--- a cellular sheaf: a stalk for each cell, a matrix for each face, and any two ways from a cell to one two dimensions
--- up have one product
+-- a cellular sheaf: regular incidences, a stalk for each cell within the bounds, a matrix for each face, and any two
+-- ways from a cell to one two dimensions up have one product
 pub record IsSheaf (K : Ops) (c : CellComplex) (stalks : List ℕ) (blocks : List Block) : Type 0 where
   pub regular : HasRegularIncidences c
-  pub one_each : length stalks ≡ length c.dims
+  pub stalks_fit : AreStalks c.dims stalks
   pub restrictions : AreBlocks K c.faces stalks blocks
   pub commutes : (s u : ℕ) → Commutes K c blocks s u
