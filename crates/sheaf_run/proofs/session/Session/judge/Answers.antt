@@ -2,8 +2,8 @@ use Rattle.std.proofs.Common.{sym}
 use Rattle.sheaf_run.proofs.ServingLaws.{edited}
 use Rattle.sheaf_run.proofs.session.Session.judge.Goals as goal
 
-pub returns-clause-stands : goal.returns-clause-stands
-returns-clause-stands c = λ scripts start i comes h.
+pub returns-clause-progress : goal.returns-clause-progress
+returns-clause-progress c = λ scripts start i comes h.
     let judged = c.in_ok-verdict.ensures in
     edited scripts start c.args.client i c.args.edit.now c.in_ok-verdict.verdict c.args.self.now c.judged.new.self
     c.self.inside.sheaf c.self.inside.events.items
