@@ -30,7 +30,7 @@ sheaves-edit {F} K scripts c verdict s t field step h = by verdict step.judged s
     by : (w : Verdict) → IsVerdict K step.sheaf step.edit w
         → AreVersionsAfter K step.sheaf step.edit w s.sheaves t.sheaves → All (IsSheafOver K) t.sheaves
     by Accepted judged made =
-        let current = sheaf-at K s.sheaves step.current.0 step.sheaf step.current.2 h in
+        let current = sheaf-at K s.sheaves step.version step.sheaf step.current_sheaf h in
         let edited : IsSheafOver K made.0 = edited_sheaf K step.sheaf made.0 step.edit field current judged made.1 in
         subst (All (IsSheafOver K)) (sym made.2)
         (All-push (IsSheafOver K) s.sheaves made.0 h edited)

@@ -42,14 +42,6 @@ pub record State (F : Type 0) : Type 0 where
 abbrev pub first_state : {F : Type 0} → SheafData F → State F
 first_state sheaf = record { sheaves = sheaf ∷ []; lanes = λ c. free_lane 0; pairs = λ v. None }
 
--- the current version is v, the last; so many edits were accepted
-abbrev pub IsCurrentVersion : {F : Type 0} → State F → ℕ → Type 0
-IsCurrentVersion s v = length s.sheaves ≡ v + 1
-
--- the current version has this sheaf
-abbrev pub IsCurrentSheaf : {F : Type 0} → State F → SheafData F → Type 0
-IsCurrentSheaf s sheaf = (v : ℕ) × IsCurrentVersion s v × (slice_get s.sheaves v ≡ Some sheaf)
-
 -- the command at this place of the script of client c
 abbrev pub command_at : List (List Command) → ℕ → ℕ → Option Command
 command_at scripts c position = option_and_then (λ script. slice_get script position) (slice_get scripts c)
@@ -71,15 +63,18 @@ AreVersionsAfter {F} K sheaf edit Accepted old new = (edited : SheafData F) × I
     × (new ≡ old ++ edited ∷ [])
 AreVersionsAfter K sheaf edit (Refused cause) old new = new ≡ old
 
--- client c has nothing pending and comes to an edit; the verdict is that on it and the current sheaf
+-- client c has nothing pending and comes to an edit; the verdict is that on it and the sheaf of the current version, the
+-- last
 pub record EditStep {F : Type 0} (K : Ops) (scripts : List (List Command)) (c : ℕ) (verdict : Verdict) (s t : State F) :
     Type 0 where
   pub position : ℕ
   pub edit : Change
+  pub version : ℕ
   pub sheaf : SheafData F
   pub is_free : s.lanes c ≡ free_lane position
   pub command : command_at scripts c position ≡ Some (commands.Change edit)
-  pub current : IsCurrentSheaf s sheaf
+  pub current : length s.sheaves ≡ version + 1
+  pub current_sheaf : slice_get s.sheaves version ≡ Some sheaf
   pub judged : IsVerdict K sheaf edit verdict
   pub versions : AreVersionsAfter K sheaf edit verdict s.sheaves t.sheaves
   pub lanes : t.lanes ≡ with_lane s.lanes c (free_lane (position + 1))
@@ -93,7 +88,7 @@ pub record AskStep {F : Type 0} (scripts : List (List Command)) (c : ℕ) (s t :
   pub version : ℕ
   pub is_free : s.lanes c ≡ free_lane position
   pub command : command_at scripts c position ≡ Some (commands.Ask query)
-  pub current : IsCurrentVersion s version
+  pub current : length s.sheaves ≡ version + 1
   pub versions : t.sheaves ≡ s.sheaves
   pub lanes : t.lanes ≡ with_lane s.lanes c (waiting_lane position version)
   pub pairs : t.pairs ≡ with_pairs s.pairs version (unwrap_or (s.pairs version) [])

@@ -35,10 +35,9 @@ due_of_fault d (Noncommuting s u) first = (first.0, (s, u, first.1.fails))
 
 due_of_draft : (job : Job) (d : SheafData Field) (scripts : List (List Command)) (a : Outcome)
     → AnswersDraft job d scripts a → DraftIsDue d a.status
-due_of_draft job d scripts a (inl refused) =
-    subst (DraftIsDue d) (sym (ap (λ (o : Outcome). o.status) refused.is))
-    (due_of_fault d refused.fault refused.first)
-due_of_draft job d scripts a (inr answered) = subst (DraftIsDue d) (sym answered.1.0) answered.0
+due_of_draft job d scripts a (inl (fault, first, is)) =
+    subst (DraftIsDue d) (sym (ap (λ (o : Outcome). o.status) is)) (due_of_fault d fault first)
+due_of_draft job d scripts a (inr (sheaf, done, right)) = subst (DraftIsDue d) (sym done) sheaf
 
 -- the three cases exclude each other
 done_only : (d : SheafData Field) → DraftIsDue d Done → (status : Status) → DraftIsDue d status → Done ≡ status
@@ -125,13 +124,13 @@ done_serves job bytes source_new sink sink_new result a done end sent (readings.
     not_refused (Noncommuting s u) is = cc
 
     by : AnswersDraft job found.0.draft found.0.scripts a → IsServed job bytes source_new sink sink_new
-    by (inl refused) = absurd (not_refused refused.fault (sym (ap (λ (o : Outcome). o.status) refused.is) ∙ done))
-    by (inr (sheaf, right)) = record {
+    by (inl (fault, first, is)) = absurd (not_refused fault (sym (ap (λ (o : Outcome). o.status) is) ∙ done))
+    by (inr (sheaf, status, right)) = record {
       input = found.0;
       good = e ∙ ap readings.Good found.1;
       sheaf = sheaf;
       text = a.text;
-      right = right.1;
+      right = right;
       taken = sent.text;
       flushed = sent.flushed;
       at_end = end;

@@ -19,9 +19,9 @@ use Rattle.sheaf_text.specs.declared.fault.Which.TheVariants as limits
 use Rattle.sheaf_text.proofs.Kept.{reading-long}
 use Rattle.sheaf_words.specs.declared.query.Command.{Command}
 use Rattle.sheaf_run.specs.declared.job.Job.{Job}
-use Rattle.sheaf_run.specs.Answers.{Outcome, IsAnswer, IsTextOf, IsRight, AnswersDraft, AnswersReading, AnswersJob}
+use Rattle.sheaf_run.specs.Answers.{Outcome, IsAnswer, IsTextOf, AnswersDraft, AnswersReading, AnswersJob}
 use Rattle.sheaf_run.specs.Answers.{refusal, bad_line, over_limit}
-use Rattle.sheaf_run.specs.Replies.{Replies}
+use Rattle.sheaf_run.specs.Replies.{IsRight, Replies}
 use Rattle.sheaf_run.specs.Runs.{IsSent, IsRun}
 use Rattle.sheaf_run.specs.Views.{SourceView, SinkView}
 use Rattle.sheaf_run.specs.declared.status.Status.{Status}
@@ -81,7 +81,7 @@ pub replies_refused : (job : Job) (d : SheafData Field) (scripts : List (List Co
     → Replies (AnswersDraft job d scripts) sink sink_new result
 replies_refused job d scripts fault first replies =
     replies_weaker (λ a. a ≡ refusal fault) (AnswersDraft job d scripts)
-    (λ a is. inl (record { fault = fault; first = first; is = is })) replies
+    (λ a is. inl (fault, first, is)) replies
 
 -- nothing was done with bytes that were not read, and what is replied is right for them
 pub run_unread : (IsRight : List ℕ → Outcome → Type 0) (P : Outcome → Type 0) (source source_new : SourceView)

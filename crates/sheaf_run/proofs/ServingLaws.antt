@@ -25,8 +25,7 @@ use Rattle.sheaf_words.specs.declared.event.Event.TheVariants.{Edit, Ask, Reply}
 use Rattle.edit_versions.specs.Verdicts.{IsVerdict, IsEdited}
 use Rattle.core_machine.specs.Replies.{IsRightReply}
 use Rattle.core_machine.specs.Machine.{Lane, State, free_lane, waiting_lane, first_state, command_at, with_lane}
-use Rattle.core_machine.specs.Machine.{with_pairs}
-use Rattle.core_machine.specs.Machine.{IsCurrentSheaf, EditStep, AskStep, ReplyStep, IsLegalAndWhole}
+use Rattle.core_machine.specs.Machine.{with_pairs, EditStep, AskStep, ReplyStep, IsLegalAndWhole}
 use Rattle.core_machine.proofs.CountLaws.{leads-more}
 use Rattle.sheaf_run.specs.Sessions.{Progress, IsSheafAfter, IsJudged, position_of, IsProgress}
 
@@ -81,11 +80,6 @@ position-next scripts c d script there = go (nat_lt d c) (c == d) refl refl
 
 -- ---- steps
 
-current-last : (sheaves : List (SheafData Field)) (lanes : ℕ → Lane) (pairs : ℕ → Option (List (ℕ × ℕ)))
-    (new : SheafData Field)
-    → IsCurrentSheaf (record { sheaves = sheaves ++ new ∷ []; lanes = lanes; pairs = pairs }) new
-current-last sheaves lanes pairs new = (length sheaves, length-append sheaves (new ∷ []), slice_get-last sheaves new)
-
 -- the client's edit is judged
 pub judge-step : (scripts : List (List Command)) (start : SheafData Field) (c i : ℕ) (p : Progress) (e : Change)
     (v : Verdict) (new : SheafData Field)
@@ -107,10 +101,12 @@ judge-step scripts start c i p e v new comes judged h = go v judged.after judged
         let step : EditStep K scripts c Accepted h.state after = record {
           position = i;
           edit = e;
+          version = h.version;
           sheaf = p.sheaf;
           is_free = h.lanes c ∙ ap free_lane (position-here scripts c i);
           command = comes;
           current = h.current;
+          current_sheaf = h.current_sheaf;
           judged = subst (λ f. IsVerdict (ops_of f) p.sheaf e Accepted) h.field is;
           versions = (new, right, refl);
           lanes = refl;
@@ -118,7 +114,9 @@ judge-step scripts start c i p e v new comes judged h = go v judged.after judged
         } in record {
           state = after;
           legal = leads-more K scripts p.events (Edit c Accepted) (first_state start) h.state after h.legal step;
-          current = current-last h.state.sheaves lanes h.state.pairs new;
+          version = length h.state.sheaves;
+          current = length-append h.state.sheaves (new ∷ []);
+          current_sheaf = slice_get-last h.state.sheaves new;
           field = edited.field ∙ h.field;
           lanes = λ d. position-more scripts h.state.lanes c i (i + 1) d (h.lanes d);
         }
@@ -128,10 +126,12 @@ judge-step scripts start c i p e v new comes judged h = go v judged.after judged
         let step : EditStep K scripts c (Refused cause) h.state after = record {
           position = i;
           edit = e;
+          version = h.version;
           sheaf = p.sheaf;
           is_free = h.lanes c ∙ ap free_lane (position-here scripts c i);
           command = comes;
           current = h.current;
+          current_sheaf = h.current_sheaf;
           judged = subst (λ f. IsVerdict (ops_of f) p.sheaf e (Refused cause)) h.field is;
           versions = refl;
           lanes = refl;
@@ -139,7 +139,9 @@ judge-step scripts start c i p e v new comes judged h = go v judged.after judged
         } in record {
           state = after;
           legal = leads-more K scripts p.events (Edit c (Refused cause)) (first_state start) h.state after h.legal step;
-          current = (h.current.0, h.current.1, h.current.2 ∙ ap Some (sym same));
+          version = h.version;
+          current = h.current;
+          current_sheaf = h.current_sheaf ∙ ap Some (sym same);
           field = ap (λ (s : SheafData Field). s.field) same ∙ h.field;
           lanes = λ d. position-more scripts h.state.lanes c i (i + 1) d (h.lanes d);
         }
@@ -156,7 +158,7 @@ pub answer-step : (scripts : List (List Command)) (start : SheafData Field) (c i
     → IsProgress scripts start c (i + 1) (record { sheaf = p.sheaf; events = (p.events ++ Ask c ∷ []) ++ Reply c r ∷ [] })
 answer-step scripts start c i p q r comes right h =
     let K : Ops = ops_of start.field in
-    let v : ℕ = h.current.0 in
+    let v : ℕ = h.version in
     let asking : State Field = record {
       sheaves = h.state.sheaves;
       lanes = with_lane h.state.lanes c (waiting_lane i v);
@@ -173,7 +175,7 @@ answer-step scripts start c i p q r comes right h =
       version = v;
       is_free = h.lanes c ∙ ap free_lane (position-here scripts c i);
       command = comes;
-      current = h.current.1;
+      current = h.current;
       versions = refl;
       lanes = refl;
       pairs = refl;
@@ -185,7 +187,7 @@ answer-step scripts start c i p q r comes right h =
       sheaf = p.sheaf;
       is_waiting = ap (λ b. if b then waiting_lane i v else h.state.lanes c) (eq-eqb c c refl);
       command = comes;
-      asked = h.current.2;
+      asked = h.current_sheaf;
       right = subst (λ f. IsRightOn (ops_of f) p.sheaf q r) h.field right;
       versions = refl;
       lanes = refl;
@@ -194,19 +196,21 @@ answer-step scripts start c i p q r comes right h =
       state = after;
       legal = leads-more K scripts (p.events ++ Ask c ∷ []) (Reply c r) (first_state start) asking after
           (leads-more K scripts p.events (Ask c) (first_state start) h.state asking h.legal ask) reply;
+      version = h.version;
       current = h.current;
+      current_sheaf = h.current_sheaf;
       field = h.field;
       lanes = λ d. over d (c == d) refl ∙ position-more scripts h.state.lanes c i (i + 1) d (h.lanes d);
     }
   where
     over : (d : ℕ) (b : Bool) → (c == d) ≡ b
-        → with_lane (with_lane h.state.lanes c (waiting_lane i h.current.0)) c (free_lane (i + 1)) d
+        → with_lane (with_lane h.state.lanes c (waiting_lane i h.version)) c (free_lane (i + 1)) d
         ≡ with_lane h.state.lanes c (free_lane (i + 1)) d
     over d true e =
-        ap (λ b. if b then free_lane (i + 1) else with_lane h.state.lanes c (waiting_lane i h.current.0) d) e
+        ap (λ b. if b then free_lane (i + 1) else with_lane h.state.lanes c (waiting_lane i h.version) d) e
         ∙ sym (ap (λ b. if b then free_lane (i + 1) else h.state.lanes d) e)
     over d false e =
-        ap (λ b. if b then free_lane (i + 1) else if b then waiting_lane i h.current.0 else h.state.lanes d) e
+        ap (λ b. if b then free_lane (i + 1) else if b then waiting_lane i h.version else h.state.lanes d) e
         ∙ sym (ap (λ b. if b then free_lane (i + 1) else h.state.lanes d) e)
 
 -- ---- first, next and last
@@ -216,7 +220,9 @@ pub first-progress : (scripts : List (List Command)) (start : SheafData Field)
 first-progress scripts start = record {
   state = first_state start;
   legal = refl;
-  current = (0, refl, refl);
+  version = 0;
+  current = refl;
+  current_sheaf = refl;
   field = refl;
   lanes = λ d. ap free_lane
       (sym (ap (λ b. if b then length (slice_index_or scripts d []) else if 0 == d then 0 else 0)
@@ -229,7 +235,9 @@ pub next-progress : (scripts : List (List Command)) (start : SheafData Field) (c
 next-progress scripts start c script p there h = record {
   state = h.state;
   legal = h.legal;
+  version = h.version;
   current = h.current;
+  current_sheaf = h.current_sheaf;
   field = h.field;
   lanes = λ d. h.lanes d ∙ ap free_lane (position-next scripts c d script there);
 }

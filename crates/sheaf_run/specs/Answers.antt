@@ -99,20 +99,11 @@ IsTextOf Check d scripts text =
     text ≡ text_line (codes "good") (length d.complex.dims ∷ length d.complex.faces ∷ length scripts
     ∷ sum_by length scripts ∷ [])
 
--- what a sheaf is answered
-abbrev pub IsRight : Job → SheafData Field → List (List Command) → Outcome → Type 0
-IsRight job d scripts a = (a.status ≡ Done) × IsTextOf job d scripts a.text
-
--- the first fault of a draft is what it is refused with
-pub record IsRefused (d : SheafData Field) (a : Outcome) : Type 0 where
-  pub fault : SealFault
-  pub first : IsFault (ops_of d.field) d.complex d.blocks fault
-  pub is : a ≡ refusal fault
-
--- a sheaf is answered, and a draft that is none is refused
+-- a draft that is no sheaf is refused with its first fault; a sheaf is answered with such a text
 abbrev pub AnswersDraft : Job → SheafData Field → List (List Command) → Outcome → Type 0
 AnswersDraft job d scripts a =
-    IsRefused d a ⊎ (IsSheaf (ops_of d.field) d.complex d.stalks d.blocks × IsRight job d scripts a)
+    ((fault : SealFault) × IsFault (ops_of d.field) d.complex d.blocks fault × (a ≡ refusal fault))
+    ⊎ (IsSheaf (ops_of d.field) d.complex d.stalks d.blocks × (a.status ≡ Done) × IsTextOf job d scripts a.text)
 
 -- a good reading is answered by its draft, and a line that is refused or passes a limit by what is said of it
 abbrev pub AnswersReading : Job → Reading → Outcome → Type 0

@@ -1,5 +1,6 @@
 -- Clients that are served one after the other, on one sheaf that their edits change.
-use Rattle.std.specs.Prelude.{◌≡◌, ℕ, ◌==◌, List, [], Option, IfSome, length, nat_lt, slice_index_or, if◌then◌else◌}
+use Rattle.std.specs.Prelude.{◌≡◌, ℕ, ◌+◌, ◌==◌, List, [], Option, Some, IfSome, length, nat_lt, slice_get}
+use Rattle.std.specs.Prelude.{slice_index_or, if◌then◌else◌}
 use Rattle.field_table.specs.declared.field.Field.{Field}
 use Rattle.field_table.specs.Table.{ops_of}
 use Rattle.sheaf_data.specs.Sheaves.{SheafData}
@@ -10,7 +11,7 @@ use Rattle.sheaf_words.specs.declared.edit.Verdict.{Verdict}
 use Rattle.sheaf_words.specs.declared.edit.Verdict.TheVariants.{Accepted, Refused}
 use Rattle.sheaf_words.specs.declared.event.Event.{Event}
 use Rattle.edit_versions.specs.Verdicts.{IsVerdict, IsEdited}
-use Rattle.core_machine.specs.Machine.{State, free_lane, IsLegal, IsCurrentSheaf}
+use Rattle.core_machine.specs.Machine.{State, free_lane, IsLegal}
 
 -- the current sheaf, and what has happened
 pub record Progress : Type 0 where
@@ -40,6 +41,8 @@ position_of scripts c i d = if nat_lt d c then length (slice_index_or scripts d 
 pub record IsProgress (scripts : List (List Command)) (start : SheafData Field) (c i : ℕ) (p : Progress) : Type 0 where
   pub state : State Field
   pub legal : IsLegal (ops_of start.field) scripts start p.events state
-  pub current : IsCurrentSheaf state p.sheaf
+  pub version : ℕ
+  pub current : length state.sheaves ≡ version + 1
+  pub current_sheaf : slice_get state.sheaves version ≡ Some p.sheaf
   pub field : p.sheaf.field ≡ start.field
   pub lanes : (d : ℕ) → state.lanes d ≡ free_lane (position_of scripts c i d)

@@ -1,7 +1,7 @@
 ghost use Rattle.std.specs.Prelude.{◌≡◌, ◌≤◌, IfOk, length, sum_by};
 ghost use Rattle.sheaf_text.specs.Answers.{AreServable};
-ghost use Rattle.sheaf_run.specs.Answers.{AnswersDraft, IsRight, IsTextOf};
-ghost use Rattle.sheaf_run.specs.Replies.{Replies};
+ghost use Rattle.sheaf_run.specs.Answers.{AnswersDraft, IsTextOf};
+ghost use Rattle.sheaf_run.specs.Replies.{IsRight, Replies};
 ghost use Rattle.sheaf_run.specs.Views.{sink_view};
 ghost use Rattle.sheaf_run.specs.declared.job.Job.TheVariants.{Solve, Check};
 
