@@ -63,8 +63,8 @@ AreVersionsAfter {F} K sheaf edit Accepted old new = (edited : SheafData F) × I
     × (new ≡ old ++ edited ∷ [])
 AreVersionsAfter K sheaf edit (Refused cause) old new = new ≡ old
 
--- client c has nothing pending and comes to an edit; the verdict is that on it and the sheaf of the current version, the
--- last
+-- client c has nothing pending and comes to an edit; the verdict is that on it and the sheaf of the current version,
+-- the last
 pub record EditStep {F : Type 0} (K : Ops) (scripts : List (List Command)) (c : ℕ) (verdict : Verdict) (s t : State F) :
     Type 0 where
   pub position : ℕ

@@ -4,8 +4,11 @@ use std::alloc::Global;
 use std::process::Abort;
 use std::test::Fail;
 
-const CIRCLE: &[u8] =
-    b"field 2\ncell 0 1\ncell 0 1\ncell 0 1\ncell 1 1\ncell 1 1\ncell 1 1\nface 0 3 - 1\nface 1 3 + 1\nface 1 4 - 1\nface 2 4 + 1\nface 0 5 - 1\nface 2 5 + 1\nclient\nbetti\ndone\n";
+// Three vertices and the three edges between them.
+const CIRCLE: &[u8] = b"field 2\ncell 0 1\ncell 0 1\ncell 0 1\ncell 1 1\ncell 1 1\ncell 1 1\n\
+face 0 3 - 1\nface 1 3 + 1\nface 1 4 - 1\nface 2 4 + 1\nface 0 5 - 1\nface 2 5 + 1\nclient\nbetti\ndone\n";
+
+const TRANSCRIPT: &[u8] = b"client 0\n1 v0 betti 1 1\norder\nask 0 1\nreply 0 1\nend\n";
 
 /// Runs over the circle, by reads of 10 bytes and writes of 8, where the calls with these numbers fail.
 fn has_answer(
@@ -27,15 +30,10 @@ fn has_answer(
 
 #[test]
 fn faults(rt: HostRuntime) -> Result<(), Fail> {
-    let transcript = b"client 0\n1 v0 betti 1 1\norder\nask 0 1\nreply 0 1\nend\n".as_slice();
-    for (reads, writes, status, output) in [
-        ([].as_slice(), [].as_slice(), Status::Done, transcript),
-        ([2u64].as_slice(), [].as_slice(), Status::ReadFault, [].as_slice()),
-        ([].as_slice(), [2u64].as_slice(), Status::WriteFault, b"client 0".as_slice()),
-        // After seven writes comes the flush.
-        ([].as_slice(), [8u64].as_slice(), Status::WriteFault, transcript),
-    ] {
-        has_answer(&rt, rt.alloc(), reads, writes, status, output)?;
-    }
-    Ok(())
+    let alloc = rt.alloc();
+    has_answer(&rt, alloc, &[], &[], Status::Done, TRANSCRIPT)?;
+    has_answer(&rt, alloc, &[2], &[], Status::ReadFault, b"")?;
+    has_answer(&rt, alloc, &[], &[2], Status::WriteFault, b"client 0")?;
+    // After seven writes comes the flush.
+    has_answer(&rt, alloc, &[], &[8], Status::WriteFault, TRANSCRIPT)
 }

@@ -20,8 +20,8 @@ pub serves_job : (job : Job) (source source_new : SourceView) (sink sink_new : S
     → Serves (Some job) source source_new sink sink_new result
 serves_job job source source_new sink sink_new result accepted run = record {
   run = run;
-  served = as Solve;
-  checked = as Check;
+  served = by Solve;
+  checked = by Check;
   refused = λ h. (λ e. absurd (accepted e), λ e. absurd (none-some job (sym e)));
   refusal = λ e. absurd (accepted e);
   exact = λ h. exact job source.left sink sink_new result (run.answered h);
@@ -29,9 +29,9 @@ serves_job job source source_new sink sink_new result accepted run = record {
   complete = complete job source source_new sink sink_new result run;
 }
   where
-    as : (j : Job) → Some job ≡ Some j → result ≡ Done
+    by : (j : Job) → Some job ≡ Some j → result ≡ Done
         → IfSome source.left (λ bytes. IsServed j bytes source_new sink sink_new)
-    as j same done =
+    by j same done =
         subst (λ (k : Job). IfSome source.left (λ bytes. IsServed k bytes source_new sink sink_new))
         (same_Some job j same)
         (serves job source source_new sink sink_new result done (run.at_end done)

@@ -45,12 +45,14 @@ position-here scripts c i =
     ∙ ap (λ b. if b then i else 0) (eq-eqb c c refl)
 
 -- client c has done one command more
-position-more : (scripts : List (List Command)) (lanes : ℕ → Lane) (c i n d : ℕ) → lanes d ≡ free_lane (position_of scripts c i d)
+position-more : (scripts : List (List Command)) (lanes : ℕ → Lane) (c i n d : ℕ)
+    → lanes d ≡ free_lane (position_of scripts c i d)
     → with_lane lanes c (free_lane n) d ≡ free_lane (position_of scripts c n d)
 position-more scripts lanes c i n d is = go (c == d) refl
   where
     go : (b : Bool) → (c == d) ≡ b → (if b then free_lane n else lanes d) ≡ free_lane (position_of scripts c n d)
-    go true e = ap free_lane (sym (subst (λ k. position_of scripts c n k ≡ n) (eqb-true c d e) (position-here scripts c n)))
+    go true e =
+        ap free_lane (sym (subst (λ k. position_of scripts c n k ≡ n) (eqb-true c d e) (position-here scripts c n)))
     go false e = is ∙ ap (λ b. free_lane (if nat_lt d c then length (slice_index_or scripts d []) else if b then
         i else 0)) e
         ∙ sym (ap (λ b. free_lane (if nat_lt d c then length (slice_index_or scripts d []) else if b then n else 0)) e)
@@ -155,7 +157,8 @@ pub answer-step : (scripts : List (List Command)) (start : SheafData Field) (c i
     (r : Answer)
     → command_at scripts c i ≡ Some (commands.Ask q) → IsRightOn (ops_of p.sheaf.field) p.sheaf q r
     → IsProgress scripts start c i p
-    → IsProgress scripts start c (i + 1) (record { sheaf = p.sheaf; events = (p.events ++ Ask c ∷ []) ++ Reply c r ∷ [] })
+    → IsProgress scripts start c (i + 1)
+    (record { sheaf = p.sheaf; events = (p.events ++ Ask c ∷ []) ++ Reply c r ∷ [] })
 answer-step scripts start c i p q r comes right h =
     let K : Ops = ops_of start.field in
     let v : ℕ = h.version in
@@ -231,7 +234,8 @@ first-progress scripts start = record {
 
 pub next-progress : (scripts : List (List Command)) (start : SheafData Field) (c : ℕ) (script : List Command)
     (p : Progress)
-    → slice_get scripts c ≡ Some script → IsProgress scripts start c (length script) p → IsProgress scripts start (c + 1) 0 p
+    → slice_get scripts c ≡ Some script → IsProgress scripts start c (length script) p
+    → IsProgress scripts start (c + 1) 0 p
 next-progress scripts start c script p there h = record {
   state = h.state;
   legal = h.legal;
@@ -276,7 +280,8 @@ pub edited : (scripts : List (List Command)) (start : SheafData Field) (c i : �
     (old middle : Progress) (new : SheafData Field)
     (before after : List Event) → middle.events ≡ old.events → IsJudged old.sheaf e v middle.sheaf
     → middle ≡ record { sheaf = new; events = before }
-    → after ≡ before ++ Edit c v ∷ [] → command_at scripts c i ≡ Some (commands.Change e) → IsProgress scripts start c i old
+    → after ≡ before ++ Edit c v ∷ [] → command_at scripts c i ≡ Some (commands.Change e)
+    → IsProgress scripts start c i old
     → IsProgress scripts start c (i + 1) (record { sheaf = new; events = after })
 edited scripts start c i e v old middle new before after same judged was f comes h =
     let events : before ≡ old.events = sym (ap (λ (p : Progress). p.events) was) ∙ same in

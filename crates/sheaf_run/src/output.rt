@@ -62,8 +62,10 @@ fn put_text<K: Sink>(
     numbers: &[usize],
     rest: &[u8],
 ) -> Result<(), WriteFault>
-    ensures ok { OnOk result (Took (K.taken sink.old) (K.taken sink.new) (text_of_parts words.now numbers.now rest.now)) }
-    ensures err { OnErr result (TookPrefix (K.taken sink.old) (K.taken sink.new) (text_of_parts words.now numbers.now rest.now)) }
+    ensures ok { OnOk result (Took (K.taken sink.old) (K.taken sink.new)
+        (text_of_parts words.now numbers.now rest.now)) }
+    ensures err { OnErr result (TookPrefix (K.taken sink.old) (K.taken sink.new)
+        (text_of_parts words.now numbers.now rest.now)) }
     ensures cause { HasCause (K.fault_count sink.old) (K.fault_count sink.new) result }
 {
     write_all(sink, words)?;
