@@ -260,7 +260,7 @@ last-progress scripts start p h = record {
 -- ---- what the calls made of the progress
 
 -- the Betti numbers of the sheaf were asked and answered
-pub answered : (scripts : List (List Command)) (start : SheafData Field) (c i : ℕ) (q : Query) (old : Progress)
+pub answer-progress : (scripts : List (List Command)) (start : SheafData Field) (c i : ℕ) (q : Query) (old : Progress)
     (sheaf : SheafData Field)
     (before asked after : List Event) (numbers : List ℕ)
     → q ≡ queries.Betti → old ≡ record { sheaf = sheaf; events = before }
@@ -268,7 +268,7 @@ pub answered : (scripts : List (List Command)) (start : SheafData Field) (c i : 
     → asked ≡ before ++ Ask c ∷ [] → after ≡ asked ++ Reply c (replies.Betti numbers) ∷ []
     → command_at scripts c i ≡ Some (commands.Ask q) → IsProgress scripts start c i old
     → IsProgress scripts start c (i + 1) (record { sheaf = sheaf; events = after })
-answered scripts start c i q old sheaf before asked after numbers is was right e f comes h =
+answer-progress scripts start c i q old sheaf before asked after numbers is was right e f comes h =
     let own = λ (p : Progress). AreBetti (ops_of p.sheaf.field) p.sheaf.complex p.sheaf.stalks p.sheaf.blocks numbers in
     subst (λ es. IsProgress scripts start c (i + 1) (record { sheaf = sheaf; events = es }))
     (sym (f ∙ ap (λ es. es ++ Reply c (replies.Betti numbers) ∷ []) e))
@@ -276,14 +276,14 @@ answered scripts start c i q old sheaf before asked after numbers is was right e
     (comes ∙ ap (λ k. Some (commands.Ask k)) is) (subst own was right) (subst (IsProgress scripts start c i) was h))
 
 -- the edit was judged
-pub edited : (scripts : List (List Command)) (start : SheafData Field) (c i : ℕ) (e : Change) (v : Verdict)
+pub edit-progress : (scripts : List (List Command)) (start : SheafData Field) (c i : ℕ) (e : Change) (v : Verdict)
     (old middle : Progress) (new : SheafData Field)
     (before after : List Event) → middle.events ≡ old.events → IsJudged old.sheaf e v middle.sheaf
     → middle ≡ record { sheaf = new; events = before }
     → after ≡ before ++ Edit c v ∷ [] → command_at scripts c i ≡ Some (commands.Change e)
     → IsProgress scripts start c i old
     → IsProgress scripts start c (i + 1) (record { sheaf = new; events = after })
-edited scripts start c i e v old middle new before after same judged was f comes h =
+edit-progress scripts start c i e v old middle new before after same judged was f comes h =
     let events : before ≡ old.events = sym (ap (λ (p : Progress). p.events) was) ∙ same in
     let all : after ≡ old.events ++ Edit c v ∷ [] = f ∙ ap (λ es. es ++ Edit c v ∷ []) events in
     let sheaf : middle.sheaf ≡ new = ap (λ (p : Progress). p.sheaf) was in

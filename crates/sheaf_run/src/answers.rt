@@ -8,7 +8,7 @@ ghost use Rattle.sheaf_run.specs.declared.job.Job.TheVariants.{Solve, Check};
 use crate::job::Job;
 use crate::output::{send, send_line};
 use crate::refusals::refuse_draft;
-use crate::session::served;
+use crate::session::session_events;
 use crate::status::Status;
 use dense_blocks::Listed;
 use field_table::Field;
@@ -27,7 +27,7 @@ fn solution(
     requires { AreServable scripts.now }
     ensures { IfOk result (λ text. IsTextOf Solve sheaf scripts.now text.items) }
 {
-    let events = served(alloc, sheaf, scripts)?;
+    let events = session_events(alloc, sheaf, scripts)?;
     transcript(alloc, scripts, &events)
 }
 

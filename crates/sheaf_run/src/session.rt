@@ -66,7 +66,7 @@ impl Session {
     }
 
     /// Makes the edit, or refuses it; gives the verdict. The numbers stay with the version.
-    fn judged(&mut self, alloc: Global, edit: &Edit) -> Result<Verdict, NoMemory>
+    fn edit_verdict(&mut self, alloc: Global, edit: &Edit) -> Result<Verdict, NoMemory>
         requires { length edit.now.sets ≤ 1000000000 }
         ensures events { self.new.events ≡ self.old.events }
         ensures judged { IfOk result (λ verdict. IsJudged self.old.sheaf edit.now verdict self.new.sheaf) }
@@ -89,7 +89,7 @@ impl Session {
             → command_at scripts client i ≡ Some (Change edit.now)
             → IsProgress scripts start client i self.old → IsProgress scripts start client (i + 1) self.new) }
     {
-        let verdict = self.judged(alloc, edit)?;
+        let verdict = self.edit_verdict(alloc, edit)?;
         self.events.push(Event::Edit { c: client, verdict })?;
         Ok(())
     }
@@ -149,7 +149,7 @@ impl Session {
 
 /// What happens where the clients with these scripts are served one after the other, each command to its end, on one
 /// sheaf that their edits change.
-pub fn served(
+pub fn session_events(
     alloc: Global,
     sheaf: Sheaf<Field>,
     scripts: &[Listed<Command>],

@@ -1,7 +1,7 @@
 use Rattle.std.proofs.Common.{◌≡◌, ◌*◌, ◌≤◌, length, take}
 use Rattle.std.specs.Prelude.{sum_by}
 use Rattle.sheaf_run.specs.Sessions.{IsProgress}
-use Rattle.sheaf_run.proofs.session.served.Given as goal
+use Rattle.sheaf_run.proofs.session.session_events.Given as goal
 
 abbrev pub invariant-loop-script : goal.invariant-loop-script
 invariant-loop-script l =

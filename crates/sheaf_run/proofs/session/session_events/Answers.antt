@@ -4,7 +4,7 @@ use Rattle.field_table.specs.Table.{ops_of}
 use Rattle.core_machine.specs.Machine.{IsLegalAndWhole}
 use Rattle.sheaf_run.specs.Sessions.{IsProgress}
 use Rattle.sheaf_run.proofs.ServingLaws.{first-progress, last-progress, commands-more}
-use Rattle.sheaf_run.proofs.session.served.Goals as goal
+use Rattle.sheaf_run.proofs.session.session_events.Goals as goal
 
 pub loop-script-init : goal.loop-script-init
 loop-script-init c = (
