@@ -1,5 +1,5 @@
 -- The cohomology of cells with matrices: cocycles modulo coboundaries.
-use Rattle.std.specs.Prelude.{◌≡◌, ℕ, zero, suc, List, length, All}
+use Rattle.std.specs.Prelude.{◌≡◌, ℕ, zero, suc, List, length, slice_index, All, EachIndex}
 use Rattle.dense_blocks.specs.Field.{Ops}
 use Rattle.dense_blocks.specs.Vectors.{IsVector, zeros, plus, combination}
 use Rattle.cochain_vec.specs.Complexes.{CellularComplex, coordinates, IsCochain, coboundary}
@@ -42,3 +42,8 @@ pub record IsBasis (K : Ops) (F : CellularComplex) (k : ℕ) (B : List (List ℕ
 -- the cohomology of degree k has dimension n: some basis has n members
 abbrev pub HasDimension : Ops → CellularComplex → ℕ → ℕ → Type 0
 HasDimension K F k n = (B : List (List ℕ)) × (length B ≡ n) × IsBasis K F k B
+
+-- one number for each of so many degrees, from 0 on: the dimension of the cohomology of that degree
+pub record AreDimensions (K : Ops) (F : CellularComplex) (degrees : ℕ) (numbers : List ℕ) : Type 0 where
+  pub one_each : length numbers ≡ degrees
+  pub dimensions : EachIndex numbers (λ k. HasDimension K F k (slice_index numbers k))

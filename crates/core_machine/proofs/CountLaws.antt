@@ -6,7 +6,9 @@ use Rattle.std.proofs.lemmas.Option.{slice_get_within, same_Some, none-some}
 use Rattle.std.proofs.lemmas.Bool.{eqb-true}
 use Rattle.std.specs.Prelude.{option_and_then}
 use Rattle.dense_blocks.specs.Field.{Ops}
+use Rattle.cochain_vec.specs.Complexes.{CellularComplex}
 use Rattle.sheaf_data.specs.Sheaves.{SheafData}
+use Rattle.sheaf_data.specs.Betti.{cochain_complex_of, degree_count}
 use Rattle.sheaf_words.specs.declared.query.Query.{Query}
 use Rattle.sheaf_words.specs.declared.query.Query.TheVariants as queries
 use Rattle.sheaf_words.specs.declared.query.Command.{Command}
@@ -80,7 +82,7 @@ counted-edit {F} K scripts events c verdict s t step h = record {
       ∙ sym (asked-more d events (Edit c verdict));
 }
   where
-    versions : (w : Verdict) → AreVersionsAfter K step.sheaf step.edit.sets w s.sheaves t.sheaves
+    versions : (w : Verdict) → AreVersionsAfter K step.sheaf step.edit w s.sheaves t.sheaves
         → length t.sheaves ≡ (current_version events + (if is_accepted (Edit c w) then 1 else 0)) + 1
     versions Accepted made = ap length made.2 ∙ length-append s.sheaves (made.0 ∷ []) ∙ ap (λ n. n + 1) h.current
     versions (Refused cause) same = ap length same ∙ h.current ∙ omega arith
@@ -164,10 +166,10 @@ inside scripts c p command there = go (slice_get scripts c) refl there
     go None e h = absurd (none-some command h)
     go (Some script) e h = slice_get_within scripts c script e
 
-right-answers : {F : Type 0} (K : Ops) (sheaf : SheafData F) (c : ℕ) (q : Query) (r : Answer) → IsRightReply K sheaf q r
-    → IsAnswerTo (commands.Ask q) (Reply c r)
-right-answers K sheaf c queries.Betti (replies.Betti numbers) right = tt
-right-answers K sheaf c q r right = absurd right
+right-answers : (K : Ops) (C : CellularComplex) (degrees c : ℕ) (q : Query) (r : Answer)
+    → IsRightReply K C degrees q r → IsAnswerTo (commands.Ask q) (Reply c r)
+right-answers K C degrees c queries.Betti (replies.Betti numbers) right = tt
+right-answers K C degrees c q r right = absurd right
 
 of-step : {F : Type 0} (K : Ops) (scripts : List (List Command)) (events : List Event) (event : Event) (s t : State F)
     → Step K scripts event s t → IsCounted events s → IsOf scripts events event
@@ -179,7 +181,9 @@ of-step K scripts events (Pair v x y) s t step h = tt
 of-step K scripts events (Reply c r) s t step h =
     answered scripts events c step.position (commands.Ask step.query) (Reply c r)
     (sym (ap (λ l. l.position) step.is_waiting) ∙ h.positions c) step.command
-    (right-answers K step.sheaf c step.query r step.right)
+    (right-answers K
+    (cochain_complex_of K step.sheaf.complex step.sheaf.stalks step.sheaf.blocks)
+    (degree_count step.sheaf.complex.dims) c step.query r step.right)
 
 of-from : {F : Type 0} (K : Ops) (scripts : List (List Command)) (earlier events : List Event) (s t : State F)
     → Leads K scripts events s t → IsCounted earlier s

@@ -1,13 +1,13 @@
 -- The machine of versions, lanes and events.
 use Rattle.std.specs.Prelude.{◌≡◌, ℕ, ◌+◌, ◌==◌, List, [], ◌∷◌, ◌++◌, Option, Some, None, length, slice_get}
-use Rattle.std.specs.Prelude.{option_and_then, if◌then◌else◌}
+use Rattle.std.specs.Prelude.{option_and_then, unwrap_or, if◌then◌else◌}
 use Rattle.dense_blocks.specs.Field.{Ops}
 use Rattle.sheaf_data.specs.Sheaves.{SheafData}
+use Rattle.sheaf_data.specs.Betti.{cochain_complex_of, degree_count}
 use Rattle.sheaf_words.specs.declared.query.Query.{Query}
 use Rattle.sheaf_words.specs.declared.query.Command.{Command}
 use Rattle.sheaf_words.specs.declared.query.Command.TheVariants as commands
 use Rattle.sheaf_words.specs.declared.edit.Edit.{Edit as Change}
-use Rattle.sheaf_words.specs.declared.edit.Set.{Set}
 use Rattle.sheaf_words.specs.declared.edit.Verdict.{Verdict}
 use Rattle.sheaf_words.specs.declared.edit.Verdict.TheVariants.{Accepted, Refused}
 use Rattle.sheaf_words.specs.declared.reply.Reply.{Reply as Answer}
@@ -31,22 +31,16 @@ free_lane position = record { position = position; pending = None }
 abbrev pub waiting_lane : ℕ → ℕ → Lane
 waiting_lane position v = record { position = position; pending = Some v }
 
--- the sheaf of each version, from version 0 on, and the lane of each client
+-- the sheaf of each version, from version 0 on; the lane of each client; and the pairs of cells that were removed from
+-- each version that was asked, none where it was not
 pub record State (F : Type 0) : Type 0 where
   pub sheaves : List (SheafData F)
   pub lanes : ℕ → Lane
+  pub pairs : ℕ → Option (List (ℕ × ℕ))
 
--- one version, nothing done, nothing pending
+-- one version, nothing done, nothing pending, nothing asked
 abbrev pub first_state : {F : Type 0} → SheafData F → State F
-first_state sheaf = record { sheaves = sheaf ∷ []; lanes = λ c. free_lane 0 }
-
--- the current version is v, the last; so many edits were accepted
-abbrev pub IsCurrentVersion : {F : Type 0} → State F → ℕ → Type 0
-IsCurrentVersion s v = length s.sheaves ≡ v + 1
-
--- the current version has this sheaf
-abbrev pub IsCurrentSheaf : {F : Type 0} → State F → SheafData F → Type 0
-IsCurrentSheaf s sheaf = (v : ℕ) × IsCurrentVersion s v × (slice_get s.sheaves v ≡ Some sheaf)
+first_state sheaf = record { sheaves = sheaf ∷ []; lanes = λ c. free_lane 0; pairs = λ v. None }
 
 -- the command at this place of the script of client c
 abbrev pub command_at : List (List Command) → ℕ → ℕ → Option Command
@@ -56,41 +50,51 @@ command_at scripts c position = option_and_then (λ script. slice_get script pos
 abbrev pub with_lane : (ℕ → Lane) → ℕ → Lane → ℕ → Lane
 with_lane lanes c lane d = if c == d then lane else lanes d
 
+-- the removed pairs, with these for version v
+abbrev pub with_pairs : (ℕ → Option (List (ℕ × ℕ))) → ℕ → List (ℕ × ℕ) → ℕ → Option (List (ℕ × ℕ))
+with_pairs pairs v removed w = if v == w then Some removed else pairs w
+
 -- ---- events: each has a guard, and an effect; what is not named stays
 
 -- the versions after a verdict on an edit: the edited sheaf is one more, or all stays
-abbrev pub AreVersionsAfter : {F : Type 0} → Ops → SheafData F → List Set → Verdict → List (SheafData F)
+abbrev pub AreVersionsAfter : {F : Type 0} → Ops → SheafData F → Change → Verdict → List (SheafData F)
     → List (SheafData F) → Type 0
-AreVersionsAfter {F} K sheaf sets Accepted old new = (edited : SheafData F) × IsEdited K sheaf sets edited
+AreVersionsAfter {F} K sheaf edit Accepted old new = (edited : SheafData F) × IsEdited K sheaf edit edited
     × (new ≡ old ++ edited ∷ [])
-AreVersionsAfter K sheaf sets (Refused cause) old new = new ≡ old
+AreVersionsAfter K sheaf edit (Refused cause) old new = new ≡ old
 
--- client c has nothing pending and comes to an edit; the verdict is that on it and the current sheaf
+-- client c has nothing pending and comes to an edit; the verdict is that on it and the sheaf of the current version,
+-- the last
 pub record EditStep {F : Type 0} (K : Ops) (scripts : List (List Command)) (c : ℕ) (verdict : Verdict) (s t : State F) :
     Type 0 where
   pub position : ℕ
   pub edit : Change
+  pub version : ℕ
   pub sheaf : SheafData F
   pub is_free : s.lanes c ≡ free_lane position
   pub command : command_at scripts c position ≡ Some (commands.Change edit)
-  pub current : IsCurrentSheaf s sheaf
-  pub judged : IsVerdict K sheaf edit.sets verdict
-  pub versions : AreVersionsAfter K sheaf edit.sets verdict s.sheaves t.sheaves
+  pub current : length s.sheaves ≡ version + 1
+  pub current_sheaf : slice_get s.sheaves version ≡ Some sheaf
+  pub judged : IsVerdict K sheaf edit verdict
+  pub versions : AreVersionsAfter K sheaf edit verdict s.sheaves t.sheaves
   pub lanes : t.lanes ≡ with_lane s.lanes c (free_lane (position + 1))
+  pub pairs : t.pairs ≡ s.pairs
 
--- client c has nothing pending and comes to a question: it is put on the current version
+-- client c has nothing pending and comes to a question: it is put on the current version; where that was not asked
+-- before, no pair has been removed from it
 pub record AskStep {F : Type 0} (scripts : List (List Command)) (c : ℕ) (s t : State F) : Type 0 where
   pub position : ℕ
   pub query : Query
   pub version : ℕ
   pub is_free : s.lanes c ≡ free_lane position
   pub command : command_at scripts c position ≡ Some (commands.Ask query)
-  pub current : IsCurrentVersion s version
+  pub current : length s.sheaves ≡ version + 1
   pub versions : t.sheaves ≡ s.sheaves
   pub lanes : t.lanes ≡ with_lane s.lanes c (waiting_lane position version)
+  pub pairs : t.pairs ≡ with_pairs s.pairs version (unwrap_or (s.pairs version) [])
 
--- client c waits for the answer to a question on a version, and the reply is right for the question and the sheaf of
--- that version
+-- client c waits for the answer to a question on a version, and the reply is right for the question and the whole
+-- complex of the sheaf of that version
 pub record ReplyStep {F : Type 0} (K : Ops) (scripts : List (List Command)) (c : ℕ) (reply : Answer) (s t : State F) :
     Type 0 where
   pub position : ℕ
@@ -100,9 +104,11 @@ pub record ReplyStep {F : Type 0} (K : Ops) (scripts : List (List Command)) (c :
   pub is_waiting : s.lanes c ≡ waiting_lane position version
   pub command : command_at scripts c position ≡ Some (commands.Ask query)
   pub asked : slice_get s.sheaves version ≡ Some sheaf
-  pub right : IsRightReply K sheaf query reply
+  pub right : IsRightReply K (cochain_complex_of K sheaf.complex sheaf.stalks sheaf.blocks)
+      (degree_count sheaf.complex.dims) query reply
   pub versions : t.sheaves ≡ s.sheaves
   pub lanes : t.lanes ≡ with_lane s.lanes c (free_lane (position + 1))
+  pub pairs : t.pairs ≡ s.pairs
 
 -- the event leads from state s to state t; for now no pair of cells is removed
 abbrev pub Step : {F : Type 0} → Ops → List (List Command) → Event → State F → State F → Type 0

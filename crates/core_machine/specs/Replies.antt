@@ -1,13 +1,15 @@
--- Which reply is right for a question on a version of the sheaf.
+-- Which reply is right for a question.
+use Rattle.std.specs.Prelude.{ℕ}
 use Rattle.dense_blocks.specs.Field.{Ops}
-use Rattle.sheaf_data.specs.Sheaves.{SheafData}
-use Rattle.sheaf_data.specs.Betti.{AreBetti}
+use Rattle.cochain_vec.specs.Complexes.{CellularComplex}
+use Rattle.cochain_vec.specs.Cohomology.{AreDimensions}
 use Rattle.sheaf_words.specs.declared.query.Query.{Query}
 use Rattle.sheaf_words.specs.declared.query.Query.TheVariants as queries
 use Rattle.sheaf_words.specs.declared.reply.Reply.{Reply}
 use Rattle.sheaf_words.specs.declared.reply.Reply.TheVariants as replies
 
--- the Betti numbers are those of the whole complex of the version's sheaf, over the field of K; no other reply is right
-abbrev pub IsRightReply : {F : Type 0} → Ops → SheafData F → Query → Reply → Type 0
-IsRightReply K sheaf queries.Betti (replies.Betti numbers) = AreBetti K sheaf.complex sheaf.stalks sheaf.blocks numbers
-IsRightReply K sheaf query reply = ⊥
+-- the reply is right for the question on the complex C, which has cells of so many degrees, over the field of K: a line
+-- for each kind of reply; no other reply is right
+abbrev pub IsRightReply : Ops → CellularComplex → ℕ → Query → Reply → Type 0
+IsRightReply K C degrees queries.Betti (replies.Betti numbers) = AreDimensions K C degrees numbers
+IsRightReply K C degrees query reply = ⊥

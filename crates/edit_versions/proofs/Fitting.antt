@@ -1,7 +1,7 @@
 -- What a set keeps: stalks of at most 16, and matrices of scalars from stalk to stalk.
 use Rattle.std.proofs.Common.{◌≡◌, ℕ, zero, suc, ◌+◌, ◌*◌, ◌<◌, ◌≤◌, Bool, true, false, not, cond, ◌||◌, nat_eq, nat_lt}
 use Rattle.std.proofs.Common.{List, [], ◌∷◌, length, map, set, slice_get, slice_index, None, Some, All, refl, sym, ap}
-use Rattle.std.proofs.Common.{◌∙◌, subst, subst₂, arith}
+use Rattle.std.proofs.Common.{◌∙◌, subst, arith, Option, Result, Ok}
 use Rattle.std.specs.List.{list_all, AllZip}
 use Rattle.std.proofs.lemmas.Bool.{ltb-true, ltb-false, eqb-true, eqb-false, and_parts}
 use Rattle.std.proofs.lemmas.List.{length-set, get_or-set_other}
@@ -16,11 +16,12 @@ use Rattle.square_check.proofs.Placed.{some-same}
 use Rattle.sheaf_data.specs.Sheaves.{AreBlocks}
 use Rattle.sheaf_words.specs.declared.edit.Set.{Set}
 use Rattle.sheaf_words.specs.declared.edit.Set.TheVariants.{Stalk, Restrict}
+use Rattle.sheaf_words.specs.declared.edit.Cause.{Cause}
 use Rattle.sheaf_words.specs.declared.edit.Cause.TheVariants.{NoCell, NoFace, StalkLimit, Shape, Entry}
 use Rattle.edit_versions.specs.declared.work.Work.{Work}
 use Rattle.edit_versions.specs.Edits.{WrittenMatrix, written_matrix, SheafLists, with_replacements, is_end, zero_at}
 use Rattle.edit_versions.specs.Edits.{matrix_between, with_set, set_fault, unless, sets_made}
-use Rattle.edit_versions.specs.Works.{IsWork, TakesSet}
+use Rattle.edit_versions.specs.Works.{IsWork, TakesSet, work_lists}
 
 -- a matrix of scalars that goes from the stalk of the face's cell s to that of its cell t
 pub record FitsFace (K : Ops) (stalks : List ℕ) (f : Face) (m : WrittenMatrix) : Type 0 where
@@ -28,7 +29,7 @@ pub record FitsFace (K : Ops) (stalks : List ℕ) (f : Face) (m : WrittenMatrix)
   pub rows : m.rows ≡ slice_index stalks f.t
   pub scalars : AllScalars K m.entries
 
-to-zip : (K : Ops) (stalks : List ℕ) (fs : List Face) (bs : List Block) → HaveShapes stalks fs bs
+pub to-zip : (K : Ops) (stalks : List ℕ) (fs : List Face) (bs : List Block) → HaveShapes stalks fs bs
     → All (λ b. AllScalars K b.entries) bs
     → AllZip (FitsFace K stalks) fs (map written_matrix bs)
 to-zip K stalks [] [] shapes scalars = _
@@ -49,7 +50,7 @@ to-zip K stalks (f ∷ fs) (b ∷ bs) shapes scalars = (
       (All-tail (λ b. AllScalars K b.entries) b bs scalars),
 )
 
-from-zip : (K : Ops) (stalks : List ℕ) (fs : List Face) (bs : List Block)
+pub from-zip : (K : Ops) (stalks : List ℕ) (fs : List Face) (bs : List Block)
     → AllZip (FitsFace K stalks) fs (map written_matrix bs) → AreBlocks K fs stalks bs
 from-zip K stalks [] [] h = record {
   shapes = record { count = refl; cols = λ p f b e g. cc; rows = λ p f b e g. cc };
@@ -149,38 +150,60 @@ fits-after-restriction K stalks s t entries scalars f m h = by (joins s t f) ref
         }
     by false e = h
 
+-- lists that fit a complex: a stalk of at most 16 for each cell, and for each face a matrix of scalars from stalk to
+-- stalk
+pub record FitComplex (K : Ops) (c : CellComplex) (l : SheafLists) : Type 0 where
+  pub one_each : length l.stalks ≡ length c.dims
+  pub low : All (λ size. size ≤ 16) l.stalks
+  pub matrices : AllZip (FitsFace K l.stalks) c.faces l.matrices
+
+-- a set without a fault keeps the lists fitting
+set-fits : (K : Ops) → 0 < K.order → (c : CellComplex) (i : ℕ) (x : Set) (l : SheafLists)
+    → set_fault K c l.stalks i x ≡ None → FitComplex K c l → FitComplex K c (with_set c l x)
+set-fits K o c i (Stalk s n) l e h =
+    let stalks : List ℕ = set l.stalks s n in
+    record {
+      one_each = length-set l.stalks s n ∙ h.one_each;
+      low = All-set (λ size. size ≤ 16) l.stalks s n (stalk-low K c l.stalks i s n e) h.low;
+      matrices = zip-replaced (FitsFace K l.stalks) (FitsFace K stalks) (is_end s) (zero_at stalks) c.faces l.matrices
+          (fits-after-stalk K o l.stalks s n) h.matrices;
+    }
+set-fits K o c i (Restrict s t entries) l e h = record {
+  one_each = h.one_each;
+  low = h.low;
+  matrices = zip-replaced (FitsFace K l.stalks) (FitsFace K l.stalks) (joins s t)
+      (λ f. matrix_between l.stalks s t entries) c.faces l.matrices
+      (fits-after-restriction K l.stalks s t entries (entries-scalars K c l.stalks i s t entries e)) h.matrices;
+}
+
+-- and so do sets of which none has a fault
+pub sets-fit : (K : Ops) → 0 < K.order → (c : CellComplex) (i : ℕ) (xs : List Set) (l m : SheafLists)
+    → sets_made K c l i xs ≡ Ok m → FitComplex K c l → FitComplex K c m
+sets-fit K o c i [] l m e h = let same : l ≡ m = cc in subst (FitComplex K c) same h
+sets-fit K o c i (x ∷ xs) l m e h =
+    let parts = made (set_fault K c l.stalks i x) (sets_made K c (with_set c l x) (i + 1) xs) e in
+    sets-fit K o c (i + 1) xs (with_set c l x) m parts.1 (set-fits K o c i x l parts.0 h)
+  where
+    made : (f : Option Cause) (r : Result SheafLists Cause) → unless f r ≡ Ok m → (f ≡ None) × (r ≡ Ok m)
+    made None r is = (refl, is)
+    made (Some cause) r is = absurd cc
+
 -- a set without a fault keeps all that the work promises
 pub takes-work : (K : Ops) → 0 < K.order → (c : CellComplex) (i : ℕ) (x : Set) (old new : Work)
     → set_fault K c old.stalks.items i x ≡ None
     → TakesSet c x old new → IsWork K c old → IsWork K c new
-takes-work K l c i (Stalk s n) old new e h w =
-    let stalks : new.stalks.items ≡ set old.stalks.items s n = ap (λ lists. lists.stalks) h.lists in
-    let fits = zip-replaced (FitsFace K old.stalks.items) (FitsFace K (set old.stalks.items s n)) (is_end s)
-    (zero_at (set old.stalks.items s n)) c.faces (map written_matrix old.blocks.items)
-    (fits-after-stalk K l old.stalks.items s n) (to-zip K old.stalks.items c.faces old.blocks.items w.blocks_fit.shapes
-    w.blocks_fit.scalars) in
+takes-work K o c i x old new e h w =
+    let before : FitComplex K c (work_lists old) = record {
+      one_each = w.one_each;
+      low = w.low;
+      matrices = to-zip K old.stalks.items c.faces old.blocks.items w.blocks_fit.shapes w.blocks_fit.scalars;
+    } in
+    let fits : FitComplex K c (work_lists new) =
+    subst (FitComplex K c) (sym h.lists) (set-fits K o c i x (work_lists old) e before) in
     record {
-      one_each = ap length stalks ∙ length-set old.stalks.items s n ∙ w.one_each;
-      low = subst (All (λ size. size ≤ 16)) (sym stalks)
-          (All-set (λ size. size ≤ 16) old.stalks.items s n (stalk-low K c old.stalks.items i s n e) w.low);
-      blocks_fit =
-          from-zip K new.stalks.items c.faces new.blocks.items
-          (subst₂ (λ xs ms. AllZip (FitsFace K xs) c.faces ms) (sym stalks) (sym (ap (λ lists. lists.matrices) h.lists))
-          fits);
-    }
-takes-work K l c i (Restrict s t entries) old new e h w =
-    let stalks : new.stalks.items ≡ old.stalks.items = ap (λ lists. lists.stalks) h.lists in
-    let fits = zip-replaced (FitsFace K old.stalks.items) (FitsFace K old.stalks.items) (joins s t)
-    (λ f. matrix_between old.stalks.items s t entries) c.faces (map written_matrix old.blocks.items)
-    (fits-after-restriction K old.stalks.items s t entries (entries-scalars K c old.stalks.items i s t entries e))
-    (to-zip K old.stalks.items c.faces old.blocks.items w.blocks_fit.shapes w.blocks_fit.scalars) in
-    record {
-      one_each = ap length stalks ∙ w.one_each;
-      low = subst (All (λ size. size ≤ 16)) (sym stalks) w.low;
-      blocks_fit =
-          from-zip K new.stalks.items c.faces new.blocks.items
-          (subst₂ (λ xs ms. AllZip (FitsFace K xs) c.faces ms) (sym stalks) (sym (ap (λ lists. lists.matrices) h.lists))
-          fits);
+      one_each = fits.one_each;
+      low = fits.low;
+      blocks_fit = from-zip K new.stalks.items c.faces new.blocks.items fits.matrices;
     }
 
 -- one set without a fault, and the rest

@@ -3,3 +3,4 @@ pub mod Ends
 pub mod Putting
 pub mod Fitting
 pub mod Unique
+pub mod Edited

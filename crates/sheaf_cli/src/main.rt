@@ -21,10 +21,10 @@ fn main(rt: HostRuntime) -> ExitCode {
         Ok(words) => words,
         // Words that are not UTF-8 are refused like any other words that are no command: as no words at all.
         Err(error) if error.kind() == io::ErrorKind::InvalidData => Vec::new(rt.alloc()),
-        Err(_) => return ExitCode::from(Status::NoMemory as u8),
+        Err(_) => return ExitCode::from(Status::NoMemory.exit_number()),
     };
     let mut source = StdSource::new(rt.stdin());
     let mut sink = StdSink::new(rt.stdout());
     let status = run(rt.alloc(), &words, &mut source, &mut sink);
-    ExitCode::from(status as u8)
+    ExitCode::from(status.exit_number())
 }

@@ -1,12 +1,12 @@
 -- The whole cochain complex of a sheaf, and its Betti numbers.
-use Rattle.std.specs.Prelude.{◌≡◌, ℕ, ◌+◌, List, [], ◌∷◌, length, slice_index, EachIndex, max}
+use Rattle.std.specs.Prelude.{ℕ, ◌+◌, List, [], ◌∷◌, max}
 use Rattle.cell_complex.specs.declared.face.Face.{Face}
 use Rattle.cell_complex.specs.declared.face.Sign.{Sign}
 use Rattle.cell_complex.specs.declared.face.Sign.TheVariants.{Plus, Minus}
 use Rattle.cell_complex.specs.Complexes.{CellComplex}
 use Rattle.cochain_vec.specs.declared.cell.Cell.{Cell}
 use Rattle.cochain_vec.specs.Complexes.{Arrow, CellularComplex}
-use Rattle.cochain_vec.specs.Cohomology.{HasDimension}
+use Rattle.cochain_vec.specs.Cohomology.{AreDimensions}
 use Rattle.dense_blocks.specs.Field.{Ops}
 use Rattle.dense_blocks.specs.Matrices.{matrix_negative}
 use Rattle.dense_blocks.specs.Blocks.{matrix_of}
@@ -46,8 +46,6 @@ degree_count [] = 0
 degree_count (d ∷ dims) = max (d + 1) (degree_count dims)
 
 -- one number per degree, from 0 to the largest dimension: the dimension of the cohomology of that degree
-pub record AreBetti (K : Ops) (c : CellComplex) (stalks : List ℕ) (blocks : List Block) (numbers : List ℕ) :
-    Type 0 where
-  pub one_each : length numbers ≡ degree_count c.dims
-  pub dimensions :
-      EachIndex numbers (λ k. HasDimension K (cochain_complex_of K c stalks blocks) k (slice_index numbers k))
+abbrev pub AreBetti : Ops → CellComplex → List ℕ → List Block → List ℕ → Type 0
+AreBetti K c stalks blocks numbers = AreDimensions K (cochain_complex_of K c stalks blocks) (degree_count c.dims)
+    numbers

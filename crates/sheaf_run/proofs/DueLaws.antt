@@ -1,6 +1,8 @@
 -- Which status a draft and bytes are due, and that it is one only.
 use Rattle.std.proofs.Common.{◌≡◌, ◌⊎◌, inl, inr, ℕ, List, Option, None, Some, refl, sym, ap, ◌∙◌, subst}
 use Rattle.std.specs.Prelude.{◌↔◌, IfSome}
+use Rattle.std.specs.Io.KnownBytes.{IsAtEnd}
+use Rattle.io_edge.specs.Faults.{Rose}
 use Rattle.field_table.specs.declared.field.Field.{Field}
 use Rattle.field_table.specs.Table.{ops_of}
 use Rattle.incidence_check.specs.declared.incidence.Incidence.TheVariants.{EdgeEnds, Middles, Signs}
@@ -9,19 +11,19 @@ use Rattle.sheaf_data.specs.declared.fault.SealFault.TheVariants.{Complex, Nonco
 use Rattle.sheaf_data.specs.Sheaves.{SheafData}
 use Rattle.sheaf_data.specs.Refusals.{IsFault}
 use Rattle.sheaf_words.specs.declared.query.Command.{Command}
-use Rattle.io_edge.specs.Bytes.{Took}
+use Rattle.sheaf_text.specs.Readings.{Reading, reading}
+use Rattle.sheaf_text.specs.Readings as readings
+use Rattle.sheaf_text.specs.declared.input.Input.{Input}
+use Rattle.sheaf_text.proofs.Inputs.{input_value-injective}
 use Rattle.sheaf_run.specs.declared.job.Job.{Job}
 use Rattle.sheaf_run.specs.declared.job.Job.TheVariants.{Solve, Check}
 use Rattle.sheaf_run.specs.declared.status.Status.{Status}
 use Rattle.sheaf_run.specs.declared.status.Status.TheVariants.{Done, ReadFault, WriteFault, NoMemory, BadComplex}
 use Rattle.sheaf_run.specs.declared.status.Status.TheVariants.{BadSheaf}
-use Rattle.sheaf_text.specs.Readings.{Reading, reading}
-use Rattle.sheaf_text.specs.Readings as readings
-use Rattle.sheaf_text.specs.declared.input.Input.{Input}
-use Rattle.sheaf_run.specs.Answers.{Outcome, IsAnswer, DraftIsDue, ReadingIsDue, IsDue, refusal, IsRight, AnswersDraft}
-use Rattle.sheaf_run.specs.Answers.{AnswersReading}
-use Rattle.sheaf_run.specs.Runs.{Answered, IsServed}
-use Rattle.io_edge.specs.Faults.{Rose}
+use Rattle.sheaf_run.specs.Answers.{Outcome, IsAnswer, DraftIsDue, ReadingIsDue, IsDue, refusal, AnswersDraft}
+use Rattle.sheaf_run.specs.Answers.{AnswersReading, AnswersJob}
+use Rattle.sheaf_run.specs.Runs.{IsSent, IsRun, IsServed}
+use Rattle.sheaf_run.specs.Views.{SourceView, SinkView}
 
 -- a refused draft is due what it is refused with
 due_of_fault : (d : SheafData Field) (fault : SealFault) → IsFault (ops_of d.field) d.complex d.blocks fault
@@ -31,19 +33,11 @@ due_of_fault d (Complex (Middles s u count)) first = first.0
 due_of_fault d (Complex (Signs s u)) first = first.0
 due_of_fault d (Noncommuting s u) first = (first.0, (s, u, first.1.fails))
 
--- what is right of a sheaf is Done
-abbrev IsDone : (Outcome → Type 0) → Type 0
-IsDone IsRight = (a : Outcome) → IsRight a → a.status ≡ Done
-
-due_of_draft : (IsRight : Outcome → Type 0) (d : SheafData Field) (a : Outcome) → IsDone IsRight
-    → AnswersDraft IsRight d a → DraftIsDue d a.status
-due_of_draft IsRight d a done (inl refused) = subst (DraftIsDue d) (sym (ap (λ (o : Outcome). o.status) refused.is))
-    (due_of_fault d refused.fault refused.first)
-due_of_draft IsRight d a done (inr answered) = subst (DraftIsDue d) (sym (done a answered.1)) answered.0
-
-right_done : (job : Job) (d : SheafData Field) (scripts : List (List Command)) → IsDone (IsRight job d scripts)
-right_done Solve d scripts a right = ap (λ (o : Outcome). o.status) right.is
-right_done Check d scripts a right = ap (λ (o : Outcome). o.status) right
+due_of_draft : (job : Job) (d : SheafData Field) (scripts : List (List Command)) (a : Outcome)
+    → AnswersDraft job d scripts a → DraftIsDue d a.status
+due_of_draft job d scripts a (inl (fault, first, is)) =
+    subst (DraftIsDue d) (sym (ap (λ (o : Outcome). o.status) is)) (due_of_fault d fault first)
+due_of_draft job d scripts a (inr (sheaf, done, right)) = subst (DraftIsDue d) (sym done) sheaf
 
 -- the three cases exclude each other
 done_only : (d : SheafData Field) → DraftIsDue d Done → (status : Status) → DraftIsDue d status → Done ≡ status
@@ -73,49 +67,55 @@ draft_due_only d _ other h due = absurd h
 
 -- ---- a reading is due what its input is due
 
-due_of_input : (job : Job) (i : Input) (a : Outcome) → AnswersDraft (IsRight job i.draft i.scripts) i.draft a
-    → DraftIsDue i.draft a.status
-due_of_input job i a answers = due_of_draft (IsRight job i.draft i.scripts) i.draft a (right_done job i.draft i.scripts)
-    answers
-
 due_of_reading : (job : Job) (r : Reading) (a : Outcome) → AnswersReading job r a → ReadingIsDue r a.status
-due_of_reading job (readings.Good v) a found = (found.0, found.1.value, due_of_input job found.0 a found.2)
+due_of_reading job (readings.Good v) a found =
+    (found.0, found.1, due_of_draft job found.0.draft found.0.scripts a found.2)
 due_of_reading job (readings.BadLine line cause) a is = ap (λ (o : Outcome). o.status) is
 due_of_reading job (readings.Limit line which) a is = ap (λ (o : Outcome). o.status) is
 
 reading_due_only : (job : Job) (r : Reading) (a : Outcome) → AnswersReading job r a → (status : Status)
     → ReadingIsDue r status → a.status ≡ status
 reading_due_only job (readings.Good v) a found status due =
-    draft_due_only found.0.draft a.status status (due_of_input job found.0 a found.2)
-    (subst (λ (i : Input). DraftIsDue i.draft status) (found.1.only due.0 due.1) due.2)
+    draft_due_only found.0.draft a.status status (due_of_draft job found.0.draft found.0.scripts a found.2)
+    (subst (λ (i : Input). DraftIsDue i.draft status)
+    (input_value-injective due.0 found.0 (sym due.1 ∙ found.1)) due.2)
 reading_due_only job (readings.BadLine line cause) a is status due = ap (λ (o : Outcome). o.status) is ∙ sym due
 reading_due_only job (readings.Limit line which) a is status due = ap (λ (o : Outcome). o.status) is ∙ sym due
 
+-- under each job bytes are due what their reading is due
+due_as_read : (job : Job) (bytes : List ℕ) (status : Status) → ReadingIsDue (reading bytes) status
+    → IsDue job bytes status
+due_as_read Solve bytes status due = due
+due_as_read Check bytes status due = due
+
+read_as_due : (job : Job) (bytes : List ℕ) (status : Status) → IsDue job bytes status
+    → ReadingIsDue (reading bytes) status
+read_as_due Solve bytes status due = due
+read_as_due Check bytes status due = due
+
 -- ---- what is answered
 
--- what is right for a job, as a relation of bytes
-abbrev Right : Job → List ℕ → Outcome → Type 0
-Right job bytes a = AnswersReading job (reading bytes) a
-
-exactly : (job : Job) (bytes : List ℕ) (a : Outcome) (result : Status) → Right job bytes a → result ≡ a.status
-    → (status : Status)
-    → (result ≡ status) ↔ IsDue bytes status
-exactly job bytes a result right is status = (
-  λ e. subst (IsDue bytes) (sym is ∙ e) (due_of_reading job (reading bytes) a right),
-  λ due. is ∙ reading_due_only job (reading bytes) a right status due,
-)
+-- where the bytes are told, an outcome that is right for the job was sent
+abbrev pub HasOutcome : Job → Option (List ℕ) → SinkView → SinkView → Status → Type 0
+HasOutcome job left sink sink_new result =
+    IfSome left (λ bytes. (a : Outcome) × AnswersJob (Some job) bytes a × IsSent a sink sink_new result)
 
 -- what is answered is what the bytes are due
-pub exact : (job : Job) (left old new : Option (List ℕ)) (flush : ℕ) (result : Status)
-    → Answered (Right job) left old new flush result
-    → IfSome left (λ bytes. (status : Status) → (result ≡ status) ↔ IsDue bytes status)
-exact job None old new flush result answered = tt
-exact job (Some bytes) old new flush result answered = exactly job bytes answered.0 result answered.1 answered.2.status
+pub exact : (job : Job) (left : Option (List ℕ)) (sink sink_new : SinkView) (result : Status)
+    → HasOutcome job left sink sink_new result
+    → IfSome left (λ bytes. (status : Status) → (result ≡ status) ↔ IsDue job bytes status)
+exact job None sink sink_new result answered = tt
+exact job (Some bytes) sink sink_new result (a, right, sent) = λ status. (
+  λ e. due_as_read job bytes status
+      (subst (ReadingIsDue (reading bytes)) (sym sent.status ∙ e) (due_of_reading job (reading bytes) a right)),
+  λ due. sent.status ∙ reading_due_only job (reading bytes) a right status (read_as_due job bytes status due),
+)
 
--- a solution that is done is the transcript of a legal order of the input's commands
-done_serves : (bytes : List ℕ) (old new : Option (List ℕ)) (a : Outcome) → a.status ≡ Done → Took old new a.text
-    → (r : Reading) → reading bytes ≡ r → AnswersReading Solve r a → IsServed bytes old new
-done_serves bytes old new a done took (readings.Good v) e found = by found.2
+-- what is done with a reading is right for the job, and nothing is left
+done_serves : (job : Job) (bytes : List ℕ) (source_new : SourceView) (sink sink_new : SinkView) (result : Status)
+    (a : Outcome) → a.status ≡ Done → IsAtEnd source_new.left → IsSent a sink sink_new result
+    → (r : Reading) → reading bytes ≡ r → AnswersReading job r a → IsServed job bytes source_new sink sink_new
+done_serves job bytes source_new sink sink_new result a done end sent (readings.Good v) e found = by found.2
   where
     not_refused : (fault : SealFault) → (refusal fault).status ≡ Done → ⊥
     not_refused (Complex (EdgeEnds t)) is = cc
@@ -123,48 +123,58 @@ done_serves bytes old new a done took (readings.Good v) e found = by found.2
     not_refused (Complex (Signs s u)) is = cc
     not_refused (Noncommuting s u) is = cc
 
-    by : AnswersDraft (IsRight Solve found.0.draft found.0.scripts) found.0.draft a → IsServed bytes old new
-    by (inl refused) = absurd (not_refused refused.fault (sym (ap (λ (o : Outcome). o.status) refused.is) ∙ done))
-    by (inr (sheaf, solution)) = record {
+    by : AnswersDraft job found.0.draft found.0.scripts a → IsServed job bytes source_new sink sink_new
+    by (inl (fault, first, is)) = absurd (not_refused fault (sym (ap (λ (o : Outcome). o.status) is) ∙ done))
+    by (inr (sheaf, status, right)) = record {
       input = found.0;
-      good = e ∙ ap readings.Good found.1.value;
+      good = e ∙ ap readings.Good found.1;
       sheaf = sheaf;
-      events = solution.events;
-      order = solution.order;
-      text = subst (λ (o : Outcome). Took old new o.text) solution.is took;
+      text = a.text;
+      right = right;
+      taken = sent.text;
+      flushed = sent.flushed;
+      at_end = end;
     }
-done_serves bytes old new a done took (readings.BadLine line cause) e is = let same =
-    sym (ap (λ (o : Outcome). o.status) is) ∙ done in absurd cc
-done_serves bytes old new a done took (readings.Limit line which) e is = let same =
-    sym (ap (λ (o : Outcome). o.status) is) ∙ done in absurd cc
+done_serves job bytes source_new sink sink_new result a done end sent (readings.BadLine line cause) e is =
+    let same = sym (ap (λ (o : Outcome). o.status) is) ∙ done in absurd cc
+done_serves job bytes source_new sink sink_new result a done end sent (readings.Limit line which) e is =
+    let same = sym (ap (λ (o : Outcome). o.status) is) ∙ done in absurd cc
 
-pub serves : (left old new : Option (List ℕ)) (flush : ℕ) (result : Status) → Answered (Right Solve) left old new flush
-    result → result ≡ Done
-    → IfSome left (λ bytes. IsServed bytes old new)
-serves None old new flush result answered done = tt
-serves (Some bytes) old new flush result answered done =
-    done_serves bytes old new answered.0 (sym answered.2.status ∙ done) answered.2.text (reading bytes) refl answered.1
+pub serves : (job : Job) (source source_new : SourceView) (sink sink_new : SinkView) (result : Status)
+    → result ≡ Done → IsAtEnd source_new.left → HasOutcome job source.left sink sink_new result
+    → IfSome source.left (λ bytes. IsServed job bytes source_new sink sink_new)
+serves job source source_new sink sink_new result done end = by source.left
+  where
+    by : (left : Option (List ℕ)) → HasOutcome job left sink sink_new result
+        → IfSome left (λ bytes. IsServed job bytes source_new sink sink_new)
+    by None answered = tt
+    by (Some bytes) (a, right, sent) =
+        done_serves job bytes source_new sink sink_new result a (sym sent.status ∙ done) end sent (reading bytes) refl
+        right
 
 -- what the bytes are due is answered, where neither source nor sink failed and memory did not run out
-pub complete : (job : Job) (left old new : Option (List ℕ)) (flush read_before read_now write_before write_now : ℕ)
-    (result : Status)
-    → (IsAnswer result → Answered (Right job) left old new flush result)
-    → (result ≡ ReadFault → Rose read_before read_now)
-    → (result ≡ WriteFault → Rose write_before write_now)
-    → IfSome left (λ bytes. (status : Status) → IsDue bytes status → ¬ (Rose read_before read_now)
-    → ¬ (Rose write_before write_now)
+pub complete : (job : Job) (source source_new : SourceView) (sink sink_new : SinkView) (result : Status)
+    → IsRun (AnswersJob (Some job)) source source_new sink sink_new result
+    → IfSome source.left (λ bytes. (status : Status) → IsDue job bytes status
+    → ¬ (Rose source.faults source_new.faults) → ¬ (Rose sink.faults sink_new.faults)
     → (result ≡ status) ⊎ (result ≡ NoMemory))
-complete job None old new flush rb rn wb wn result answered read write = tt
-complete job (Some bytes) old new flush rb rn wb wn result answered read write = λ status due no_read no_write.
-    go result status due no_read no_write answered read write
+complete job source source_new sink sink_new result run = by source.left run.answered
   where
-    go : (r status : Status) → IsDue bytes status → ¬ (Rose rb rn) → ¬ (Rose wb wn)
-        → (IsAnswer r → Answered (Right job) (Some bytes) old new flush r) → (r ≡ ReadFault → Rose rb rn)
-        → (r ≡ WriteFault → Rose wb wn)
-        → (r ≡ status) ⊎ (r ≡ NoMemory)
-    go ReadFault status due no_read no_write answered read write = absurd (no_read (read refl))
-    go WriteFault status due no_read no_write answered read write = absurd (no_write (write refl))
-    go NoMemory status due no_read no_write answered read write = inr refl
-    go _ status due no_read no_write answered read write =
+    due : (bytes : List ℕ) (r status : Status) → IsDue job bytes status
+        → (IsAnswer r → HasOutcome job (Some bytes) sink sink_new r)
+        → (r ≡ ReadFault → ⊥) → (r ≡ WriteFault → ⊥) → (r ≡ status) ⊎ (r ≡ NoMemory)
+    due bytes ReadFault status is answered no_read no_write = absurd (no_read refl)
+    due bytes WriteFault status is answered no_read no_write = absurd (no_write refl)
+    due bytes NoMemory status is answered no_read no_write = inr refl
+    due bytes _ status is answered no_read no_write =
         let known = answered tt in
-        inl (known.2.status ∙ reading_due_only job (reading bytes) known.0 known.1 status due)
+        inl (known.2.status
+        ∙ reading_due_only job (reading bytes) known.0 known.1 status (read_as_due job bytes status is))
+
+    by : (left : Option (List ℕ)) → (IsAnswer result → HasOutcome job left sink sink_new result)
+        → IfSome left (λ bytes. (status : Status) → IsDue job bytes status
+        → ¬ (Rose source.faults source_new.faults) → ¬ (Rose sink.faults sink_new.faults)
+        → (result ≡ status) ⊎ (result ≡ NoMemory))
+    by None answered = tt
+    by (Some bytes) answered = λ status is no_read no_write.
+        due bytes result status is answered (λ e. no_read (run.read e)) (λ e. no_write (run.write e))

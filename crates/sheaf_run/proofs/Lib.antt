@@ -2,3 +2,4 @@ pub mod DueLaws
 pub mod Lines
 pub mod RunLaws
 pub mod ServingLaws
+pub mod PromiseLaws

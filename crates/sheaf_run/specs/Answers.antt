@@ -16,7 +16,7 @@ use Rattle.sheaf_words.specs.declared.query.Command.{Command}
 use Rattle.sheaf_words.specs.declared.event.Event.{Event}
 use Rattle.reply_text.specs.Transcripts.{transcript}
 use Rattle.core_machine.specs.Machine.{IsLegalAndWhole}
-use Rattle.sheaf_text.specs.Readings.{Reading, InputValue, reading}
+use Rattle.sheaf_text.specs.Readings.{Reading, reading}
 use Rattle.sheaf_text.specs.Readings as readings
 use Rattle.sheaf_text.specs.Answers.{input_value}
 use Rattle.sheaf_text.specs.declared.fault.LineCause.{LineCause}
@@ -46,16 +46,13 @@ IsAnswer BadComplex = Unit {0}
 IsAnswer BadSheaf = Unit {0}
 IsAnswer Limit = Unit {0}
 
--- the job that one word asks for
-abbrev pub job_of_word : List ℕ → Option Job
-job_of_word word = if bytes_eq word (codes "solve") then Some Solve else if bytes_eq word (codes "check") then
-    Some Check else None
-
 -- the job that the words ask for: one word, and nothing else
 abbrev pub job_of : List (List ℕ) → Option Job
-job_of [] = None
-job_of (word ∷ []) = job_of_word word
-job_of (word ∷ other ∷ more) = None
+job_of (word ∷ []) =
+    if bytes_eq word (codes "solve") then Some Solve
+    else if bytes_eq word (codes "check") then Some Check
+    else None
+job_of words = None
 
 abbrev pub bad_words : Outcome
 bad_words = record { status = BadWords; text = codes "bad words\n" }
@@ -93,45 +90,25 @@ refusal (Complex (Signs s u)) =
     record { status = BadComplex; text = text_line (codes "bad complex signs") (s ∷ u ∷ []) }
 refusal (Noncommuting s u) = record { status = BadSheaf; text = text_line (codes "bad sheaf square") (s ∷ u ∷ []) }
 
--- how many cells and faces a sheaf has, how many clients ask, and how many commands these have
-abbrev pub good : SheafData Field → ℕ → ℕ → Outcome
-good d clients commands =
-    record {
-      status = Done;
-      text = text_line (codes "good") (length d.complex.dims ∷ length d.complex.faces ∷ clients
-          ∷ commands ∷ []);
-    }
+-- what is written of a sheaf and the scripts of its clients: under `solve` the transcript of one legal order of all
+-- commands, whole; under `check` how many cells and faces there are, how many clients, and how many commands
+abbrev pub IsTextOf : Job → SheafData Field → List (List Command) → List ℕ → Type 0
+IsTextOf Solve d scripts text =
+    (events : List Event) × IsLegalAndWhole (ops_of d.field) scripts d events × (text ≡ transcript scripts events)
+IsTextOf Check d scripts text =
+    text ≡ text_line (codes "good") (length d.complex.dims ∷ length d.complex.faces ∷ length scripts
+    ∷ sum_by length scripts ∷ [])
 
--- the transcript of one legal order of all commands of these scripts on the sheaf, whole
-pub record IsSolution (d : SheafData Field) (scripts : List (List Command)) (a : Outcome) : Type 0 where
-  pub events : List Event
-  pub order : IsLegalAndWhole (ops_of d.field) scripts d events
-  pub is : a ≡ record { status = Done; text = transcript scripts events }
-
--- what a sheaf is answered: under `solve` a transcript, under `check` its counts and those of its clients and commands
-abbrev pub IsRight : Job → SheafData Field → List (List Command) → Outcome → Type 0
-IsRight Solve d scripts a = IsSolution d scripts a
-IsRight Check d scripts a = a ≡ good d (length scripts) (sum_by length scripts)
-
--- the first fault of a draft is what it is refused with
-pub record IsRefused (d : SheafData Field) (a : Outcome) : Type 0 where
-  pub fault : SealFault
-  pub first : IsFault (ops_of d.field) d.complex d.blocks fault
-  pub is : a ≡ refusal fault
-
--- a sheaf is answered, and a draft that is none is refused
-abbrev pub AnswersDraft : (Outcome → Type 0) → SheafData Field → Outcome → Type 0
-AnswersDraft IsRight d a = IsRefused d a ⊎ (IsSheaf (ops_of d.field) d.complex d.stalks d.blocks × IsRight a)
-
--- the value is that of this input, and of no other
-pub record IsInputOf (v : InputValue) (i : Input) : Type 0 where
-  pub value : v ≡ input_value i
-  pub only : (j : Input) → v ≡ input_value j → j ≡ i
+-- a draft that is no sheaf is refused with its first fault; a sheaf is answered with such a text
+abbrev pub AnswersDraft : Job → SheafData Field → List (List Command) → Outcome → Type 0
+AnswersDraft job d scripts a =
+    ((fault : SealFault) × IsFault (ops_of d.field) d.complex d.blocks fault × (a ≡ refusal fault))
+    ⊎ (IsSheaf (ops_of d.field) d.complex d.stalks d.blocks × (a.status ≡ Done) × IsTextOf job d scripts a.text)
 
 -- a good reading is answered by its draft, and a line that is refused or passes a limit by what is said of it
 abbrev pub AnswersReading : Job → Reading → Outcome → Type 0
-AnswersReading job (readings.Good v) a = (i : Input) × IsInputOf v i × AnswersDraft (IsRight job i.draft i.scripts)
-    i.draft a
+AnswersReading job (readings.Good v) a =
+    (i : Input) × (v ≡ input_value i) × AnswersDraft job i.draft i.scripts a
 AnswersReading job (readings.BadLine line cause) a = a ≡ bad_line line cause
 AnswersReading job (readings.Limit line which) a = a ≡ over_limit line which
 
@@ -139,9 +116,6 @@ AnswersReading job (readings.Limit line which) a = a ≡ over_limit line which
 abbrev pub AnswersJob : Option Job → List ℕ → Outcome → Type 0
 AnswersJob None bytes a = a ≡ bad_words
 AnswersJob (Some job) bytes a = AnswersReading job (reading bytes) a
-
-abbrev pub Answers : List (List ℕ) → List ℕ → Outcome → Type 0
-Answers words bytes a = AnswersJob (job_of words) bytes a
 
 -- the status that a draft is due: it is a sheaf, its incidences are not regular, or they are and some square does not
 -- commute
@@ -158,6 +132,7 @@ ReadingIsDue (readings.Good v) status = (i : Input) × (v ≡ input_value i) × 
 ReadingIsDue (readings.BadLine line cause) status = status ≡ BadLine
 ReadingIsDue (readings.Limit line which) status = status ≡ Limit
 
--- the status that the bytes are due, whatever job the words ask for
-abbrev pub IsDue : List ℕ → Status → Type 0
-IsDue bytes status = ReadingIsDue (reading bytes) status
+-- the status that the bytes are due under a job
+abbrev pub IsDue : Job → List ℕ → Status → Type 0
+IsDue Solve bytes status = ReadingIsDue (reading bytes) status
+IsDue Check bytes status = ReadingIsDue (reading bytes) status

@@ -1,5 +1,7 @@
 pub mod Words
 pub mod Answers
+pub mod Views
+pub mod Runs
 pub mod Replies
 pub mod Sessions
-pub mod Runs
+pub mod ExitNumbers

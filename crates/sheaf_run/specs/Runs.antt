@@ -5,77 +5,70 @@ use Rattle.io_edge.specs.Faults.{Rose}
 use Rattle.io_edge.specs.Bytes.{Took, TookPrefix, IsFlushed}
 use Rattle.field_table.specs.Table.{ops_of}
 use Rattle.sheaf_data.specs.Sheaves.{IsSheaf}
-use Rattle.sheaf_words.specs.declared.event.Event.{Event}
-use Rattle.reply_text.specs.Transcripts.{transcript}
-use Rattle.core_machine.specs.Machine.{IsLegalAndWhole}
 use Rattle.sheaf_text.specs.Readings.{Good, reading}
 use Rattle.sheaf_text.specs.Answers.{input_value}
 use Rattle.sheaf_text.specs.declared.input.Input.{Input}
-use Rattle.sheaf_run.specs.declared.job.Job.TheVariants.{Solve}
-use Rattle.sheaf_run.specs.Answers.{Outcome, IsAnswer, Answers, IsDue, job_of, bad_words}
-use Rattle.sheaf_run.specs.Replies.{Sent}
+use Rattle.sheaf_run.specs.declared.job.Job.{Job}
+use Rattle.sheaf_run.specs.declared.job.Job.TheVariants.{Solve, Check}
+use Rattle.sheaf_run.specs.Answers.{Outcome, IsAnswer, IsTextOf, AnswersJob, IsDue, bad_words}
+use Rattle.sheaf_run.specs.Views.{SourceView, SinkView}
 use Rattle.sheaf_run.specs.declared.status.Status.{Status}
 use Rattle.sheaf_run.specs.declared.status.Status.TheVariants.{Done, ReadFault, WriteFault, NoMemory, BadWords}
 
--- where the source tells its bytes, the sink took an outcome that is right for them, and it is flushed
-abbrev pub Answered : (List ℕ → Outcome → Type 0) → Option (List ℕ) → Option (List ℕ) → Option (List ℕ) → ℕ → Status
-    → Type 0
-Answered IsRight left old new flush result = IfSome left (λ bytes. (a : Outcome) × IsRight bytes a
-    × Sent a old new flush result)
-
--- where the source tells its bytes, the sink took a front of the text of an outcome that is right for them
-abbrev pub Broken : (List ℕ → Outcome → Type 0) → Option (List ℕ) → Option (List ℕ) → Option (List ℕ) → Type 0
-Broken IsRight left old new = IfSome left (λ bytes. (a : Outcome) × IsRight bytes a × TookPrefix old new a.text)
+-- the status is the outcome's, and the sink took its text and flushed all
+pub record IsSent (a : Outcome) (sink sink_new : SinkView) (result : Status) : Type 0 where
+  pub status : result ≡ a.status
+  pub text : Took sink.taken sink_new.taken a.text
+  pub flushed : IsFlushed sink_new.taken sink_new.flushed
 
 -- the source is read to its end or not at all, and what its bytes are answered is written
-pub record Ran (IsRight : List ℕ → Outcome → Type 0) (left left_new old new : Option (List ℕ))
-    (flush read_before read_now write_before write_now : ℕ) (result : Status) : Type 0 where
-  pub answered : IsAnswer result → Answered IsRight left old new flush result
-  pub flushed : IsAnswer result → IsFlushed new flush
-  pub whole : result ≡ Done → IsAtEnd left_new
-  pub read : result ≡ ReadFault → Rose read_before read_now
-  pub unwritten : result ≡ ReadFault → new ≡ old
-  pub write : result ≡ WriteFault → Rose write_before write_now
-  pub front : result ≡ WriteFault → Broken IsRight left old new
-  pub memory : result ≡ NoMemory → new ≡ old
+pub record IsRun (IsRight : List ℕ → Outcome → Type 0) (source source_new : SourceView) (sink sink_new : SinkView)
+    (result : Status) : Type 0 where
+  -- Where the source tells its bytes, the sink took an outcome that is right for them; all of it is flushed.
+  pub answered : IsAnswer result
+      → IfSome source.left (λ bytes. (a : Outcome) × IsRight bytes a × IsSent a sink sink_new result)
+  pub flushed : IsAnswer result → IsFlushed sink_new.taken sink_new.flushed
+  pub at_end : result ≡ Done → IsAtEnd source_new.left
+  -- Faults come from the source or from the sink, which then took a prefix of what was to be written.
+  pub read : result ≡ ReadFault → Rose source.faults source_new.faults
+  pub unwritten : result ≡ ReadFault → sink_new.taken ≡ sink.taken
+  pub write : result ≡ WriteFault → Rose sink.faults sink_new.faults
+  pub prefix : result ≡ WriteFault
+      → IfSome source.left (λ bytes. (a : Outcome) × IsRight bytes a × TookPrefix sink.taken sink_new.taken a.text)
+  pub memory : result ≡ NoMemory → sink_new.taken ≡ sink.taken
 
--- the bytes are read as an input that is a sheaf with commands, and the sink took the transcript of one legal order of
--- all these commands, whole
-pub record IsServed (bytes : List ℕ) (old new : Option (List ℕ)) : Type 0 where
+-- the bytes are read as an input that is a sheaf: its incidences are regular, and its squares commute; nothing is left
+-- in the source; and the sink took exactly the text of the job, and flushed it
+pub record IsServed (job : Job) (bytes : List ℕ) (source_new : SourceView) (sink sink_new : SinkView) : Type 0 where
   pub input : Input
   pub good : reading bytes ≡ Good (input_value input)
   pub sheaf : IsSheaf (ops_of input.draft.field) input.draft.complex input.draft.stalks input.draft.blocks
-  pub events : List Event
-  pub order : IsLegalAndWhole (ops_of input.draft.field) input.scripts input.draft events
-  pub text : Took old new (transcript input.scripts events)
+  pub text : List ℕ
+  pub right : IsTextOf job input.draft input.scripts text
+  pub taken : Took sink.taken sink_new.taken text
+  pub flushed : IsFlushed sink_new.taken sink_new.flushed
+  pub at_end : IsAtEnd source_new.left
 
--- what a run with these words promises: of its source (the bytes that it had left and has left, its count of faults
--- before and after) and of its sink (the bytes taken before and after, how many of them are flushed, its count of
--- faults before and after)
-pub record Serves (words : List (List ℕ)) (left left_new taken taken_new : Option (List ℕ))
-    (flush read_before read_now write_before write_now : ℕ) (result : Status) : Type 0 where
-  -- Where the source tells its bytes, what the sink took in the call is right for the words and the bytes; all of it is
-  -- flushed.
-  pub answered : IsAnswer result → Answered (Answers words) left taken taken_new flush result
-  pub flushed : IsAnswer result → IsFlushed taken_new flush
-  pub whole : result ≡ Done → IsAtEnd left_new
+-- what a run with words that ask for this job, or are refused, promises: by what is seen of its source and of its sink
+-- before and after
+pub record Serves (job : Option Job) (source source_new : SourceView) (sink sink_new : SinkView) (result : Status) :
+    Type 0 where
+  pub run : IsRun (AnswersJob job) source source_new sink sink_new result
   -- With `solve` and Done the sink took the transcript of one legal order of all commands of the input.
-  pub served : job_of words ≡ Some Solve → result ≡ Done → IfSome left (λ bytes. IsServed bytes taken taken_new)
+  pub served : job ≡ Some Solve → result ≡ Done
+      → IfSome source.left (λ bytes. IsServed Solve bytes source_new sink sink_new)
+  -- With `check` and Done the sink took the line `good` with the four counts of the input.
+  pub checked : job ≡ Some Check → result ≡ Done
+      → IfSome source.left (λ bytes. IsServed Check bytes source_new sink sink_new)
   -- The words alone decide whether they are refused.
-  pub refused : IsAnswer result → ((result ≡ BadWords) ↔ (job_of words ≡ None))
-  pub refusal : result ≡ BadWords → Sent bad_words taken taken_new flush result
+  pub refused : IsAnswer result → ((result ≡ BadWords) ↔ (job ≡ None))
+  pub refusal : result ≡ BadWords → IsSent bad_words sink sink_new result
   -- With accepted words each status comes exactly where the bytes are due it.
   pub exact : IsAnswer result
-      → IfSome (job_of words) (λ job. IfSome left (λ bytes. (status : Status) → (result ≡ status) ↔ IsDue bytes status))
-  -- Faults come from the source or from the sink.
-  pub read : result ≡ ReadFault → Rose read_before read_now
-  pub unwritten : result ≡ ReadFault → taken_new ≡ taken
-  pub write : result ≡ WriteFault → Rose write_before write_now
-  pub front : result ≡ WriteFault → Broken (Answers words) left taken taken_new
-  pub memory : result ≡ NoMemory → taken_new ≡ taken
+      → IfSome job (λ j. IfSome source.left (λ bytes. (status : Status) → (result ≡ status) ↔ IsDue j bytes status))
   -- With no fault refused words are answered so, and bytes are answered the status that they are due unless memory runs
   -- out.
-  pub complete_words : job_of words ≡ None → ¬ (Rose write_before write_now) → result ≡ BadWords
-  pub complete : IfSome (job_of words)
-      (λ job. IfSome left (λ bytes. (status : Status) → IsDue bytes status → ¬ (Rose read_before read_now)
-      → ¬ (Rose write_before write_now) → (result ≡ status) ⊎ (result ≡ NoMemory)))
+  pub complete_words : job ≡ None → ¬ (Rose sink.faults sink_new.faults) → result ≡ BadWords
+  pub complete : IfSome job (λ j. IfSome source.left (λ bytes. (status : Status) → IsDue j bytes status
+      → ¬ (Rose source.faults source_new.faults) → ¬ (Rose sink.faults sink_new.faults)
+      → (result ≡ status) ⊎ (result ≡ NoMemory)))

@@ -1,13 +1,14 @@
 ghost use Rattle.std.specs.Prelude.{◌≡◌, ◌≤◌, IfOk, length, sum_by};
 ghost use Rattle.sheaf_text.specs.Answers.{AreServable};
-ghost use Rattle.sheaf_run.specs.Answers.{AnswersDraft, IsRight, IsSolution, good};
-ghost use Rattle.sheaf_run.specs.Replies.{Replies};
+ghost use Rattle.sheaf_run.specs.Answers.{AnswersDraft, IsTextOf};
+ghost use Rattle.sheaf_run.specs.Replies.{IsRight, Replies};
+ghost use Rattle.sheaf_run.specs.Views.{sink_view};
 ghost use Rattle.sheaf_run.specs.declared.job.Job.TheVariants.{Solve, Check};
 
 use crate::job::Job;
 use crate::output::{send, send_line};
 use crate::refusals::refuse_draft;
-use crate::session::served;
+use crate::session::session_events;
 use crate::status::Status;
 use dense_blocks::Listed;
 use field_table::Field;
@@ -24,9 +25,9 @@ fn solution(
     scripts: &[Listed<Command>],
 ) -> Result<Vec<u8>, NoMemory>
     requires { AreServable scripts.now }
-    ensures { IfOk result (λ text. IsSolution sheaf scripts.now (record { status = Status.Done; text = text.items })) }
+    ensures { IfOk result (λ text. IsTextOf Solve sheaf scripts.now text.items) }
 {
-    let events = served(alloc, sheaf, scripts)?;
+    let events = session_events(alloc, sheaf, scripts)?;
     transcript(alloc, scripts, &events)
 }
 
@@ -39,7 +40,8 @@ fn solve<K: Sink>(
 ) -> Status
     requires { AreServable scripts.now }
     ensures { Replies (IsRight Solve sheaf scripts.now)
-        (K.taken sink.old) (K.taken sink.new) (K.flushed sink.new) (K.fault_count sink.old) (K.fault_count sink.new) result }
+        (sink_view K.taken K.flushed K.fault_count sink.old)
+        (sink_view K.taken K.flushed K.fault_count sink.new) result }
 {
     match solution(alloc, sheaf, scripts) {
         Ok(text) => send(sink, Status::Done, text.as_slice()),
@@ -64,7 +66,8 @@ fn command_count(scripts: &[Listed<Command>]) -> usize
 fn check<K: Sink>(draft: &Draft<Field>, scripts: &[Listed<Command>], sink: &mut K) -> Status
     requires { AreServable scripts.now }
     ensures { Replies (IsRight Check draft.now scripts.now)
-        (K.taken sink.old) (K.taken sink.new) (K.flushed sink.new) (K.fault_count sink.old) (K.fault_count sink.new) result }
+        (sink_view K.taken K.flushed K.fault_count sink.old)
+        (sink_view K.taken K.flushed K.fault_count sink.new) result }
 {
     let cells = draft.complex.dims().len();
     let faces = draft.complex.face_count() as usize;
@@ -87,7 +90,8 @@ fn answer_sheaf<K: Sink>(
 ) -> Status
     requires { AreServable scripts.now }
     ensures { Replies (IsRight job sheaf scripts.now)
-        (K.taken sink.old) (K.taken sink.new) (K.flushed sink.new) (K.fault_count sink.old) (K.fault_count sink.new) result }
+        (sink_view K.taken K.flushed K.fault_count sink.old)
+        (sink_view K.taken K.flushed K.fault_count sink.new) result }
 {
     match job {
         Job::Solve => solve(alloc, sheaf, scripts, sink),
@@ -104,8 +108,9 @@ pub fn answer<K: Sink>(
     sink: &mut K,
 ) -> Status
     requires { AreServable scripts.now }
-    ensures { Replies (AnswersDraft (IsRight job draft scripts.now) draft)
-        (K.taken sink.old) (K.taken sink.new) (K.flushed sink.new) (K.fault_count sink.old) (K.fault_count sink.new) result }
+    ensures { Replies (AnswersDraft job draft scripts.now)
+        (sink_view K.taken K.flushed K.fault_count sink.old)
+        (sink_view K.taken K.flushed K.fault_count sink.new) result }
 {
     match draft.seal() {
         Ok(sheaf) => answer_sheaf(alloc, job, sheaf, scripts, sink),

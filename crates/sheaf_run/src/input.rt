@@ -1,6 +1,7 @@
 ghost use Rattle.sheaf_text.specs.Readings.{reading};
 ghost use Rattle.sheaf_run.specs.Answers.{AnswersReading};
 ghost use Rattle.sheaf_run.specs.Replies.{Replies};
+ghost use Rattle.sheaf_run.specs.Views.{sink_view};
 
 use crate::answers::answer;
 use crate::job::Job;
@@ -13,7 +14,8 @@ use std::alloc::Global;
 /// Does the job with what the bytes are read as.
 pub fn answer_bytes<K: Sink>(alloc: Global, job: Job, bytes: &[u8], sink: &mut K) -> Status
     ensures { Replies (AnswersReading job (reading bytes.now))
-        (K.taken sink.old) (K.taken sink.new) (K.flushed sink.new) (K.fault_count sink.old) (K.fault_count sink.new) result }
+        (sink_view K.taken K.flushed K.fault_count sink.old)
+        (sink_view K.taken K.flushed K.fault_count sink.new) result }
 {
     match read(alloc, bytes) {
         Ok(input) => answer(alloc, job, input.draft, input.scripts.as_slice(), sink),

@@ -4,9 +4,9 @@ ghost use Rattle.sheaf_run.specs.Answers.{job_of};
 /// What the words can ask for.
 #[derive(Clone, Copy, Debug, PartialEq, Eq)]
 pub enum Job {
-    /// The Betti numbers of the sheaf.
+    /// To serve all commands, and write the transcript.
     Solve,
-    /// Whether the input is a sheaf.
+    /// To see whether the input is a sheaf, and count what it has.
     Check,
 }
 

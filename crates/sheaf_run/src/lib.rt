@@ -13,6 +13,3 @@ mod top;
 pub use job::Job;
 pub use status::Status;
 pub use top::{run, run_solo};
-
-#[cfg(test)]
-mod tests;

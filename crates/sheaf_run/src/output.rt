@@ -2,7 +2,8 @@ ghost use Rattle.std.specs.Prelude.{◌≡◌, ◌⊎◌, ◌++◌, ◌≤◌, c
 ghost use Rattle.io_edge.specs.Faults.{HasCause};
 ghost use Rattle.io_edge.specs.Bytes.{Took, TookPrefix, IsFlushed};
 ghost use Rattle.sheaf_run.specs.Answers.{IsAnswer, spaced_numbers, text_line, text_of_parts};
-ghost use Rattle.sheaf_run.specs.Replies.{Replies, Sent};
+ghost use Rattle.sheaf_run.specs.Replies.{Replies};
+ghost use Rattle.sheaf_run.specs.Views.{sink_view};
 
 use crate::status::Status;
 use io_edge::{Sink, WriteFault, write_all};
@@ -12,7 +13,8 @@ use itoa::Buffer;
 pub fn send<K: Sink>(sink: &mut K, status: Status, text: &[u8]) -> Status
     requires { IsAnswer status }
     ensures replies { Replies (λ a. a ≡ record { status = status; text = text.now })
-        (K.taken sink.old) (K.taken sink.new) (K.flushed sink.new) (K.fault_count sink.old) (K.fault_count sink.new) result }
+        (sink_view K.taken K.flushed K.fault_count sink.old)
+        (sink_view K.taken K.flushed K.fault_count sink.new) result }
     ensures status { (result ≡ status) ⊎ (result ≡ Status.WriteFault) }
 {
     if write_all(sink, text).is_err() {
@@ -60,8 +62,10 @@ fn put_text<K: Sink>(
     numbers: &[usize],
     rest: &[u8],
 ) -> Result<(), WriteFault>
-    ensures ok { OnOk result (Took (K.taken sink.old) (K.taken sink.new) (text_of_parts words.now numbers.now rest.now)) }
-    ensures err { OnErr result (TookPrefix (K.taken sink.old) (K.taken sink.new) (text_of_parts words.now numbers.now rest.now)) }
+    ensures ok { OnOk result (Took (K.taken sink.old) (K.taken sink.new)
+        (text_of_parts words.now numbers.now rest.now)) }
+    ensures err { OnErr result (TookPrefix (K.taken sink.old) (K.taken sink.new)
+        (text_of_parts words.now numbers.now rest.now)) }
     ensures cause { HasCause (K.fault_count sink.old) (K.fault_count sink.new) result }
 {
     write_all(sink, words)?;
@@ -81,7 +85,8 @@ pub fn send_text<K: Sink>(
 ) -> Status
     requires { IsAnswer status }
     ensures { Replies (λ a. a ≡ record { status = status; text = text_of_parts words.now numbers.now rest.now })
-        (K.taken sink.old) (K.taken sink.new) (K.flushed sink.new) (K.fault_count sink.old) (K.fault_count sink.new) result }
+        (sink_view K.taken K.flushed K.fault_count sink.old)
+        (sink_view K.taken K.flushed K.fault_count sink.new) result }
 {
     if put_text(sink, words, numbers, rest).is_err() {
         return Status::WriteFault;
@@ -96,7 +101,8 @@ pub fn send_text<K: Sink>(
 pub fn send_line<K: Sink>(sink: &mut K, status: Status, words: &[u8], numbers: &[usize]) -> Status
     requires { IsAnswer status }
     ensures { Replies (λ a. a ≡ record { status = status; text = text_line words.now numbers.now })
-        (K.taken sink.old) (K.taken sink.new) (K.flushed sink.new) (K.fault_count sink.old) (K.fault_count sink.new) result }
+        (sink_view K.taken K.flushed K.fault_count sink.old)
+        (sink_view K.taken K.flushed K.fault_count sink.new) result }
 {
     send_text(sink, status, words, numbers, b"\n")
 }

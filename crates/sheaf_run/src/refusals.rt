@@ -2,6 +2,7 @@ ghost use Rattle.std.specs.Prelude.{◌≡◌, ◌≢◌, ◌++◌, codes};
 ghost use Rattle.sheaf_run.specs.Words.{cause_word, limit_word};
 ghost use Rattle.sheaf_run.specs.Answers.{bad_words, bad_line, over_limit, refusal};
 ghost use Rattle.sheaf_run.specs.Replies.{Replies};
+ghost use Rattle.sheaf_run.specs.Views.{sink_view};
 ghost use Rattle.sheaf_data.specs.declared.fault.SealFault.TheVariants.{Complex};
 
 use crate::output::{send, send_line, send_text};
@@ -14,7 +15,8 @@ use sheaf_text::{LineCause, Which};
 /// Writes that the words are refused.
 pub fn refuse_words<K: Sink>(sink: &mut K) -> Status
     ensures replies { Replies (λ a. a ≡ bad_words)
-        (K.taken sink.old) (K.taken sink.new) (K.flushed sink.new) (K.fault_count sink.old) (K.fault_count sink.new) result }
+        (sink_view K.taken K.flushed K.fault_count sink.old)
+        (sink_view K.taken K.flushed K.fault_count sink.new) result }
     ensures memory { result ≢ Status.NoMemory }
 {
     send(sink, Status::BadWords, b"bad words\n")
@@ -44,7 +46,8 @@ fn cause_end(cause: LineCause) -> &'static [u8]
 /// Writes which line is refused, and why. Takes no memory.
 pub fn refuse_line<K: Sink>(sink: &mut K, line: u32, cause: LineCause) -> Status
     ensures { Replies (λ a. a ≡ bad_line line cause)
-        (K.taken sink.old) (K.taken sink.new) (K.flushed sink.new) (K.fault_count sink.old) (K.fault_count sink.new) result }
+        (sink_view K.taken K.flushed K.fault_count sink.old)
+        (sink_view K.taken K.flushed K.fault_count sink.new) result }
 {
     let end = cause_end(cause);
     send_text(sink, Status::BadLine, b"bad line", &[line as usize], end)
@@ -70,7 +73,8 @@ fn limit_words(which: Which) -> &'static [u8]
 /// Writes which limit is passed, and at which line. Takes no memory.
 pub fn refuse_limit<K: Sink>(sink: &mut K, line: u32, which: Which) -> Status
     ensures { Replies (λ a. a ≡ over_limit line which)
-        (K.taken sink.old) (K.taken sink.new) (K.flushed sink.new) (K.fault_count sink.old) (K.fault_count sink.new) result }
+        (sink_view K.taken K.flushed K.fault_count sink.old)
+        (sink_view K.taken K.flushed K.fault_count sink.new) result }
 {
     let words = limit_words(which);
     send_line(sink, Status::Limit, words, &[line as usize])
@@ -79,7 +83,8 @@ pub fn refuse_limit<K: Sink>(sink: &mut K, line: u32, which: Which) -> Status
 /// Writes why the complex is refused. Takes no memory.
 fn refuse_complex<K: Sink>(sink: &mut K, fault: Incidence) -> Status
     ensures { Replies (λ a. a ≡ refusal (Complex fault))
-        (K.taken sink.old) (K.taken sink.new) (K.flushed sink.new) (K.fault_count sink.old) (K.fault_count sink.new) result }
+        (sink_view K.taken K.flushed K.fault_count sink.old)
+        (sink_view K.taken K.flushed K.fault_count sink.new) result }
 {
     let bad = Status::BadComplex;
     match fault {
@@ -104,7 +109,8 @@ fn refuse_complex<K: Sink>(sink: &mut K, fault: Incidence) -> Status
 /// Writes why the draft is refused. Takes no memory.
 pub fn refuse_draft<K: Sink>(sink: &mut K, fault: SealFault) -> Status
     ensures { Replies (λ a. a ≡ refusal fault)
-        (K.taken sink.old) (K.taken sink.new) (K.flushed sink.new) (K.fault_count sink.old) (K.fault_count sink.new) result }
+        (sink_view K.taken K.flushed K.fault_count sink.old)
+        (sink_view K.taken K.flushed K.fault_count sink.new) result }
 {
     match fault {
         SealFault::Complex(incidence) => refuse_complex(sink, incidence),

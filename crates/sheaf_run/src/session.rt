@@ -1,4 +1,4 @@
-ghost use Rattle.std.specs.Prelude.{◌≡◌, ℕ, ◌+◌, ◌*◌, ◌≤◌, ◌<◌, ◌^◌, List, Some, [], length, slice_get, sum_by, IfOk, OnOk, All};
+ghost use Rattle.std.specs.Prelude.{◌≡◌, ℕ, ◌+◌, ◌*◌, ◌≤◌, List, Some, [], length, slice_get, sum_by, IfOk, OnOk, All};
 ghost use Rattle.field_table.specs.Table.{ops_of};
 ghost use Rattle.field_table.specs.declared.field.Field.{Field as FieldValue};
 ghost use Rattle.sheaf_data.specs.Sheaves.{SheafData};
@@ -8,7 +8,7 @@ ghost use Rattle.sheaf_words.specs.declared.query.Command.TheVariants.{Change, A
 ghost use Rattle.sheaf_words.specs.declared.query.Query.TheVariants.{Betti};
 ghost use Rattle.core_machine.specs.Machine.{command_at, IsLegalAndWhole};
 ghost use Rattle.sheaf_text.specs.Answers.{CanBeServed, AreServable};
-ghost use Rattle.sheaf_run.specs.Sessions.{IsJudged, Stands};
+ghost use Rattle.sheaf_run.specs.Sessions.{IsJudged, IsProgress};
 
 use dense_blocks::Listed;
 use edit_versions::{EditFault, apply};
@@ -53,7 +53,8 @@ impl Session {
     /// The Betti numbers of the sheaf as it is. They are computed once for each version that is asked.
     fn numbers(&mut self, alloc: Global) -> Result<Numbers, NoMemory>
         ensures same { self.new ≡ self.old }
-        ensures numbers { IfOk result (AreBetti (ops_of self.old.sheaf.field) self.old.sheaf.complex self.old.sheaf.stalks self.old.sheaf.blocks) }
+        ensures numbers { IfOk result (AreBetti (ops_of self.old.sheaf.field)
+            self.old.sheaf.complex self.old.sheaf.stalks self.old.sheaf.blocks) }
     {
         if let Some(numbers) = &self.numbers {
             return copy_values(alloc, numbers);
@@ -65,10 +66,10 @@ impl Session {
     }
 
     /// Makes the edit, or refuses it; gives the verdict. The numbers stay with the version.
-    fn judged(&mut self, alloc: Global, edit: &Edit) -> Result<Verdict, NoMemory>
+    fn edit_verdict(&mut self, alloc: Global, edit: &Edit) -> Result<Verdict, NoMemory>
         requires { length edit.now.sets ≤ 1000000000 }
         ensures events { self.new.events ≡ self.old.events }
-        ensures judged { IfOk result (λ verdict. IsJudged self.old.sheaf edit.now.sets verdict self.new.sheaf) }
+        ensures judged { IfOk result (λ verdict. IsJudged self.old.sheaf edit.now verdict self.new.sheaf) }
     {
         match apply(alloc, &mut self.sheaf, edit) {
             Ok(()) => {
@@ -84,10 +85,11 @@ impl Session {
     fn judge(&mut self, alloc: Global, client: u32, edit: &Edit) -> Result<(), NoMemory>
         requires { length edit.now.sets ≤ 1000000000 }
         ensures few { OnOk result (length self.new.events ≤ length self.old.events + 2) }
-        ensures stands { OnOk result ((scripts : List (List CommandValue)) (start : SheafData FieldValue) (i : ℕ)
-            → command_at scripts client i ≡ Some (Change edit.now) → Stands scripts start client i self.old → Stands scripts start client (i + 1) self.new) }
+        ensures progress { OnOk result ((scripts : List (List CommandValue)) (start : SheafData FieldValue) (i : ℕ)
+            → command_at scripts client i ≡ Some (Change edit.now)
+            → IsProgress scripts start client i self.old → IsProgress scripts start client (i + 1) self.new) }
     {
-        let verdict = self.judged(alloc, edit)?;
+        let verdict = self.edit_verdict(alloc, edit)?;
         self.events.push(Event::Edit { c: client, verdict })?;
         Ok(())
     }
@@ -96,8 +98,9 @@ impl Session {
     fn answer(&mut self, alloc: Global, client: u32, query: &Query) -> Result<(), NoMemory>
         requires { query.now ≡ Betti }
         ensures few { OnOk result (length self.new.events ≤ length self.old.events + 2) }
-        ensures stands { OnOk result ((scripts : List (List CommandValue)) (start : SheafData FieldValue) (i : ℕ)
-            → command_at scripts client i ≡ Some (Ask query.now) → Stands scripts start client i self.old → Stands scripts start client (i + 1) self.new) }
+        ensures progress { OnOk result ((scripts : List (List CommandValue)) (start : SheafData FieldValue) (i : ℕ)
+            → command_at scripts client i ≡ Some (Ask query.now)
+            → IsProgress scripts start client i self.old → IsProgress scripts start client (i + 1) self.new) }
     {
         let numbers = self.numbers(alloc)?;
         self.events.push(Event::Ask { c: client })?;
@@ -112,8 +115,9 @@ impl Session {
     fn serve(&mut self, alloc: Global, client: u32, command: &Command) -> Result<(), NoMemory>
         requires { CanBeServed 1000000000 command.now }
         ensures few { OnOk result (length self.new.events ≤ length self.old.events + 2) }
-        ensures stands { OnOk result ((scripts : List (List CommandValue)) (start : SheafData FieldValue) (i : ℕ)
-            → command_at scripts client i ≡ Some command.now → Stands scripts start client i self.old → Stands scripts start client (i + 1) self.new) }
+        ensures progress { OnOk result ((scripts : List (List CommandValue)) (start : SheafData FieldValue) (i : ℕ)
+            → command_at scripts client i ≡ Some command.now
+            → IsProgress scripts start client i self.old → IsProgress scripts start client (i + 1) self.new) }
     {
         match command {
             Command::Change(edit) => self.judge(alloc, client, edit),
@@ -125,8 +129,9 @@ impl Session {
     fn serve_all(&mut self, alloc: Global, client: u32, script: &[Command]) -> Result<(), NoMemory>
         requires { All (CanBeServed 1000000000) script.now }
         ensures few { OnOk result (length self.new.events ≤ length self.old.events + 2 * length script.now) }
-        ensures stands { OnOk result ((scripts : List (List CommandValue)) (start : SheafData FieldValue)
-            → slice_get scripts client ≡ Some script.now → Stands scripts start client 0 self.old → Stands scripts start (client + 1) 0 self.new) }
+        ensures progress { OnOk result ((scripts : List (List CommandValue)) (start : SheafData FieldValue)
+            → slice_get scripts client ≡ Some script.now
+            → IsProgress scripts start client 0 self.old → IsProgress scripts start (client + 1) 0 self.new) }
     {
         for command in script {
             self.serve(alloc, client, command)?;
@@ -144,7 +149,7 @@ impl Session {
 
 /// What happens where the clients with these scripts are served one after the other, each command to its end, on one
 /// sheaf that their edits change.
-pub fn served(
+pub fn session_events(
     alloc: Global,
     sheaf: Sheaf<Field>,
     scripts: &[Listed<Command>],

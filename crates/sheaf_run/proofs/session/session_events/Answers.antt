@@ -2,16 +2,16 @@ use Rattle.std.proofs.Common.{◌+◌, ◌*◌, ◌≤◌, length, slice_get, So
 use Rattle.std.proofs.lemmas.Option.{slice_get_read}
 use Rattle.field_table.specs.Table.{ops_of}
 use Rattle.core_machine.specs.Machine.{IsLegalAndWhole}
-use Rattle.sheaf_run.specs.Sessions.{Stands}
-use Rattle.sheaf_run.proofs.ServingLaws.{first-stands, last-stands, commands-more}
-use Rattle.sheaf_run.proofs.session.served.Goals as goal
+use Rattle.sheaf_run.specs.Sessions.{IsProgress}
+use Rattle.sheaf_run.proofs.ServingLaws.{first-progress, last-progress, commands-more}
+use Rattle.sheaf_run.proofs.session.session_events.Goals as goal
 
 pub loop-script-init : goal.loop-script-init
 loop-script-init c = (
   refl,
   rw c.new-session.ensures (omega arith),
-  subst (Stands c.args.scripts.now c.args.sheaf 0 0) (sym c.new-session.ensures)
-      (first-stands c.args.scripts.now c.args.sheaf),
+  subst (IsProgress c.args.scripts.now c.args.sheaf 0 0) (sym c.new-session.ensures)
+      (first-progress c.args.scripts.now c.args.sheaf),
 )
 
 pub loop-script-preserved : goal.loop-script-preserved
@@ -27,15 +27,15 @@ loop-script-preserved c =
           here.1
           (subst (λ s. length c.serve_all.new.self.events ≤ length c.loop-script.session.events + 2 * length s)
           c.as_slice.ensures c.in_ok-serve_all.ensures.few),
-      subst (λ k. Stands scripts c.args.sheaf (k + 1) 0 c.serve_all.new.self) here.0
-          (c.in_ok-serve_all.ensures.stands scripts c.args.sheaf (ap (slice_get scripts) here.0 ∙ there
+      subst (λ k. IsProgress scripts c.args.sheaf (k + 1) 0 c.serve_all.new.self) here.0
+          (c.in_ok-serve_all.ensures.progress scripts c.args.sheaf (ap (slice_get scripts) here.0 ∙ there
           ∙ ap Some (sym c.as_slice.ensures))
-          (subst (λ k. Stands scripts c.args.sheaf k 0 c.loop-script.session) (sym here.0) here.2)),
+          (subst (λ k. IsProgress scripts c.args.sheaf k 0 c.loop-script.session) (sym here.0) here.2)),
     )
 
 pub returns-clause-legal : goal.returns-clause-legal
 returns-clause-legal c =
     let scripts = c.args.scripts.now in
     subst (IsLegalAndWhole (ops_of c.args.sheaf.field) scripts c.args.sheaf) (sym c.into_events.ensures)
-    (last-stands scripts c.args.sheaf c.loop-script.session
-    (subst (λ k. Stands scripts c.args.sheaf k 0 c.loop-script.session) (search rules) c.loop-script.invariant.2))
+    (last-progress scripts c.args.sheaf c.loop-script.session
+    (subst (λ k. IsProgress scripts c.args.sheaf k 0 c.loop-script.session) (search rules) c.loop-script.invariant.2))
