@@ -1,13 +1,14 @@
-ghost use Rattle.std.specs.Prelude.{◌≡◌, ◌≤◌, length};
+ghost use Rattle.std.specs.Prelude.{◌≡◌, ◌≤◌, length, All, IfOk};
 ghost use Rattle.dense_blocks.specs.Vectors.{AllScalars};
 ghost use Rattle.dense_blocks.specs.Two.{two};
 
-use crate::checksums::checksum;
 use crate::failure::Failure;
-use crate::report::{Report, Watch};
+use crate::report::{Report, Watch, checksum};
 use crate::sequence::Sequence;
-use dense_blocks::{Block, Two, apply, product};
+use dense_blocks::{Block, Inverse, Solution, Two, add_scaled, invert, product, solve};
+use std::alloc::{AllocError as NoMemory, Global};
 use std::rt::Clock;
+use std::time::Duration;
 
 pub(crate) fn run_product<R: Clock + AllocGlobal>(rt: &R, size: u32) -> Result<Report, Failure>
     requires { size ≤ 1024 }
@@ -15,55 +16,76 @@ pub(crate) fn run_product<R: Clock + AllocGlobal>(rt: &R, size: u32) -> Result<R
     let mut sequence = Sequence::new();
     let a = sequence.block(rt.alloc(), size)?;
     let b = sequence.block(rt.alloc(), size)?;
-    time_product(rt, 2 * size * size * size, &a, &b)
-}
-
-fn time_product<R: Clock + AllocGlobal>(
-    rt: &R,
-    count: u32,
-    a: &Block,
-    b: &Block,
-) -> Result<Report, Failure>
-    requires shapes { a.now.cols ≡ b.now.rows }
-    requires a_scalars { AllScalars two a.now.entries }
-    requires b_scalars { AllScalars two b.now.entries }
-{
     let watch = Watch::start(rt);
-    let c = product(rt.alloc(), &Two, a, b)?;
+    let c = product(rt.alloc(), &Two, &a, &b)?;
     let time = watch.time(rt);
-    Ok(Report::Timed {
-        count,
-        checksum: checksum(0, c.entries.as_slice()),
-        time,
-    })
+    Ok(operations(2 * size * size * size, c.entries.as_slice(), time))
 }
 
-pub(crate) fn run_apply<R: Clock + AllocGlobal>(rt: &R, size: u32) -> Result<Report, Failure>
+pub(crate) fn run_solve<R: Clock + AllocGlobal>(rt: &R, size: u32) -> Result<Report, Failure>
     requires { size ≤ 1024 }
 {
     let n = size as usize;
-    let mut sequence = Sequence::new();
-    let a = sequence.block(rt.alloc(), size)?;
-    let v = sequence.vector(rt.alloc(), n, n, 0)?;
-    time_apply(rt, 2 * size * size, &a, &v)
+    let columns = Sequence::new().columns(rt.alloc(), n, n)?;
+    let sum = sum_of(rt.alloc(), n, &columns)?;
+    let watch = Watch::start(rt);
+    let solution = solve(rt.alloc(), &Two, &columns, &sum)?;
+    let time = watch.time(rt);
+    match solution {
+        Solution::Combination(coefficients) => {
+            Ok(operations(size * size * (size + 1), &coefficients, time))
+        }
+        Solution::Apart(_) => Err(Failure::Made),
+    }
 }
 
-fn time_apply<R: Clock + AllocGlobal>(
-    rt: &R,
-    count: u32,
-    a: &Block,
-    v: &[u8],
-) -> Result<Report, Failure>
-    requires size { length v.now ≡ a.now.cols }
-    requires a_scalars { AllScalars two a.now.entries }
-    requires v_scalars { AllScalars two v.now }
+pub(crate) fn run_invert<R: Clock + AllocGlobal>(rt: &R, size: u32) -> Result<Report, Failure>
+    requires positive { 1 ≤ size }
+    requires small { size ≤ 1024 }
 {
+    let a = invertible(rt.alloc(), size)?;
     let watch = Watch::start(rt);
-    let image = apply(rt.alloc(), &Two, a, v)?;
+    let inverse = invert(rt.alloc(), &Two, &a)?;
     let time = watch.time(rt);
-    Ok(Report::Timed {
+    match inverse {
+        Inverse::Both(b) => Ok(operations(2 * size * size * size, b.entries.as_slice(), time)),
+        Inverse::Singular(_) => Err(Failure::Made),
+    }
+}
+
+/// The report of so many operations in the field, and of a result of these scalars.
+fn operations(count: u32, scalars: &[u8], time: Option<Duration>) -> Report {
+    Report {
         count,
-        checksum: checksum(0, &image),
+        unit: "field operations",
+        checksum: checksum(scalars),
         time,
-    })
+    }
+}
+
+/// A block that has an inverse: a product of two triangles.
+fn invertible(alloc: Global, size: u32) -> Result<Block, NoMemory>
+    requires positive { 1 ≤ size }
+    requires small { size ≤ 1024 }
+    ensures square { IfOk result (λ b. b.rows ≡ b.cols) }
+    ensures scalars { IfOk result (λ b. AllScalars two b.entries) }
+{
+    let mut sequence = Sequence::new();
+    let lower = sequence.triangle(alloc, size, false)?;
+    let upper = sequence.triangle(alloc, size, true)?;
+    product(alloc, &Two, &lower, &upper)
+}
+
+/// The sum of columns of `size` coordinates.
+fn sum_of(alloc: Global, size: usize, columns: &[Vec<u8>]) -> Result<Vec<u8>, NoMemory>
+    requires sizes { All (λ c. length c.items ≡ size) columns.now }
+    requires scalars { All (λ c. AllScalars two c.items) columns.now }
+    ensures size { IfOk result (λ v. length v.items ≡ size) }
+    ensures scalars { IfOk result (λ v. AllScalars two v.items) }
+{
+    let mut sum = vec![in alloc; 0; size]?;
+    for column in columns {
+        add_scaled(&Two, sum.as_mut_slice(), 1, column.as_slice());
+    }
+    Ok(sum)
 }

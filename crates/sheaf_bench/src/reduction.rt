@@ -5,24 +5,29 @@ ghost use Rattle.reduce_step.specs.Differences.{Fits};
 ghost use Rattle.sheaf_bench.specs.Reductions.{IsOfField};
 ghost use Rattle.block_sparse.specs.StoredBlocks.{complex_in};
 
-use crate::cells::start;
-use crate::checksums::mixed;
 use crate::failure::Failure;
-use crate::report::{Reduced, Report, Watch, sum_of_times};
-use crate::sheaves::torus_sheaf;
-use crate::texts::input_text;
-use crate::torus::rows_of;
+use crate::torus::sealed;
 use block_sparse::Blocks;
+use coboundary::{full, start_is_block_complex};
 use dense_blocks::Scalars;
-use field_table::Field;
+use io_edge::{StdSource, read_all};
 use pair_find::next_candidate;
 use reduce_step::{Finish, Footprint, Record};
 use removals::removal_keeps_block_complex;
 use sheaf_data::Sheaf;
-use sheaf_text::read;
+use sheaf_text::{MOST_BYTES, read};
 use std::alloc::{AllocError as NoMemory, Global};
-use std::rt::Clock;
-use std::time::Duration;
+
+/// What a reduction did.
+#[derive(Clone, Copy, Debug)]
+pub(crate) struct Reduced {
+    /// How many pairs of cells it removed.
+    pub pairs: u64,
+    /// How many corners it computed anew: at each removal the cells on the left times the cells below.
+    pub updates: u64,
+    /// How many cells are left.
+    pub left: usize,
+}
 
 /// What came of a candidate.
 #[derive(Clone, Copy)]
@@ -163,83 +168,22 @@ fn reduce<F: Scalars>(alloc: Global, f: &F, b: &mut Blocks) -> Result<Reduced, F
     })
 }
 
-/// The sheaf of a text.
-fn sheaf_of(alloc: Global, text: &[u8]) -> Result<Sheaf<Field>, Failure> {
-    let input = read(alloc, text)?;
-    match input.draft.seal() {
-        Ok(sheaf) => Ok(sheaf),
-        Err(_) => Err(Failure::Input),
-    }
-}
-
-/// Reduces the sheaf of a text.
-pub(crate) fn reduce_text(alloc: Global, text: &[u8]) -> Result<Reduced, Failure> {
-    let sheaf = sheaf_of(alloc, text)?;
-    let mut blocks = start(alloc, &sheaf)?;
-    reduce(alloc, &sheaf.draft().field, &mut blocks)
-}
-
-pub(crate) fn run_reduce<R: Input + AllocGlobal>(rt: &R) -> Result<Report, Failure> {
-    let text = input_text(rt)?;
-    let reduced = reduce_text(rt.alloc(), &text)?;
-    Ok(Report::Reduced(reduced))
-}
-
-/// What the searches of a reduction gave so far.
-#[derive(Clone, Copy)]
-struct Searches {
-    count: u32,
-    checksum: u32,
-    time: Option<Duration>,
-}
-
-impl Searches {
-    /// One search more.
-    fn with(self, found: Option<(u32, u32)>, time: Option<Duration>) -> Searches {
-        let (s, t) = found.unwrap_or((0, 0));
-        Searches {
-            count: self.count.saturating_add(1),
-            checksum: mixed(mixed(self.checksum, s), t),
-            time: sum_of_times(self.time, time),
-        }
-    }
-}
-
-pub(crate) fn run_candidates<R: Clock + AllocGlobal>(rt: &R, cells: u32) -> Result<Report, Failure>
-    requires { 16 ≤ cells }
+/// The block complex of a sheaf, over its field.
+fn start<F: Scalars>(alloc: Global, sheaf: &Sheaf<F>) -> Result<Blocks, NoMemory>
+    ensures { IfOk result (λ b. IsBlockComplex (F.ops sheaf.now.field) (complex_in b)) }
 {
-    let sheaf = torus_sheaf(rt.alloc(), rows_of(cells), 1)?;
+    // These two calls are made for their clauses alone.
+    start_is_block_complex();
+    let _cells = sheaf.draft().complex.dims();
+    let blocks = full(alloc, sheaf)?;
+    Ok(blocks)
+}
+
+pub(crate) fn run_reduce<R: Input + AllocGlobal>(rt: &R) -> Result<Reduced, Failure> {
+    let mut source = StdSource::new(rt.reader());
+    let text = read_all(rt.alloc(), &mut source, MOST_BYTES).map_err(|_| Failure::Input)?;
+    let input = read(rt.alloc(), &text).map_err(|_| Failure::Input)?;
+    let sheaf = sealed(input.draft)?;
     let mut blocks = start(rt.alloc(), &sheaf)?;
-    let searches = time_searches(rt, &sheaf.draft().field, &mut blocks)?;
-    Ok(Report::Timed {
-        count: searches.count,
-        checksum: searches.checksum,
-        time: searches.time,
-    })
-}
-
-/// Reduces, and takes the time of each search for a candidate.
-fn time_searches<R: Clock + AllocGlobal, F: Scalars>(
-    rt: &R,
-    f: &F,
-    b: &mut Blocks,
-) -> Result<Searches, Failure>
-    requires { IsBlockComplex (F.ops f.now) (complex_in b.old) }
-{
-    let mut from = (0, 0);
-    let mut searches = Searches {
-        count: 0,
-        checksum: 7,
-        time: Some(Duration::ZERO),
-    };
-    for _step in 0..u64::MAX {
-        let watch = Watch::start(rt);
-        let found = next_candidate(b, from);
-        searches = searches.with(found, watch.time(rt));
-        let Some(pair) = found else {
-            break;
-        };
-        from = try_pair(rt.alloc(), f, b, pair)?.next;
-    }
-    Ok(searches)
+    reduce(rt.alloc(), &sheaf.draft().field, &mut blocks)
 }

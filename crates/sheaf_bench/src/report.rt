@@ -1,31 +1,17 @@
 use std::rt::Clock;
 use std::time::{Duration, Instant};
 
-/// What a workload tells.
+/// What a call gave, and how long it took.
 #[derive(Clone, Copy, Debug)]
-pub enum Report {
-    /// A call that was timed.
-    Timed {
-        /// How many operations, faces, chains, squares, bytes, look-ups, blocks or searches there were.
-        count: u32,
-        /// A number that the whole result determines.
-        checksum: u32,
-        /// How long the call took; none where the clock failed.
-        time: Option<Duration>,
-    },
-    /// A reduction, which is not timed.
-    Reduced(Reduced),
-}
-
-/// What a reduction did.
-#[derive(Clone, Copy, Debug, PartialEq, Eq)]
-pub struct Reduced {
-    /// How many pairs of cells it removed.
-    pub pairs: u64,
-    /// How many corners it computed anew: at each removal the cells on the left times the cells below.
-    pub updates: u64,
-    /// How many cells are left.
-    pub left: usize,
+pub struct Report {
+    /// How much there was of what the workload counts.
+    pub count: u32,
+    /// What is counted.
+    pub unit: &'static str,
+    /// A number that the whole result determines.
+    pub checksum: u32,
+    /// How long the call took; none where the clock failed.
+    pub time: Option<Duration>,
 }
 
 /// A reading of the clock, if it gave one.
@@ -51,10 +37,14 @@ impl Watch {
     }
 }
 
-/// The sum of two times, as far as both are there.
-pub fn sum_of_times(a: Option<Duration>, b: Option<Duration>) -> Option<Duration> {
-    match (a, b) {
-        (Some(a), Some(b)) => a.checked_add(b),
-        _ => None,
+/// A number that the bytes, in their order, determine.
+pub fn checksum(bytes: &[u8]) -> u32 {
+    let mut sum: u32 = 0;
+    for byte in bytes {
+        sum = sum
+            .wrapping_add(u32::from(*byte))
+            .wrapping_add(1)
+            .wrapping_mul(16_777_619);
     }
+    sum
 }

@@ -28,21 +28,14 @@ impl Sequence {
         (self.state >> 63) as u8
     }
 
-    /// A vector of `size` coordinates: the next scalars in the first `free` of them, and `rest` in the others.
-    pub fn vector(
-        &mut self,
-        alloc: Global,
-        size: usize,
-        free: usize,
-        rest: u8,
-    ) -> Result<Vec<u8>, NoMemory>
-        requires { rest < two.order }
+    /// A vector of the next scalars.
+    fn vector(&mut self, alloc: Global, size: usize) -> Result<Vec<u8>, NoMemory>
         ensures size { IfOk result (λ v. length v.items ≡ size) }
         ensures scalars { IfOk result (λ v. AllScalars two v.items) }
     {
         let mut vector = Vec::with_capacity(alloc, size)?;
-        for i in 0..size {
-            vector.push(if i < free { self.scalar() } else { rest })?;
+        for _i in 0..size {
+            vector.push(self.scalar())?;
         }
         Ok(vector)
     }
@@ -54,8 +47,7 @@ impl Sequence {
         ensures columns { IfOk result (λ b. b.cols ≡ size) }
         ensures scalars { IfOk result (λ b. AllScalars two b.entries) }
     {
-        let count = size as usize * size as usize;
-        let entries = self.vector(alloc, count, count, 0)?;
+        let entries = self.vector(alloc, size as usize * size as usize)?;
         Block::of(alloc, size, size, &entries)
     }
 
@@ -88,20 +80,19 @@ impl Sequence {
         }
     }
 
-    /// So many columns, with 0 in all but the first `free` of their coordinates.
+    /// So many columns of the next scalars.
     pub fn columns(
         &mut self,
         alloc: Global,
         count: usize,
         size: usize,
-        free: usize,
     ) -> Result<Vec<Vec<u8>>, NoMemory>
         ensures sizes { IfOk result (λ cs. All (λ c. length c.items ≡ size) cs.items) }
         ensures scalars { IfOk result (λ cs. All (λ c. AllScalars two c.items) cs.items) }
     {
         let mut columns = Vec::with_capacity(alloc, count)?;
         for _column in 0..count {
-            columns.push(self.vector(alloc, size, free, 0)?)?;
+            columns.push(self.vector(alloc, size)?)?;
         }
         Ok(columns)
     }

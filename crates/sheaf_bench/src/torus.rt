@@ -1,108 +1,82 @@
-ghost use Rattle.std.specs.Prelude.{◌<◌, ◌≤◌, ◌^◌};
-ghost use Rattle.cell_complex.specs.Complexes.{AreCells};
+ghost use Rattle.std.specs.Prelude.{◌≡◌, ◌<◌, ◌≤◌, ◌^◌};
 
 use crate::failure::Failure;
-use cell_complex::{Complex, Face, Sign};
+use crate::report::{Report, Watch, checksum};
+use field_table::Field;
+use sheaf_data::{Draft, Sheaf};
+use sheaf_text::read;
 use std::alloc::{AllocError as NoMemory, Global};
+use std::rt::Clock;
+use std::time::Duration;
 
-/// A torus of squares, as lists of cells and faces.
+/// The text of the constant sheaf of scalars over 31 on a torus of `size` by `size` squares.
 ///
 /// On a grid of n by n places, whose indices are taken modulo n, each place has a vertex, an edge to the next row, an
 /// edge to the next column, and a square between these two edges and those across. First come all vertices, row by row,
 /// then all edges of the first kind, all of the second, and all squares.
-#[derive(Drop)]
-pub struct Torus {
-    /// The dimension of each cell.
-    pub dims: Vec<u8>,
-    /// The faces: for each place those of its edges and of its square.
-    pub faces: Vec<Face>,
-    pub ghost cells: { AreCells dims.items },
-}
-
-impl Torus {
-    /// The torus of `size` by `size` places; with 32 there are 4,096 cells. With one row, both ends of an edge are one
-    /// vertex, which no complex has.
-    pub fn of(alloc: Global, size: u32) -> Result<Torus, Failure>
-        requires positive { 1 ≤ size }
-        requires small { size ≤ 32 }
-    {
-        let dims = cells(alloc, size * size)?;
-        let faces = faces(alloc, size)?;
-        if Complex::fits(&dims) {
-            Ok(Torus { dims, faces })
-        } else {
-            Err(Failure::Made)
-        }
-    }
-}
-
-/// How many rows the greatest torus of at most so many cells has.
-pub fn rows_of(cells: u32) -> u32
-    requires { 16 ≤ cells }
-    ensures large { 2 ≤ result }
-    ensures small { result ≤ 32 }
-{
-    let mut rows = 2;
-    for more in 3..33 {
-        if 4 * more * more <= cells {
-            rows = more;
-        }
-    }
-    rows
-}
-
-/// The dimensions of the cells of so many places.
-fn cells(alloc: Global, places: u32) -> Result<Vec<u8>, NoMemory> {
-    let mut dims = Vec::new(alloc);
-    for dim in [0, 1, 1, 2] {
-        add_cells(&mut dims, dim, places)?;
-    }
-    Ok(dims)
-}
-
-/// The faces of all places.
-fn faces(alloc: Global, size: u32) -> Result<Vec<Face>, NoMemory>
+fn torus_text(alloc: Global, size: u32) -> Result<Vec<u8>, NoMemory>
     requires positive { 1 ≤ size }
     requires small { size ≤ 32 }
 {
-    let mut faces = Vec::new(alloc);
-    for place in 0..size * size {
-        add_faces(&mut faces, size, place / size, place % size)?;
+    let mut text = Vec::from_slice(alloc, b"field 31\n")?;
+    for dim in [0, 1, 1, 2] {
+        add_cells(alloc, &mut text, dim, size * size)?;
     }
-    Ok(faces)
+    add_faces(alloc, &mut text, size)?;
+    text.extend_from_slice(b"done\n")?;
+    Ok(text)
 }
 
-/// Adds so many cells of this dimension.
-fn add_cells(dims: &mut Vec<u8>, dim: u8, count: u32) -> Result<(), NoMemory> {
-    for _added in 0..count {
-        dims.push(dim)?;
+/// Adds the lines of so many cells of this dimension.
+fn add_cells(alloc: Global, text: &mut Vec<u8>, dim: u8, count: u32) -> Result<(), NoMemory> {
+    let line = format!(in alloc; "cell {dim} 1\n")?;
+    for _cell in 0..count {
+        text.extend_from_slice(line.as_bytes())?;
     }
     Ok(())
 }
 
-/// Adds the faces of the edges and of the square at the place.
-fn add_faces(faces: &mut Vec<Face>, size: u32, row: u32, column: u32) -> Result<(), NoMemory>
+/// Adds the lines of all faces.
+fn add_faces(alloc: Global, text: &mut Vec<u8>, size: u32) -> Result<(), NoMemory>
+    requires positive { 1 ≤ size }
+    requires small { size ≤ 32 }
+{
+    for place in 0..size * size {
+        add_place(alloc, text, size, place / size, place % size)?;
+    }
+    Ok(())
+}
+
+/// Adds the lines of the faces of the edges and of the square at the place.
+fn add_place(
+    alloc: Global,
+    text: &mut Vec<u8>,
+    size: u32,
+    row: u32,
+    column: u32,
+) -> Result<(), NoMemory>
     requires positive { 1 ≤ size }
     requires small { size ≤ 32 }
     requires row { row ≤ 1024 }
     requires column { column ≤ 1024 }
 {
+    let places = size * size;
     let here = vertex(size, row, column);
-    let down = edge_down(size, row, column);
-    let right = edge_right(size, row, column);
-    let square = 3 * size * size + here;
+    let (below, beside) = (vertex(size, row + 1, column), vertex(size, row, column + 1));
+    let (down, right, square) = (places + here, 2 * places + here, 3 * places + here);
     let incidences = [
-        (here, down, Sign::Minus),
-        (vertex(size, row + 1, column), down, Sign::Plus),
-        (here, right, Sign::Minus),
-        (vertex(size, row, column + 1), right, Sign::Plus),
-        (down, square, Sign::Plus),
-        (edge_right(size, row + 1, column), square, Sign::Plus),
-        (edge_down(size, row, column + 1), square, Sign::Minus),
-        (right, square, Sign::Minus),
+        (here, down, '-'),
+        (below, down, '+'),
+        (here, right, '-'),
+        (beside, right, '+'),
+        (down, square, '+'),
+        (2 * places + below, square, '+'),
+        (places + beside, square, '-'),
+        (right, square, '-'),
     ];
     for (s, t, sign) in incidences {
-        faces.push(Face { s, t, sign })?;
+        let line = format!(in alloc; "face {s} {t} {sign} 1\n")?;
+        text.extend_from_slice(line.as_bytes())?;
     }
     Ok(())
 }
@@ -116,20 +90,82 @@ fn vertex(size: u32, row: u32, column: u32) -> u32
     row % size * size + column % size
 }
 
-/// The edge from the place to the next row.
-fn edge_down(size: u32, row: u32, column: u32) -> u32
-    requires positive { 1 ≤ size }
-    requires small { size ≤ 32 }
-    ensures { result < 2 ^ 21 }
-{
-    size * size + vertex(size, row, column)
+/// The report of a call on this draft.
+fn report(
+    alloc: Global,
+    count: u32,
+    unit: &'static str,
+    draft: &Draft<Field>,
+    time: Option<Duration>,
+) -> Result<Report, NoMemory> {
+    let mut entries = Vec::new(alloc);
+    for block in draft.blocks.as_slice() {
+        entries.extend_from_slice(block.entries.as_slice())?;
+    }
+    let checksum = checksum(&entries);
+    Ok(Report {
+        count,
+        unit,
+        checksum,
+        time,
+    })
 }
 
-/// The edge from the place to the next column.
-fn edge_right(size: u32, row: u32, column: u32) -> u32
+pub(crate) fn run_read<R: Clock + AllocGlobal>(rt: &R, size: u32) -> Result<Report, Failure>
     requires positive { 1 ≤ size }
     requires small { size ≤ 32 }
-    ensures { result < 2 ^ 21 }
 {
-    2 * size * size + vertex(size, row, column)
+    let text = torus_text(rt.alloc(), size)?;
+    let watch = Watch::start(rt);
+    let input = read(rt.alloc(), &text).map_err(|_| Failure::Input)?;
+    let time = watch.time(rt);
+    let count = u32::try_from(text.len()).unwrap_or(u32::MAX);
+    Ok(report(rt.alloc(), count, "bytes", &input.draft, time)?)
+}
+
+/// The constant sheaf on the torus, not yet sealed.
+fn torus_draft(alloc: Global, size: u32) -> Result<Draft<Field>, Failure>
+    requires positive { 1 ≤ size }
+    requires small { size ≤ 32 }
+{
+    let text = torus_text(alloc, size)?;
+    let input = read(alloc, &text).map_err(|_| Failure::Input)?;
+    Ok(input.draft)
+}
+
+/// The sheaf of the draft.
+pub(crate) fn sealed(draft: Draft<Field>) -> Result<Sheaf<Field>, Failure> {
+    match draft.seal() {
+        Ok(sheaf) => Ok(sheaf),
+        Err(_) => Err(Failure::Input),
+    }
+}
+
+pub(crate) fn run_seal<R: Clock + AllocGlobal>(rt: &R, size: u32) -> Result<Report, Failure>
+    requires positive { 1 ≤ size }
+    requires small { size ≤ 32 }
+{
+    let draft = torus_draft(rt.alloc(), size)?;
+    let watch = Watch::start(rt);
+    let sheaf = sealed(draft)?;
+    let time = watch.time(rt);
+    Ok(report(rt.alloc(), 4 * size * size, "squares", sheaf.draft(), time)?)
+}
+
+pub(crate) fn run_put<R: Clock + AllocGlobal>(rt: &R, size: u32) -> Result<Report, Failure>
+    requires positive { 1 ≤ size }
+    requires small { size ≤ 32 }
+{
+    let mut sheaf = sealed(torus_draft(rt.alloc(), size)?)?;
+    if sheaf.draft().complex.face_count() == 0 {
+        return Err(Failure::Made);
+    }
+    let Draft { stalks, blocks, .. } = sheaf.draft().copy(rt.alloc())?;
+    let watch = Watch::start(rt);
+    let answer = sheaf.put_all(stalks, blocks, &[0]);
+    let time = watch.time(rt);
+    if answer.is_err() {
+        return Err(Failure::Made);
+    }
+    Ok(report(rt.alloc(), 2, "squares", sheaf.draft(), time)?)
 }

@@ -1,5 +1,5 @@
 use Rattle.reduce_step.proofs.AppliedLaws.{listed-degrees}
-use Rattle.sheaf_bench.proofs.merging.copied.Goals as goal
+use Rattle.sheaf_bench.proofs.merges.copied.Goals as goal
 
 pub returns : goal.returns
 returns c =

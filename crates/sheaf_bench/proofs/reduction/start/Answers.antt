@@ -4,7 +4,7 @@ use Rattle.sheaf_data.specs.Sheaves.{SheafData}
 use Rattle.block_complexes.proofs.SameLaws.{same-block_complex}
 use Rattle.block_sparse.specs.StoredBlocks.{complex_in}
 use Rattle.coboundary.specs.Start.{start_complex}
-use Rattle.sheaf_bench.proofs.cells.start.Goals as goal
+use Rattle.sheaf_bench.proofs.reduction.start.Goals as goal
 
 pub returns : goal.returns
 returns g c =

@@ -1,7 +1,7 @@
 use Rattle.std.proofs.Common.{sym, ap, ◌∙◌, subst}
 use Rattle.rising_lists.specs.Rising.{has, keys}
 use Rattle.block_sparse.specs.Grids.{AreSized}
-use Rattle.sheaf_bench.proofs.merging.put_grid.Goals as goal
+use Rattle.sheaf_bench.proofs.merges.put_grid.Goals as goal
 
 pub set_grid-requires-clause-left_sized : goal.set_grid-requires-clause-left_sized
 set_grid-requires-clause-left_sized c = subst (AreSized c.args.blocks.now.live) (sym c.as_slice.ensures)

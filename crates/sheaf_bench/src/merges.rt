@@ -3,12 +3,11 @@ ghost use Rattle.block_complexes.specs.BlockComplexes.{size_of};
 ghost use Rattle.block_sparse.specs.StoredBlocks.{block_at};
 ghost use Rattle.sheaf_bench.specs.Merges.{MayJoin};
 
-use crate::checksums::blocks_checksum;
 use crate::failure::Failure;
-use crate::report::{Report, Watch};
-use crate::sheaves::FIELD;
+use crate::report::{Report, Watch, checksum};
 use block_sparse::Blocks;
 use dense_blocks::{Block, minus};
+use field_table::Field;
 use reduce_step::Footprint;
 use std::alloc::{AllocError as NoMemory, Global};
 use std::rt::Clock;
@@ -47,28 +46,19 @@ fn crossed(alloc: Global, n: u32) -> Result<Blocks, Failure>
         return Err(Failure::Made);
     }
     let mut blocks = Blocks::of_cells(alloc, &cells)?;
-    put_rows(alloc, n, &mut blocks)?;
+    put_blocks(alloc, n, &mut blocks)?;
     Ok(blocks)
 }
 
 /// Puts all blocks.
-fn put_rows(alloc: Global, n: u32, blocks: &mut Blocks) -> Result<(), Failure>
+fn put_blocks(alloc: Global, n: u32, blocks: &mut Blocks) -> Result<(), Failure>
     requires { n ≤ 64 }
 {
-    for j in 0..2 * n + 1 {
-        put_row(alloc, n, j, blocks)?;
-    }
-    Ok(())
-}
-
-/// Puts the blocks to the cell at `j` of degree 1.
-fn put_row(alloc: Global, n: u32, j: u32, blocks: &mut Blocks) -> Result<(), Failure>
-    requires few { n ≤ 64 }
-    requires cell { j ≤ 128 }
-{
-    for i in 0..2 * n + 1 {
+    let cells = 2 * n + 1;
+    for pair in 0..cells * cells {
+        let (i, j) = (pair % cells, pair / cells);
         if has_block(i, j) {
-            put(alloc, blocks, i, 2 * n + 1 + j)?;
+            put(alloc, blocks, i, cells.saturating_add(j))?;
         }
     }
     Ok(())
@@ -93,29 +83,15 @@ pub(crate) fn run_merge<R: Clock + AllocGlobal>(rt: &R, size: u32) -> Result<Rep
     let mut blocks = crossed(rt.alloc(), size)?;
     let foot = footprint(rt.alloc(), &blocks, 2 * size + 1)?;
     let negative = negative(rt.alloc(), &foot)?;
-    time_merge(rt, size, &mut blocks, &foot, &negative)
-}
-
-fn time_merge<R: Clock>(
-    rt: &R,
-    size: u32,
-    blocks: &mut Blocks,
-    foot: &Footprint,
-    negative: &Block,
-) -> Result<Report, Failure>
-    requires positive { 1 ≤ size }
-    requires small { size ≤ 64 }
-    requires joined { MayJoin blocks.old.live foot.now.left foot.now.below }
-    requires rows { negative.now.rows ≡ foot.now.corners.rows }
-    requires cols { negative.now.cols ≡ foot.now.corners.cols }
-{
     let rounds = PUT / (size * size);
     let watch = Watch::start(rt);
-    merge(blocks, foot, negative, rounds)?;
+    merge(&mut blocks, &foot, &negative, rounds)?;
     let time = watch.time(rt);
-    Ok(Report::Timed {
+    let merged = footprint(rt.alloc(), &blocks, 2 * size + 1)?;
+    Ok(Report {
         count: rounds.saturating_mul(size * size),
-        checksum: blocks_checksum(blocks),
+        unit: "blocks",
+        checksum: checksum(merged.corners.entries.as_slice()),
         time,
     })
 }
@@ -148,10 +124,11 @@ fn negative(alloc: Global, foot: &Footprint) -> Result<Block, Failure>
     ensures rows { IfOk result (λ b. b.rows ≡ foot.now.corners.rows) }
     ensures cols { IfOk result (λ b. b.cols ≡ foot.now.corners.cols) }
 {
-    if !foot.is_over(&FIELD) {
+    let field = Field::ThirtyOne;
+    if !foot.is_over(&field) {
         return Err(Failure::Made);
     }
-    let negative = minus(alloc, &FIELD, &foot.corners)?;
+    let negative = minus(alloc, &field, &foot.corners)?;
     Ok(negative)
 }
 
