@@ -21,9 +21,8 @@ modulo q = record {
   inv = inverse q;
 }
 
--- the order is q, and on scalars the operations are those of whole numbers modulo q
+-- on the numbers below q, sums, negatives and products are those of whole numbers modulo q
 pub record IsModular (q : ℕ) (K : Ops) : Type 0 where
-  pub order_is : K.order ≡ q
   pub sum_is : (a b : ℕ) → a < q → b < q → K.add a b ≡ (a + b) % q
   pub negative_is : (a : ℕ) → a < q → K.neg a ≡ (q - a) % q
   pub product_is : (a b : ℕ) → a < q → b < q → K.mul a b ≡ (a * b) % q

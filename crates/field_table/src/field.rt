@@ -1,6 +1,6 @@
 ghost use Rattle.std.specs.Prelude.{◌≡◌, ◌↔◌, IsSome, IfSome, Contains};
-ghost use Rattle.field_table.specs.Modular.{IsModular, inverses};
-ghost use Rattle.field_table.specs.Table.{ops_of, order_of, orders};
+ghost use Rattle.field_table.specs.Modular.{inverses};
+ghost use Rattle.field_table.specs.Table.{ops_of, order_of, orders, IsFieldOfOrder};
 
 use dense_blocks::Scalars;
 
@@ -25,12 +25,13 @@ pub enum Field {
 const _: () = prove!(size_of::<Field>() == 1);
 
 impl Field {
-    /// The field of this order: sums and products are those of whole numbers modulo the order.
+    /// The field of this order, where the table has one.
     ///
-    /// The orders are 2, 3, 5, 7, 11, 13, 17, 19, 23, 29 and 31; there is `None` at any other.
+    /// The orders are 2, 3, 5, 7, 11, 13, 17, 19, 23, 29 and 31; there is `None` at any other. Each is a prime, so sums
+    /// and products are those of whole numbers modulo the order. Takes no memory.
     pub fn of(order: u32) -> Option<Field>
         ensures known { IsSome result ↔ Contains orders order }
-        ensures found { IfSome result (λ f. IsModular order (ops_of f)) }
+        ensures found { IfSome result (λ f. IsFieldOfOrder order (ops_of f)) }
     {
         match order {
             2 => Some(Field::Two),

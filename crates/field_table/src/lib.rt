@@ -2,7 +2,5 @@
 #![tactic(auto)]
 
 mod field;
-#[cfg(test)]
-mod tests;
 
 pub use field::Field;
