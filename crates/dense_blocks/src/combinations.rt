@@ -2,7 +2,6 @@ ghost use Rattle.std.specs.Prelude.{◌≡◌, ◌*◌, length};
 ghost use Rattle.dense_blocks.specs.Vectors.{AllScalars, plus, combination};
 ghost use Rattle.dense_blocks.specs.Matrices.{cut};
 
-use crate::rows::add_scaled;
 use crate::scalars::Scalars;
 
 /// Adds to the target the linear combination, by the coefficients, of rows as long as the target
@@ -25,7 +24,7 @@ pub(crate) fn add_combination<F: Scalars>(
     let mut rest = rows;
     for k in coefficients {
         let (row, later) = rest.split_at(columns);
-        add_scaled(f, target, *k, row);
+        f.add_scaled(target, *k, row);
         rest = later;
     }
 }

@@ -5,7 +5,6 @@ ghost use Rattle.dense_blocks.specs.Blocks.{matrix_of, IsBlock};
 
 use crate::block::Block;
 use crate::entries::Entries;
-use crate::rows::dot_product;
 use crate::scalars::Scalars;
 use std::alloc::{AllocError as NoMemory, Global};
 
@@ -86,7 +85,7 @@ pub fn apply<F: Scalars>(alloc: Global, f: &F, a: &Block, v: &[u8]) -> Result<Ve
 {
     let mut image = Vec::with_capacity(alloc, a.rows as usize)?;
     for i in 0..a.rows {
-        image.push(dot_product(f, a.row(i), v))?;
+        image.push(f.dot(a.row(i), v))?;
     }
     Ok(image)
 }

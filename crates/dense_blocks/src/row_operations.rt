@@ -4,7 +4,6 @@ ghost use Rattle.dense_blocks.specs.Vectors.{AllScalars};
 ghost use Rattle.dense_blocks.specs.Matrices.{cut};
 ghost use Rattle.dense_blocks.specs.Columns.{HasUnitColumns, ClearsColumn, Raises, HasNoPivot, row_remainder};
 
-use crate::rows::{add_scaled, scale};
 use crate::scalars::Scalars;
 
 /// Brings the first `size` columns of `size` rows, given one after another, to those of the identity, by adding
@@ -42,7 +41,7 @@ fn clear_column<F: Scalars>(f: &F, size: usize, column: usize, rows: &mut [u8]) 
         return false;
     }
     let inverse = f.inv(pivot[column]);
-    scale(f, pivot, inverse);
+    f.scale(pivot, inverse);
     clear_rows(f, column, column, pivot, above);
     clear_rows(f, column, later, pivot, below);
     true
@@ -66,7 +65,7 @@ fn raise<F: Scalars>(f: &F, column: usize, count: usize, pivot: &mut [u8], below
         None => false,
         Some(i) => {
             let start = i * width;
-            add_scaled(f, pivot, 1, &below[start..start + width]);
+            f.add_scaled(pivot, 1, &below[start..start + width]);
             true
         }
     }
@@ -102,6 +101,6 @@ fn clear_rows<F: Scalars>(f: &F, column: usize, count: usize, pivot: &[u8], rows
         let start = i * width;
         let row = &mut rows[start..start + width];
         let less = f.neg(row[column]);
-        add_scaled(f, row, less, pivot);
+        f.add_scaled(row, less, pivot);
     }
 }

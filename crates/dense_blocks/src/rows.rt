@@ -1,5 +1,5 @@
 ghost use Rattle.std.specs.Prelude.{◌≡◌, ◌≢◌, ◌<◌, length, take, IfOk, IfSome, IfNone, slice_index, vec_len};
-ghost use Rattle.dense_blocks.specs.Vectors.{AllScalars, zeros, plus, multiple, dot};
+ghost use Rattle.dense_blocks.specs.Vectors.{AllScalars, zeros, plus, multiple};
 
 use crate::scalars::Scalars;
 use std::alloc::{AllocError as NoMemory, Global};
@@ -21,12 +21,7 @@ pub fn add_scaled<F: Scalars>(f: &F, target: &mut [u8], k: u8, row: &[u8])
     ensures sum { target.new ≡ plus (F.ops f.now) target.old (multiple (F.ops f.now) k row.now) }
     ensures scalars { AllScalars (F.ops f.now) target.new }
 {
-    if k == 0 {
-        return;
-    }
-    for i in 0..target.len() {
-        target[i] = f.add(target[i], f.mul(k, row[i]));
-    }
+    f.add_scaled(target, k, row);
 }
 
 /// Multiplies each entry of the target by `k`.
@@ -36,24 +31,7 @@ pub fn scale<F: Scalars>(f: &F, target: &mut [u8], k: u8)
     ensures product { target.new ≡ multiple (F.ops f.now) k target.old }
     ensures scalars { AllScalars (F.ops f.now) target.new }
 {
-    for entry in target.iter_mut() {
-        *entry = f.mul(k, *entry);
-    }
-}
-
-/// The sum of the products of coordinates.
-pub(crate) fn dot_product<F: Scalars>(f: &F, u: &[u8], v: &[u8]) -> u8
-    requires sizes { length u.now ≡ length v.now }
-    requires u_scalars { AllScalars (F.ops f.now) u.now }
-    requires v_scalars { AllScalars (F.ops f.now) v.now }
-    ensures value { result ≡ dot (F.ops f.now) u.now v.now }
-    ensures scalar { result < (F.ops f.now).order }
-{
-    let mut total = 0;
-    for i in 0..u.len() {
-        total = f.add(total, f.mul(u[i], v[i]));
-    }
-    total
+    f.scale(target, k);
 }
 
 /// The first place whose entry is not 0.

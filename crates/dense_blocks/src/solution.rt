@@ -4,7 +4,7 @@ ghost use Rattle.dense_blocks.specs.Matrices.{IsMatrix};
 ghost use Rattle.dense_blocks.specs.Solutions.{Combines, IsLeading, Solves, lists};
 ghost use Rattle.dense_blocks.specs.Elimination.{Eliminates, IsPivot, PullsBack, parts, reduced, rows};
 
-use crate::rows::{add_scaled, dot_product, first_nonzero, zeros};
+use crate::rows::{first_nonzero, zeros};
 use crate::scalars::Scalars;
 use std::alloc::{AllocError as NoMemory, Global};
 
@@ -128,7 +128,7 @@ impl Elimination {
         let mut parts = Vec::with_capacity(alloc, self.pivots.len())?;
         for pivot in &self.pivots {
             let part = f.mul(row[pivot.place], pivot.inverse);
-            add_scaled(f, row.as_mut_slice(), f.neg(part), pivot.row.as_slice());
+            f.add_scaled(row.as_mut_slice(), f.neg(part), pivot.row.as_slice());
             parts.push(part)?;
         }
         Ok(Reduced { row, parts })
@@ -154,7 +154,7 @@ impl Elimination {
         let mut coefficients = zeros(alloc, columns.len())?;
         while let Some(last) = parts.pop() {
             let pivot = &self.pivots[parts.len()];
-            add_scaled(f, parts.as_mut_slice(), f.neg(last), pivot.parts.as_slice());
+            f.add_scaled(parts.as_mut_slice(), f.neg(last), pivot.parts.as_slice());
             coefficients[pivot.source] = f.add(coefficients[pivot.source], last);
         }
         Ok(coefficients)
@@ -177,7 +177,7 @@ impl Elimination {
         functional[place] = k;
         for i in (0..self.pivots.len()).rev() {
             let pivot = &self.pivots[i];
-            let on_row = dot_product(f, functional.as_slice(), pivot.row.as_slice());
+            let on_row = f.dot(functional.as_slice(), pivot.row.as_slice());
             let less = f.neg(f.mul(on_row, pivot.inverse));
             functional[pivot.place] = f.add(functional[pivot.place], less);
         }

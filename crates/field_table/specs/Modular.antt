@@ -1,5 +1,5 @@
 -- Whole numbers modulo q: sums, negatives and products; an inverse is whatever multiplies to 1.
-use Rattle.std.specs.Prelude.{◌≡◌, ℕ, ◌+◌, ◌-◌, ◌*◌, ◌%◌, ◌<◌, ◌==◌, List, map, find, unwrap_or}
+use Rattle.std.specs.Prelude.{◌≡◌, ℕ, ◌+◌, ◌-◌, ◌*◌, ◌%◌, ◌<◌, ◌==◌, List, [], ◌∷◌, map, find, unwrap_or}
 use Rattle.std.specs.List.{range_with_len}
 use Rattle.dense_blocks.specs.Field.{Ops}
 
@@ -26,3 +26,9 @@ pub record IsModular (q : ℕ) (K : Ops) : Type 0 where
   pub sum_is : (a b : ℕ) → a < q → b < q → K.add a b ≡ (a + b) % q
   pub negative_is : (a : ℕ) → a < q → K.neg a ≡ (q - a) % q
   pub product_is : (a b : ℕ) → a < q → b < q → K.mul a b ≡ (a * b) % q
+
+-- the sum of the products of coordinates, without a remainder
+abbrev pub whole_dot : List ℕ → List ℕ → ℕ
+whole_dot [] v = 0
+whole_dot (a ∷ u) [] = 0
+whole_dot (a ∷ u) (b ∷ v) = a * b + whole_dot u v

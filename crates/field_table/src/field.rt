@@ -1,7 +1,8 @@
-ghost use Rattle.std.specs.Prelude.{◌≡◌, ◌↔◌, IsSome, IfSome, Contains};
+ghost use Rattle.std.specs.Prelude.{◌≡◌, ◌<◌, ◌↔◌, ◌%◌, IsSome, IfSome, Contains};
 ghost use Rattle.field_table.specs.Modular.{inverses};
 ghost use Rattle.field_table.specs.Table.{ops_of, order_of, orders, IsFieldOfOrder};
 
+use crate::kernels::{MOST_PRODUCTS, add_scaled, scale, sum_of_products};
 use dense_blocks::Scalars;
 
 /// A finite field of the table, named by its order; two are equal where their orders are.
@@ -54,6 +55,14 @@ impl Field {
         ensures { result ≡ order_of self }
     {
         self as u8
+    }
+
+    /// The remainder of a number, as a scalar.
+    fn remainder(self, n: u32) -> u8
+        ensures value { result ≡ n % order_of self }
+        ensures scalar { result < order_of self }
+    {
+        (n % self.order()) as u8
     }
 
     /// The inverses of 1, 2, .. up to the last scalar.
@@ -116,5 +125,54 @@ impl Scalars for Field {
     #[tactic(auto, using(crate::proofs::Inverses::inverse_entries))]
     fn inv(&self, a: u8) -> u8 {
         self.inverses()[usize::from(a) - 1]
+    }
+
+    fn add_scaled(&self, target: &mut [u8], k: u8, row: &[u8]) {
+        if k == 0 {
+            return;
+        }
+        match self {
+            Field::Two => add_scaled::<2>(target, k, row),
+            Field::Three => add_scaled::<3>(target, k, row),
+            Field::Five => add_scaled::<5>(target, k, row),
+            Field::Seven => add_scaled::<7>(target, k, row),
+            Field::Eleven => add_scaled::<11>(target, k, row),
+            Field::Thirteen => add_scaled::<13>(target, k, row),
+            Field::Seventeen => add_scaled::<17>(target, k, row),
+            Field::Nineteen => add_scaled::<19>(target, k, row),
+            Field::TwentyThree => add_scaled::<23>(target, k, row),
+            Field::TwentyNine => add_scaled::<29>(target, k, row),
+            Field::ThirtyOne => add_scaled::<31>(target, k, row),
+        }
+    }
+
+    fn scale(&self, target: &mut [u8], k: u8) {
+        match self {
+            Field::Two => scale::<2>(target, k),
+            Field::Three => scale::<3>(target, k),
+            Field::Five => scale::<5>(target, k),
+            Field::Seven => scale::<7>(target, k),
+            Field::Eleven => scale::<11>(target, k),
+            Field::Thirteen => scale::<13>(target, k),
+            Field::Seventeen => scale::<17>(target, k),
+            Field::Nineteen => scale::<19>(target, k),
+            Field::TwentyThree => scale::<23>(target, k),
+            Field::TwentyNine => scale::<29>(target, k),
+            Field::ThirtyOne => scale::<31>(target, k),
+        }
+    }
+
+    fn dot(&self, u: &[u8], v: &[u8]) -> u8 {
+        let mut total = 0;
+        let mut us = u;
+        let mut vs = v;
+        while us.len() > MOST_PRODUCTS {
+            let (u_front, u_back) = us.split_at(MOST_PRODUCTS);
+            let (v_front, v_back) = vs.split_at(MOST_PRODUCTS);
+            total = self.add(total, self.remainder(sum_of_products(u_front, v_front)));
+            us = u_back;
+            vs = v_back;
+        }
+        self.add(total, self.remainder(sum_of_products(us, vs)))
     }
 }

@@ -2,5 +2,6 @@
 #![tactic(auto)]
 
 mod field;
+mod kernels;
 
 pub use field::Field;

@@ -6,8 +6,8 @@ use Rattle.dense_blocks.proofs.Shapes.{vector-scalars}
 use Rattle.dense_blocks.proofs.BlockLaws.{block-row, block_image-next, block_image-all, block_image-vector}
 use Rattle.dense_blocks.proofs.operations.apply.Goals as goal
 
-pub dot_product-requires-clause-u_scalars : goal.dot_product-requires-clause-u_scalars
-dot_product-requires-clause-u_scalars g c =
+pub dot-requires-clause-u_scalars : goal.dot-requires-clause-u_scalars
+dot-requires-clause-u_scalars g c =
     let K : _ = g.F.Scalars.ops c.args.f.now in
     subst (AllScalars K) (sym c.row.ensures.row)
     (vector-scalars K c.args.a.now.cols _ (block-row K c.args.a.now c.loop-i.i c.requires.a_scalars
@@ -17,8 +17,8 @@ pub loop-i-preserved : goal.loop-i-preserved
 loop-i-preserved g c =
     block_image-next (g.F.Scalars.ops c.args.f.now) (g.met.F.Scalars.is_field c.args.f.now) c.args.a.now c.args.v.now
     c.loop-i.i c.loop-i.image.items
-    c.row.result.now c.push.new.self.items c.dot_product.result c.loop-i-test.true c.loop-i.invariant c.row.ensures.row
-    c.dot_product.ensures.value c.in_ok-push.ensures.items
+    c.row.result.now c.push.new.self.items c.dot.result c.loop-i-test.true c.loop-i.invariant c.row.ensures.row
+    c.dot.ensures.value c.in_ok-push.ensures.items
 
 pub returns : goal.returns
 returns g c =

@@ -31,8 +31,8 @@ loop-i-preserved g c =
     let inside : i < length ps = omega arith in
     let fit : IsPivot K n q = subst (IsPivot K n) (sym c.index-pivot.ensures)
     (All-get_or (IsPivot K n) ps i q inside c.requires.fit) in
-    let on_row : c.dot_product-on_row.result ≡ dot K p q.row.items =
-    c.dot_product-on_row.ensures.value ∙ ap₂ (dot K) c.as_slice.ensures.value c.as_slice-in-loop-i.ensures.value in
+    let on_row : c.dot-on_row.result ≡ dot K p q.row.items =
+    c.dot-on_row.ensures.value ∙ ap₂ (dot K) c.as_slice.ensures.value c.as_slice-in-loop-i.ensures.value in
     let is_less : less ≡ K.neg (K.mul (dot K p q.row.items) q.inverse) =
     c.neg-less.ensures ∙ ap K.neg (c.mul.ensures ∙ ap (λ t. K.mul t q.inverse) on_row) in
     let low : less < K.order = omega (arith, c.neg-less.ensures, h.neg_below c.mul.result) in

@@ -2,18 +2,18 @@ use Rattle.std.proofs.Common.{◌≡◌, ℕ, ◌+◌, List, get_or, refl, ap, �
 use Rattle.dense_blocks.specs.Field.{Ops, IsField}
 use Rattle.dense_blocks.proofs.ScalarLaws.{zero_below}
 use Rattle.dense_blocks.proofs.RowSteps.{dot_from, dot_from-start, dot_from-next, dot_from-all}
-use Rattle.dense_blocks.proofs.rows.dot_product.Goals as goal
+use Rattle.dense_blocks.proofs.scalars.Scalars.dot.Goals as goal
 
 pub loop-i-init : goal.loop-i-init
 loop-i-init g c =
-    let K : Ops = g.F.Scalars.ops c.args.f.now in
-    let h : IsField K = g.met.F.Scalars.is_field c.args.f.now in
+    let K : Ops = g.Self.Scalars.ops c.args.self.now in
+    let h : IsField K = g.met.Self.Scalars.is_field c.args.self.now in
     record { scalar = zero_below K h; rest = dot_from-start K h c.args.u.now c.args.v.now }
 
 pub loop-i-preserved : goal.loop-i-preserved
 loop-i-preserved g c =
-    let K : Ops = g.F.Scalars.ops c.args.f.now in
-    let h : IsField K = g.met.F.Scalars.is_field c.args.f.now in
+    let K : Ops = g.Self.Scalars.ops c.args.self.now in
+    let h : IsField K = g.met.Self.Scalars.is_field c.args.self.now in
     let i : ℕ = c.loop-i.i in
     let u : List ℕ = c.args.u.now in
     let v : List ℕ = c.args.v.now in
@@ -29,7 +29,7 @@ loop-i-preserved g c =
 
 pub returns-clause-value : goal.returns-clause-value
 returns-clause-value g c =
-    let K : Ops = g.F.Scalars.ops c.args.f.now in
-    let h : IsField K = g.met.F.Scalars.is_field c.args.f.now in
+    let K : Ops = g.Self.Scalars.ops c.args.self.now in
+    let h : IsField K = g.met.Self.Scalars.is_field c.args.self.now in
     dot_from-all K h c.loop-i.i c.loop-i.total c.args.u.now c.args.v.now (omega arith) c.loop-i.invariant.scalar
     c.loop-i.invariant.rest

@@ -4,11 +4,11 @@ use Rattle.dense_blocks.specs.Field.{Ops, IsField}
 use Rattle.dense_blocks.specs.Vectors.{plus, multiple}
 use Rattle.dense_blocks.proofs.Shapes.{vector_of}
 use Rattle.dense_blocks.proofs.RowSteps.{changed-none, plus-multiple-zero, add_scaled-next, add_scaled-all}
-use Rattle.dense_blocks.proofs.rows.add_scaled.Goals as goal
+use Rattle.dense_blocks.proofs.scalars.Scalars.add_scaled.Goals as goal
 
 pub loop-i-init : goal.loop-i-init
 loop-i-init g c =
-    let K : Ops = g.F.Scalars.ops c.args.f.now in
+    let K : Ops = g.Self.Scalars.ops c.args.self.now in
     record {
       now = sym (changed-none (plus K c.args.target.now (multiple K c.args.k c.args.row.now)) c.args.target.now);
       scalars = c.requires.target_scalars;
@@ -16,8 +16,8 @@ loop-i-init g c =
 
 pub loop-i-preserved : goal.loop-i-preserved
 loop-i-preserved g c =
-    let K : Ops = g.F.Scalars.ops c.args.f.now in
-    let h : IsField K = g.met.F.Scalars.is_field c.args.f.now in
+    let K : Ops = g.Self.Scalars.ops c.args.self.now in
+    let h : IsField K = g.met.Self.Scalars.is_field c.args.self.now in
     let i : ℕ = c.loop-i.i in
     let target : List ℕ = c.loop-i.target in
     let row : List ℕ = c.args.row.now in
@@ -34,14 +34,14 @@ loop-i-preserved g c =
 
 pub returns-clause-sum : goal.returns-clause-sum
 returns-clause-sum g c =
-    let K : Ops = g.F.Scalars.ops c.args.f.now in
+    let K : Ops = g.Self.Scalars.ops c.args.self.now in
     add_scaled-all K c.args.k c.loop-i.i c.loop-i.target c.args.target.now c.args.row.now c.requires.sizes (omega arith)
     c.loop-i.invariant.now
 
 pub returns-then-k-eq0-clause-sum : goal.returns-then-k-eq0-clause-sum
 returns-then-k-eq0-clause-sum g c =
-    let K : Ops = g.F.Scalars.ops c.args.f.now in
-    let h : IsField K = g.met.F.Scalars.is_field c.args.f.now in
+    let K : Ops = g.Self.Scalars.ops c.args.self.now in
+    let h : IsField K = g.met.Self.Scalars.is_field c.args.self.now in
     let u : List ℕ = c.args.target.now in
     let row : List ℕ = c.args.row.now in
     sym (plus-multiple-zero K h (length u) u row (vector_of K (length u) u refl c.requires.target_scalars)

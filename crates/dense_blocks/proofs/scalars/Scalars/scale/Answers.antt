@@ -3,11 +3,11 @@ use Rattle.std.proofs.lemmas.List.Elements.{All-set}
 use Rattle.dense_blocks.specs.Field.{Ops, IsField}
 use Rattle.dense_blocks.specs.Vectors.{multiple}
 use Rattle.dense_blocks.proofs.RowSteps.{changed-none, scale-next, scale-all}
-use Rattle.dense_blocks.proofs.rows.scale.Goals as goal
+use Rattle.dense_blocks.proofs.scalars.Scalars.scale.Goals as goal
 
 pub loop-entry-init : goal.loop-entry-init
 loop-entry-init g c =
-    let K : Ops = g.F.Scalars.ops c.args.f.now in
+    let K : Ops = g.Self.Scalars.ops c.args.self.now in
     record {
       now = sym (changed-none (multiple K c.args.k c.args.target.now) c.args.target.now);
       scalars = c.requires.target_scalars;
@@ -15,8 +15,8 @@ loop-entry-init g c =
 
 pub loop-entry-preserved : goal.loop-entry-preserved
 loop-entry-preserved g c =
-    let K : Ops = g.F.Scalars.ops c.args.f.now in
-    let h : IsField K = g.met.F.Scalars.is_field c.args.f.now in
+    let K : Ops = g.Self.Scalars.ops c.args.self.now in
+    let h : IsField K = g.met.Self.Scalars.is_field c.args.self.now in
     let i : ℕ = c.loop-entry.entry-index in
     let target : List ℕ = c.loop-entry.target in
     record {
@@ -29,6 +29,6 @@ loop-entry-preserved g c =
 
 pub returns-clause-product : goal.returns-clause-product
 returns-clause-product g c =
-    let K : Ops = g.F.Scalars.ops c.args.f.now in
+    let K : Ops = g.Self.Scalars.ops c.args.self.now in
     scale-all K c.args.k c.loop-entry.entry-index c.loop-entry.target c.args.target.now (omega arith)
     c.loop-entry.invariant.now
