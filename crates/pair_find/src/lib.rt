@@ -2,7 +2,5 @@
 #![tactic(auto)]
 
 mod candidates;
-#[cfg(test)]
-mod tests;
 
 pub use candidates::next_candidate;
