@@ -30,14 +30,6 @@ impl<T> Listed<T> {
     {
         self.items.as_slice()
     }
-
-    /// The members, in order; takes no memory.
-    pub fn into_vec(self) -> Vec<T>
-        ensures { result.items ≡ self }
-    {
-        let Listed { items } = self;
-        items
-    }
 }
 
 impl<T: Drop> Listed<T> {

@@ -5,7 +5,7 @@ ghost use Rattle.dense_blocks.specs.Two.{two};
 use crate::failure::Failure;
 use crate::report::{Report, Watch, checksum};
 use crate::sequence::Sequence;
-use dense_blocks::{Block, Inverse, Solution, Two, add_scaled, invert, product, solve};
+use dense_blocks::{Block, Inverse, Scalars, Solution, Two, invert, product, solve};
 use std::alloc::{AllocError as NoMemory, Global};
 use std::rt::Clock;
 use std::time::Duration;
@@ -85,7 +85,7 @@ fn sum_of(alloc: Global, size: usize, columns: &[Vec<u8>]) -> Result<Vec<u8>, No
 {
     let mut sum = vec![in alloc; 0; size]?;
     for column in columns {
-        add_scaled(&Two, sum.as_mut_slice(), 1, column.as_slice());
+        Two.add_scaled(sum.as_mut_slice(), 1, column.as_slice());
     }
     Ok(sum)
 }
