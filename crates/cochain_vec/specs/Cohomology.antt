@@ -14,10 +14,6 @@ pub record IsCocycle (K : Ops) (F : CellularComplex) (k : ℕ) (z : List ℕ) : 
   pub cochain : IsCochain K F k z
   pub closed : coboundary K F k z ≡ zeros (coordinates F (suc k))
 
--- a section is a cocycle of degree 0
-abbrev pub IsSection : Ops → CellularComplex → List ℕ → Type 0
-IsSection K F z = IsCocycle K F 0 z
-
 -- the coboundary of a cochain of the degree below; in degree 0 only the zero cochain is one
 abbrev pub IsCoboundary : Ops → CellularComplex → ℕ → List ℕ → Type 0
 IsCoboundary K F zero z = z ≡ zeros (coordinates F 0)

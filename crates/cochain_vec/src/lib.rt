@@ -7,8 +7,6 @@
 mod cell;
 mod cochain;
 mod laws;
-#[cfg(test)]
-mod tests;
 
 pub use cell::Cell;
 pub use cochain::{Cochain, add, scale};

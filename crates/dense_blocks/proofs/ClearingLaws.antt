@@ -194,7 +194,7 @@ module _ (K : Ops) (h : IsField K) where
       let size : length pivot ≡ length row = vector-size K n pivot hp ∙ sym (vector-size K n row hr) in
       let inside : j < length row = omega (arith, vector-size K n row hr) in
       let start : Vector K j (unit j i) = subst (Vector K j) is_row (take-vector K n j row hr (omega arith)) in
-      let front : take j new ≡ unit j i =
+      let prefix : take j new ≡ unit j i =
       take-plus K j row (multiple K (K.neg a) pivot)
       ∙ ap₂ (plus K) is_row (take-map (K.mul (K.neg a)) j pivot ∙ ap (multiple K (K.neg a)) is_pivot
       ∙ multiple-zeros K h (K.neg a) j)
@@ -204,7 +204,7 @@ module _ (K : Ops) (h : IsField K) where
       ∙ ap (K.add a) (ap (K.mul (K.neg a)) one ∙ h.mul_one (K.neg a) (h.neg_below a)) ∙ h.add_neg a in
       ap (λ t. take t new) (sym (add-one j))
       ∙ take_more new j 0 (omega (arith, l, vector-size K n new (without-vector K h n j pivot row hp hr)))
-      ∙ ap₂ (λ s x. s ++ x ∷ []) front last
+      ∙ ap₂ (λ s x. s ++ x ∷ []) prefix last
       ∙ sym (unit-next j i other)
 
   units-cleared : (m n j i : ℕ) (pivot : List ℕ) (A : List (List ℕ)) → Vector K n pivot → Matrix K m n A → j < n

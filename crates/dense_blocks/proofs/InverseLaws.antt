@@ -254,7 +254,7 @@ module _ (K : Ops) (h : IsField K) where
           let later : List ℕ = drop (j + 1) r in
           let t : List ℕ = zeros (n - 1 - j) ++ zeros n in
           let size : length r ≡ 2 * n = vector-size K (2 * n) r hr in
-          let front : length (take j r) ≡ length above =
+          let prefix : length (take j r) ≡ length above =
           vector-size K j (take j r) (take-vector K (2 * n) j r hr (omega (arith, stuck.inside)))
           ∙ sym above-size in
           let low : a < K.order = All-get_or (λ b. b < K.order) r j 0 (omega (arith, size, stuck.inside))
@@ -262,7 +262,7 @@ module _ (K : Ops) (h : IsField K) where
           ap₂ (dot K) (sym (take-append-drop j r)
           ∙ ap (λ s. take j r ++ s) (drop_more r j 0 (omega (arith, size, stuck.inside))))
           (append_assoc above (1 ∷ zeros (n - 1 - j)) (zeros n))
-          ∙ dot-append K h (take j r) above (a ∷ later) (1 ∷ t) front
+          ∙ dot-append K h (take j r) above (a ∷ later) (1 ∷ t) prefix
           ∙ ap (K.add (dot K (take j r) above))
           (ap₂ K.add (h.mul_one a low) (ap (dot K later) (sym (zeros-append (n - 1 - j) n))
           ∙ dot-zeros K h ((n - 1 - j) + n) later) ∙ h.add_zero a low)

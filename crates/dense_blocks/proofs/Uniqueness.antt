@@ -88,14 +88,15 @@ module _ (K : Ops) (h : IsField K) where
       apart : d ≡ take k d ++ get_or d k 0 ∷ []
       apart = last_apart k d (vector-size K (suc k) d hd)
 
-      front : Vector K k (take k d)
-      front = take-vector K (suc k) k d hd (omega arith)
+      prefix : Vector K k (take k d)
+      prefix = take-vector K (suc k) k d hd (omega arith)
 
       sum : plus K (combination K n (take k d) vs) (multiple K (get_or d k 0) (get_or vs k [])) ≡ zeros n
       sum =
           ap (λ j. plus K (combination K n (take k d) vs) (multiple K (get_or d k 0) (get_or vs j [])))
-          (sym (vector-size K k (take k d) front))
-          ∙ sym (combination-last K h m n (take k d) (get_or d k 0) vs (omega (arith, vector-size K k (take k d) front))
+          (sym (vector-size K k (take k d) prefix))
+          ∙ sym (combination-last K h m n (take k d) (get_or d k 0) vs
+          (omega (arith, vector-size K k (take k d) prefix))
           hv)
           ∙ ap (λ t. combination K n t vs) (sym apart) ∙ e
 
@@ -117,7 +118,7 @@ module _ (K : Ops) (h : IsField K) where
             by = multiple K t (take k d);
             is = combination-multiple K h n t (take k d) (take k vs)
                 ∙ ap (multiple K t) (combination-take K n k (take k d) vs
-                (omega (arith, vector-size K k (take k d) front)))
+                (omega (arith, vector-size K k (take k d) prefix)))
                 ∙ solved_vector n (combination K n (take k d) vs) (get_or vs k []) (get_or d k 0)
                 (scalar-at (suc k) k d hd (omega arith)) some
                 (combination-vector K h m n (take k d) vs hv) last sum;
@@ -137,11 +138,11 @@ module _ (K : Ops) (h : IsField K) where
       apart : d ≡ take k d ++ get_or d k 0 ∷ []
       apart = last_apart k d (vector-size K (suc k) d hd)
 
-      front : Vector K k (take k d)
-      front = take-vector K (suc k) k d hd (omega arith)
+      prefix : Vector K k (take k d)
+      prefix = take-vector K (suc k) k d hd (omega arith)
 
       size : length (take k d) ≡ k
-      size = vector-size K k (take k d) front
+      size = vector-size K k (take k d) prefix
 
       sum : (u : List ℕ) → dot K d u ≡ 0 → K.add (dot K (take k d) (take k u)) (K.mul (get_or d k 0) (get_or u k 0)) ≡ 0
       sum u z =

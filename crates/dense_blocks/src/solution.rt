@@ -143,7 +143,8 @@ impl Elimination {
         mut parts: Vec<u8>,
     ) -> Result<Vec<u8>, NoMemory>
         requires columns { IsMatrix (F.ops f.now) (length columns.now) self.now.size (lists columns.now) }
-        requires pivots { Eliminates (F.ops f.now) self.now.size (lists columns.now) (length columns.now) self.now.pivots.items }
+        requires pivots { Eliminates (F.ops f.now) self.now.size (lists columns.now)
+            (length columns.now) self.now.pivots.items }
         requires parts { IsVector (F.ops f.now) (length self.now.pivots.items) parts.items }
         ensures scalars { IfOk result (λ c. IsVector (F.ops f.now) (length columns.now) c.items) }
         ensures same { IfOk result (λ c. combination (F.ops f.now) self.now.size c.items (lists columns.now)

@@ -43,7 +43,8 @@ module _ (K : Ops) (F : IsField K) (n : ℕ) (others candidates : List (List ℕ
       taken = append-matrix K (length others) (length chosen) n others chosen ho rows
 
       -- what was spanned, and the candidate, are spanned
-      spans_next : (now : List (List ℕ)) → ((k : ℕ) → k < i → IsCombination K n (others ++ now) (get_or candidates k []))
+      spans_next : (now : List (List ℕ))
+          → ((k : ℕ) → k < i → IsCombination K n (others ++ now) (get_or candidates k []))
           → IsCombination K n (others ++ now) candidate → (k : ℕ) → k < i + 1
           → IsCombination K n (others ++ now) (get_or candidates k [])
       unfolding candidate
@@ -99,23 +100,25 @@ module _ (K : Ops) (F : IsField K) (n : ℕ) (others candidates : List (List ℕ
             ∙ add-one (length chosen) in
             let e = vector_ends K (length chosen) b
             (subst (λ k. Vector K k b) size (to_vector K (length (chosen ++ candidate ∷ [])) b hb)) in
-            let parts : combination K n b (chosen ++ candidate ∷ []) ≡ plus K (combination K n e.front chosen)
+            let parts : combination K n b (chosen ++ candidate ∷ []) ≡ plus K (combination K n e.prefix chosen)
             (multiple K e.last candidate) =
             ap (λ x. combination K n x (chosen ++ candidate ∷ [])) e.is
-            ∙ combination-push K F n e.front chosen e.last candidate (vector-size K (length chosen) e.front e.front_is)
+            ∙ combination-push K F n e.prefix chosen e.last candidate
+            (vector-size K (length chosen) e.prefix e.prefix_is)
             candidate-vector in
-            let last_zero : e.last ≡ 0 = not_used e.front e.last e.front_is e.last_is
+            let last_zero : e.last ≡ 0 = not_used e.prefix e.last e.prefix_is e.last_is
             (subst (IsCombination K n others) parts s) in
-            let rest : plus K (combination K n e.front chosen) (multiple K e.last candidate) ≡ combination K n e.front
+            let rest : plus K (combination K n e.prefix chosen) (multiple K e.last candidate) ≡ combination K n e.prefix
             chosen =
-            ap (λ x. plus K (combination K n e.front chosen) (multiple K x candidate)) last_zero
-            ∙ ap (plus K (combination K n e.front chosen)) (multiple-zero K F n candidate candidate-vector)
-            ∙ plus-zeros K F n (combination K n e.front chosen) (combination-vector K F (length chosen) n e.front chosen
+            ap (λ x. plus K (combination K n e.prefix chosen) (multiple K x candidate)) last_zero
+            ∙ ap (plus K (combination K n e.prefix chosen)) (multiple-zero K F n candidate candidate-vector)
+            ∙ plus-zeros K F n (combination K n e.prefix chosen)
+            (combination-vector K F (length chosen) n e.prefix chosen
             rows) in
-            let front_zero : e.front ≡ zeros (length chosen) =
-            h.independent e.front (from_vector K (length chosen) e.front e.front_is)
+            let prefix_zero : e.prefix ≡ zeros (length chosen) =
+            h.independent e.prefix (from_vector K (length chosen) e.prefix e.prefix_is)
             (subst (IsCombination K n others) (parts ∙ rest) s) in
-            e.is ∙ ap₂ ◌++◌ front_zero (ap (λ x. x ∷ []) last_zero) ∙ sym (zeros-append (length chosen) 1)
+            e.is ∙ ap₂ ◌++◌ prefix_zero (ap (λ x. x ∷ []) last_zero) ∙ sym (zeros-append (length chosen) 1)
             ∙ ap zeros (add-one (length chosen) ∙ sym size)
 
         -- a candidate apart from what was taken is taken

@@ -25,8 +25,8 @@ module _ (K : Ops) (F : IsField K) (n : ℕ) (vs : List (Vec ℕ Global)) (hm : 
   rows : Matrix K (length (lists vs)) n (lists vs)
   rows = subst (λ k. Matrix K k n (lists vs)) (sym (lists-size vs)) (to_matrix K (length vs) n (lists vs) hm)
 
-  front : lists (take j vs) ≡ take j (lists vs)
-  front = sym (take-map (λ v. v.items) j vs)
+  prefix : lists (take j vs) ≡ take j (lists vs)
+  prefix = sym (take-map (λ v. v.items) j vs)
 
   size : length v ≡ n
   size = ap length is ∙ (hm.rows_are j [] inside).size
@@ -36,18 +36,19 @@ module _ (K : Ops) (F : IsField K) (n : ℕ) (vs : List (Vec ℕ Global)) (hm : 
       → j + 1 + more ≡ length vs
       → SpansRelationsBelow K n (lists vs) (j + 1) (zs ++ z ∷ [])
   own_added c z more combines e len =
-      let short : length (lists (take j vs)) ≡ j = ap length front ∙ length-take-le j (lists vs) (omega (arith, inside))
+      let short : length (lists (take j vs)) ≡ j =
+      ap length prefix ∙ length-take-le j (lists vs) (omega (arith, inside))
       in
       relations_more K F n (lists vs) j inside rows zs before c z more (len ∙ sym (lists-size vs))
       (subst (λ k. IsVector K k c) short combines.coefficients)
-      (ap₂ (λ k us. combination K k c us) (sym size) (sym front) ∙ combines.gives ∙ is) e
+      (ap₂ (λ k us. combination K k c us) (sym size) (sym prefix) ∙ combines.gives ∙ is) e
 
   -- it is none
   pub none_added : ((c : List ℕ) → combination K (length v) c (lists (take j vs)) ≢ v)
       → SpansRelationsBelow K n (lists vs) (j + 1) zs
   none_added apart =
       relations_same K F n (lists vs) j inside rows zs before
-      (λ c e. apart c (ap₂ (λ k us. combination K k c us) size front ∙ e ∙ sym is))
+      (λ c e. apart c (ap₂ (λ k us. combination K k c us) size prefix ∙ e ∙ sym is))
 
 -- a candidate makes the list at most one longer
 pub considered-size : (K : Ops) (n : ℕ) (taken : List (Vec ℕ Global)) (candidate : List ℕ) (new : List (Vec ℕ Global))
@@ -102,7 +103,8 @@ module _ (K : Ops) (F : IsField K) (n : ℕ) (others candidates : List (List ℕ
   next_candidate l new (inr s) =
       let x = get_or candidates i [] in
       let more : new ≡ taken ++ x ∷ [] = s.1 in
-      let rest : drop count (taken ++ x ∷ []) ≡ drop count taken ++ x ∷ [] = drop-append-le count taken (x ∷ []) long in (
+      let rest : drop count (taken ++ x ∷ []) ≡ drop count taken ++ x ∷ [] =
+      drop-append-le count taken (x ∷ []) long in (
         ap (take count) more ∙ take-append-le count taken (x ∷ []) long ∙ kept,
         subst (λ (ts : List (List ℕ)). Completes K n others candidates (i + 1) ts) (sym (ap (drop count) more ∙ rest))
             (completes_more K F n others candidates (to_matrix K (length others) n others ho)

@@ -97,8 +97,8 @@ vector-next K cs i d u v l hu hv =
     subst (λ k. IsVector K k (u ++ v)) (sym (total_size_next cs i d l))
     (from_vector K (n + m) (u ++ v) (append-vector K n m u v (to_vector K n u hu) (to_vector K m v hv)))
 
--- a front of the cells has no more coordinates than all
-pub total_size_front : (cs : List Cell) (i : ℕ) → total_size (take i cs) ≤ total_size cs
-total_size_front cs zero = omega arith
-total_size_front [] (suc i) = omega arith
-total_size_front (c ∷ cs) (suc i) = let rest = total_size_front cs i in omega arith
+-- a prefix of the cells has no more coordinates than all
+pub total_size_prefix : (cs : List Cell) (i : ℕ) → total_size (take i cs) ≤ total_size cs
+total_size_prefix cs zero = omega arith
+total_size_prefix [] (suc i) = omega arith
+total_size_prefix (c ∷ cs) (suc i) = let rest = total_size_prefix cs i in omega arith

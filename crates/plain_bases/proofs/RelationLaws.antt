@@ -22,23 +22,23 @@ use Rattle.plain_bases.specs.Relations.{IsRelation, SpansRelations, SpansRelatio
 
 -- a vector of one coordinate more ends with a scalar
 pub record Ends (K : Ops) (n : ℕ) (w : List ℕ) : Type 0 where
-  pub front : List ℕ
+  pub prefix : List ℕ
   pub last : ℕ
-  pub is : w ≡ front ++ last ∷ []
-  pub front_is : Vector K n front
+  pub is : w ≡ prefix ++ last ∷ []
+  pub prefix_is : Vector K n prefix
   pub last_is : last < K.order
 
 pub vector_ends : (K : Ops) (n : ℕ) (w : List ℕ) → Vector K (suc n) w → Ends K n w
 vector_ends K n [] h = absurd h
-vector_ends K zero (a ∷ []) h = record { front = []; last = a; is = refl; front_is = tt; last_is = h.0 }
+vector_ends K zero (a ∷ []) h = record { prefix = []; last = a; is = refl; prefix_is = tt; last_is = h.0 }
 vector_ends K zero (a ∷ b ∷ w) h = absurd h.1
 vector_ends K (suc n) (a ∷ w) h =
     let e = vector_ends K n w h.1 in
     record {
-      front = a ∷ e.front;
+      prefix = a ∷ e.prefix;
       last = e.last;
       is = ap (λ t. a ∷ t) e.is;
-      front_is = (h.0, e.front_is);
+      prefix_is = (h.0, e.prefix_is);
       last_is =
           e.last_is;
     }
@@ -119,7 +119,7 @@ module _ (K : Ops) (F : IsField K) (n : ℕ) where
           let gone : plus K (multiple K a c) (multiple K k c) ≡ zeros (length before) =
           ap (plus K (multiple K a c)) (multiple-neg K F a c) ∙ plus-negative K F (length before) (multiple K a c)
           (multiple-vector K F (length before) a c hcs) in
-          let front : plus K (plus K u (multiple K a c)) (multiple K k c) ≡ u =
+          let prefix : plus K (plus K u (multiple K a c)) (multiple K k c) ≡ u =
           plus-assoc K F u (multiple K a c) (multiple K k c) ∙ ap (plus K u) gone ∙ plus-zeros K F (length before) u hu
           in
           let last : K.add 0 (K.mul k (K.neg 1)) ≡ a =
@@ -132,7 +132,7 @@ module _ (K : Ops) (F : IsField K) (n : ℕ) where
           (multiple-append K k c (K.neg 1 ∷ zeros (length after)))
           ∙ plus-append K (plus K u (multiple K a c)) (multiple K k c) (0 ∷ zeros (length after))
           (multiple K k (K.neg 1 ∷ zeros (length after))) same
-          ∙ ap₂ ◌++◌ front (ap₂ ◌∷◌ last rest)
+          ∙ ap₂ ◌++◌ prefix (ap₂ ◌∷◌ last rest)
 
       -- with the column's own relation, the relations up to the column are spanned
       spans_with_own : (zs : List (List ℕ)) → Matrix K (length zs) (length whole) zs
@@ -195,7 +195,7 @@ module _ (K : Ops) (F : IsField K) (n : ℕ) where
     record Parts (w : List ℕ) (more : ℕ) : Type 0 where
       ends : Ends K (length before) w
       rest : more ≡ length after
-      zero : plus K (combination K n ends.front before) (multiple K ends.last column) ≡ zeros n
+      zero : plus K (combination K n ends.prefix before) (multiple K ends.last column) ≡ zeros n
 
     parts : (w : List ℕ) (more : ℕ) → suc (length before) + more ≡ length whole → IsVector K (suc (length before)) w
         → combination K n w (take (suc (length before)) whole) ≡ zeros n → Parts w more
@@ -204,15 +204,15 @@ module _ (K : Ops) (F : IsField K) (n : ℕ) where
           ends = ends;
           rest = omega (arith, whole-size);
           zero =
-              sym (combination-push K F n ends.front before ends.last column
-              (vector-size K (length before) ends.front ends.front_is) hc)
+              sym (combination-push K F n ends.prefix before ends.last column
+              (vector-size K (length before) ends.prefix ends.prefix_is) hc)
               ∙ ap₂ (combination K n) (sym ends.is) (sym upto) ∙ z;
         }
 
-    rejoined : (w : List ℕ) (more : ℕ) (p : Parts w more) → w ++ zeros more ≡ p.ends.front ++ p.ends.last
+    rejoined : (w : List ℕ) (more : ℕ) (p : Parts w more) → w ++ zeros more ≡ p.ends.prefix ++ p.ends.last
         ∷ zeros (length after)
     rejoined w more p =
-        ap₂ ◌++◌ p.ends.is (ap zeros p.rest) ∙ append_assoc p.ends.front (p.ends.last ∷ []) (zeros (length after))
+        ap₂ ◌++◌ p.ends.is (ap zeros p.rest) ∙ append_assoc p.ends.prefix (p.ends.last ∷ []) (zeros (length after))
 
     with_own : (c : List ℕ) → Vector K (length before) c → combination K n c before ≡ column → (zs : List (List ℕ))
         → SpansRelationsBelow K n whole (length before) zs
@@ -228,8 +228,8 @@ module _ (K : Ops) (F : IsField K) (n : ℕ) where
       all = λ w more e hw z.
           let p = parts w more e hw z in
           subst (IsCombination K (length whole) (zs ++ own c hcs gives ∷ [])) (sym (rejoined w more p))
-          (spans_with_own c hcs gives zs (rows_of_relations zs h.relations) (spanned_before zs h) p.ends.front
-          p.ends.last p.ends.front_is p.ends.last_is p.zero);
+          (spans_with_own c hcs gives zs (rows_of_relations zs h.relations) (spanned_before zs h) p.ends.prefix
+          p.ends.last p.ends.prefix_is p.ends.last_is p.zero);
     }
 
     without_own : ((c : List ℕ) → combination K n c before ≢ column) → (zs : List (List ℕ))
@@ -238,15 +238,16 @@ module _ (K : Ops) (F : IsField K) (n : ℕ) where
       relations = h.relations;
       all = λ w more e hw z.
           let p = parts w more e hw z in
-          let none : p.ends.last ≡ 0 = not_used apart p.ends.front p.ends.last p.ends.front_is p.ends.last_is p.zero in
-          let front_zero : combination K n p.ends.front before ≡ zeros n =
-          sym (plus-zeros K F n (combination K n p.ends.front before)
-          (combination-vector K F (length before) n p.ends.front before hb))
-          ∙ ap (plus K (combination K n p.ends.front before)) (sym (multiple-zero K F n column hc)
+          let none : p.ends.last ≡ 0 =
+          not_used apart p.ends.prefix p.ends.last p.ends.prefix_is p.ends.last_is p.zero in
+          let prefix_zero : combination K n p.ends.prefix before ≡ zeros n =
+          sym (plus-zeros K F n (combination K n p.ends.prefix before)
+          (combination-vector K F (length before) n p.ends.prefix before hb))
+          ∙ ap (plus K (combination K n p.ends.prefix before)) (sym (multiple-zero K F n column hc)
           ∙ ap (λ a. multiple K a column) (sym none)) ∙ p.zero in
-          subst (IsCombination K (length whole) zs) (ap (λ a. p.ends.front ++ a ∷ zeros (length after)) (sym none)
+          subst (IsCombination K (length whole) zs) (ap (λ a. p.ends.prefix ++ a ∷ zeros (length after)) (sym none)
           ∙ sym (rejoined w more p))
-          (spanned_before zs h p.ends.front p.ends.front_is front_zero);
+          (spanned_before zs h p.ends.prefix p.ends.prefix_is prefix_zero);
     }
 
   place : (columns : List (List ℕ)) (j : ℕ) → j < length columns → columns ≡ take j columns ++ get_or columns j []

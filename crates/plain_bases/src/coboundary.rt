@@ -1,4 +1,5 @@
-ghost use Rattle.std.specs.Prelude.{◌≡◌, ◌==◌, ℕ, ◌<◌, ◌≤◌, List, [], length, map, All, Any, IfOk, OnOk, IfSome, IfNone, if◌then◌else◌};
+ghost use Rattle.std.specs.Prelude.{◌≡◌, ◌==◌, ℕ, ◌<◌, ◌≤◌, List, [], length, map, if◌then◌else◌};
+ghost use Rattle.std.specs.Prelude.{All, Any, IfOk, OnOk, IfSome, IfNone};
 ghost use Rattle.dense_blocks.specs.Vectors.{AllScalars, IsVector, plus};
 ghost use Rattle.dense_blocks.specs.Matrices.{image_of};
 ghost use Rattle.dense_blocks.specs.Blocks.{matrix_of};
@@ -40,7 +41,8 @@ fn arriving<F: Scalars>(
     requires size { length z.now ≡ total_size source.now }
     requires z_scalars { AllScalars (F.ops f.now) z.now }
     requires fits { FitsCells (F.ops f.now) source.now arrow.now }
-    ensures image { IfOk result (λ w. w.items ≡ image_of (F.ops f.now) (matrix_of arrow.now.block) (value_at source.now z.now arrow.now.from)) }
+    ensures image { IfOk result (λ w. w.items
+        ≡ image_of (F.ops f.now) (matrix_of arrow.now.block) (value_at source.now z.now arrow.now.from)) }
     ensures vector { IfOk result (λ w. IsVector (F.ops f.now) arrow.now.block.rows w.items) }
 {
     match value_of(source, z, arrow.from) {
@@ -65,7 +67,8 @@ fn add_arrow<F: Scalars>(
     requires rows { arrow.now.to ≡ t.cell → arrow.now.block.rows ≡ t.size }
     requires sum { IsVector (F.ops f.now) t.size sum.old }
     ensures sum { OnOk result (sum.new ≡ (if arrow.now.to == t.cell
-        then plus (F.ops f.now) sum.old (image_of (F.ops f.now) (matrix_of arrow.now.block) (value_at source.now z.now arrow.now.from))
+        then plus (F.ops f.now) sum.old
+        (image_of (F.ops f.now) (matrix_of arrow.now.block) (value_at source.now z.now arrow.now.from))
         else sum.old)) }
     ensures vector { OnOk result (IsVector (F.ops f.now) t.size sum.new) }
 {

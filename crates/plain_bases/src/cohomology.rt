@@ -37,7 +37,8 @@ fn columns_from<F: Scalars>(
     requires complex { IsComplexOver (F.ops f.now) complex.now }
     requires degree { degree + 1 < 2 ^ 32 }
     ensures size { IfOk result (λ cs. cs.size ≡ coordinates (plain_complex_of complex.now) (degree + 1)) }
-    ensures columns { IfOk result (λ cs. lists cs.all.items ≡ columns_from (F.ops f.now) (plain_complex_of complex.now) degree) }
+    ensures columns { IfOk result (λ cs.
+        lists cs.all.items ≡ columns_from (F.ops f.now) (plain_complex_of complex.now) degree) }
     ensures vectors { IfOk result (λ cs. IsMatrix (F.ops f.now) (length cs.all.items) cs.size (lists cs.all.items)) }
 {
     let source = cells_of(alloc, complex, degree)?;
@@ -55,7 +56,8 @@ fn columns_into<F: Scalars>(
 ) -> Result<Vectors, NoMemory>
     requires complex { IsComplexOver (F.ops f.now) complex.now }
     ensures size { IfOk result (λ cs. cs.size ≡ coordinates (plain_complex_of complex.now) degree) }
-    ensures columns { IfOk result (λ cs. lists cs.all.items ≡ columns_into (F.ops f.now) (plain_complex_of complex.now) degree) }
+    ensures columns { IfOk result (λ cs.
+        lists cs.all.items ≡ columns_into (F.ops f.now) (plain_complex_of complex.now) degree) }
     ensures vectors { IfOk result (λ cs. IsMatrix (F.ops f.now) (length cs.all.items) cs.size (lists cs.all.items)) }
 {
     if degree > 0 {

@@ -22,7 +22,7 @@ pub struct Vectors {
 }
 
 /// How many coordinates cells have together.
-#[tactic(auto, using(crate::proofs::PartLaws::total_size_next, crate::proofs::PartLaws::total_size_front))]
+#[tactic(auto, using(crate::proofs::PartLaws::total_size_next, crate::proofs::PartLaws::total_size_prefix))]
 pub fn total_size(cells: &[Cell]) -> usize
     requires { total_size cells.now ≤ 4096 }
     ensures { result ≡ total_size cells.now }

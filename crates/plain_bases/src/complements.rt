@@ -19,7 +19,8 @@ fn consider<F: Scalars>(
     requires taken { IsMatrix (F.ops f.now) (length taken.old.all.items) taken.old.size (lists taken.old.all.items) }
     requires candidate { IsVector (F.ops f.now) taken.old.size candidate.now }
     ensures size { taken.new.size ≡ taken.old.size }
-    ensures considered { OnOk result (IsConsidered (F.ops f.now) taken.old.size (lists taken.old.all.items) candidate.now (lists taken.new.all.items)) }
+    ensures considered { OnOk result (IsConsidered (F.ops f.now) taken.old.size
+        (lists taken.old.all.items) candidate.now (lists taken.new.all.items)) }
 {
     match solve(alloc, f, &taken.all, candidate)? {
         Solution::Combination(_) => Ok(()),
@@ -40,9 +41,10 @@ pub fn complement<F: Scalars>(
 ) -> Result<Vec<Vec<u8>>, NoMemory>
     requires sizes { others.size ≡ candidates.now.size }
     requires others { IsMatrix (F.ops f.now) (length others.all.items) others.size (lists others.all.items) }
-    requires candidates { IsMatrix (F.ops f.now) (length candidates.now.all.items) candidates.now.size (lists candidates.now.all.items) }
-    ensures completes { IfOk result (λ b. Completes (F.ops f.now) others.size (lists others.all.items) (lists candidates.now.all.items)
-        (length candidates.now.all.items) (lists b.items)) }
+    requires candidates { IsMatrix (F.ops f.now) (length candidates.now.all.items) candidates.now.size
+        (lists candidates.now.all.items) }
+    ensures completes { IfOk result (λ b. Completes (F.ops f.now) others.size (lists others.all.items)
+        (lists candidates.now.all.items) (length candidates.now.all.items) (lists b.items)) }
     ensures few { IfOk result (λ b. length b.items ≤ length candidates.now.all.items) }
 {
     let count = others.all.len();

@@ -10,8 +10,6 @@ mod columns;
 mod complements;
 mod complex;
 mod relations;
-#[cfg(test)]
-mod tests;
 
 pub use cohomology::basis;
 pub use complex::{Arrow, Complex};

@@ -32,10 +32,13 @@ fn add_relation<F: Scalars>(
     j: usize,
     found: &mut Vec<Vec<u8>>,
 ) -> Result<(), NoMemory>
-    requires vectors { IsMatrix (F.ops f.now) (length vectors.now.all.items) vectors.now.size (lists vectors.now.all.items) }
+    requires vectors { IsMatrix (F.ops f.now) (length vectors.now.all.items) vectors.now.size
+        (lists vectors.now.all.items) }
     requires place { j < length vectors.now.all.items }
-    requires before { SpansRelationsBelow (F.ops f.now) vectors.now.size (lists vectors.now.all.items) j (lists found.old.items) }
-    ensures spans { OnOk result (SpansRelationsBelow (F.ops f.now) vectors.now.size (lists vectors.now.all.items) (j + 1) (lists found.new.items)) }
+    requires before { SpansRelationsBelow (F.ops f.now) vectors.now.size
+        (lists vectors.now.all.items) j (lists found.old.items) }
+    ensures spans { OnOk result (SpansRelationsBelow (F.ops f.now) vectors.now.size
+        (lists vectors.now.all.items) (j + 1) (lists found.new.items)) }
     ensures one_more { OnOk result (length found.new.items ≤ length found.old.items + 1) }
 {
     match solve(alloc, f, &vectors.all[..j], &vectors.all[j])? {
@@ -53,7 +56,8 @@ fn add_relation<F: Scalars>(
 pub fn relations<F: Scalars>(alloc: Global, f: &F, vectors: &Vectors) -> Result<Vectors, NoMemory>
     requires { IsMatrix (F.ops f.now) (length vectors.now.all.items) vectors.now.size (lists vectors.now.all.items) }
     ensures size { IfOk result (λ zs. zs.size ≡ length vectors.now.all.items) }
-    ensures spans { IfOk result (λ zs. SpansRelations (F.ops f.now) vectors.now.size (lists vectors.now.all.items) (lists zs.all.items)) }
+    ensures spans { IfOk result (λ zs.
+        SpansRelations (F.ops f.now) vectors.now.size (lists vectors.now.all.items) (lists zs.all.items)) }
     ensures few { IfOk result (λ zs. length zs.all.items ≤ length vectors.now.all.items) }
 {
     let mut found = Vec::new(alloc);
