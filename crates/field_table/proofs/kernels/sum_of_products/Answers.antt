@@ -8,7 +8,7 @@ loop-i-preserved c =
     let a : ℕ = c.from.result in
     let b : ℕ = c.from-in-loop-i.result in
     record {
-      small = products-small i c.loop-i.total a b c.loop-i.invariant.small 
+      small = products-small i c.loop-i.total a b c.loop-i.invariant.small
           (subst (λ t. t < 256) (sym c.from.ensures) (c.type_inv.u i).fits)
           (subst (λ t. t < 256) (sym c.from-in-loop-i.ensures) (c.type_inv.v i).fits);
       rest = whole_dot-next c.args.u.now c.args.v.now i c.loop-i.total a b (omega arith) c.requires.sizes c.from.ensures
