@@ -35,6 +35,7 @@ pub fn first_bad<F: Scalars>(
     requires touched { AreTouched (F.ops f.now) c.now blocks.now touched }
     ensures { IsFirstFailure (Commutes (F.ops f.now) c.now blocks.now) (length c.now.dims) result }
 {
+    // Before the match, for its clause too: `c` is a complex.
     let count = c.face_count();
     match touched {
         Touched::All => first_of_all(f, c, blocks, count),
