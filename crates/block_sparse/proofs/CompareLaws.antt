@@ -1,17 +1,12 @@
 -- Blocks that stand, compared with parts of a matrix.
 use Rattle.std.proofs.Common.{◌≡◌, ◌≢◌, ℕ, zero, suc, ◌<◌, ◌≤◌, Bool, true, false, cond, ◌||◌, refl, sym, ap, ap₂, ◌∙◌}
 use Rattle.std.proofs.Common.{arith, inl, inr, List, [], ◌∷◌, length, map, get_or, take, drop, Option, Some, None, eqb}
-use Rattle.std.proofs.Common.{IsTrue}
 use Rattle.std.specs.Option.{is_some}
 use Rattle.std.proofs.lemmas.Bool.{cases_Bool, cases_eq, cases_lt, eq-eqb, ne_eqb}
 use Rattle.std.proofs.lemmas.List.{take_all, length-map, get_or-map}
-use Rattle.dense_blocks.specs.declared.block.Block.{Block}
-use Rattle.dense_blocks.specs.Blocks.{matrix_of}
-use Rattle.dense_blocks.specs.Matrices.{zero_matrix}
 use Rattle.rising_lists.specs.Rising.{IsRising, has, keys}
 use Rattle.rising_lists.proofs.Keyed.{place_of, has-at, has-absent}
-use Rattle.block_complexes.specs.BlockComplexes.{size_of}
-use Rattle.block_sparse.specs.StoredBlocks.{StoredBlocks, StoredBlock, StandsAt, block_at, matrix_or, is_zero}
+use Rattle.block_sparse.specs.StoredBlocks.{StoredBlock, is_zero}
 use Rattle.block_sparse.specs.Grids.{width, segment, window, columns_of, block_matrix, nonzero}
 use Rattle.dense_blocks.proofs.Cutting.{Sized}
 use Rattle.block_sparse.proofs.GridLaws.{segment-at, map-same}

@@ -1,9 +1,9 @@
 -- What is left when a cell has gone, and blocks put one after another.
 use Rattle.std.proofs.lemmas.List.Elements.{All-filter}
 use Rattle.std.proofs.Common.{◌≡◌, ◌≢◌, ℕ, zero, suc, ◌≤◌, ◌+◌, Bool, true, false, cond, not, ◌&&◌, ◌||◌, refl, sym, ap}
-use Rattle.std.proofs.Common.{ap₂, ◌∙◌, arith, inl, inr, List, [], ◌∷◌, length, drop, Option, Some, None, eqb}
+use Rattle.std.proofs.Common.{ap₂, ◌∙◌, arith, List, [], ◌∷◌, length, drop, Option, Some, None, eqb}
 use Rattle.std.specs.Option.{is_some, option_map}
-use Rattle.std.proofs.lemmas.Bool.{eq-eqb, ne_eqb, cases_eq}
+use Rattle.std.proofs.lemmas.Bool.{eq-eqb}
 use Rattle.dense_blocks.specs.declared.block.Block.{Block}
 use Rattle.dense_blocks.specs.Blocks.{matrix_of}
 use Rattle.rising_lists.specs.Rising.{ByCell, has, entry_of}

@@ -83,7 +83,7 @@ impl Blocks {
         requires size { size_of self.now.live cell.0 ≡ cell.2 }
         ensures { OnOk result (all.new.items ≡ all.old.items ++ flat_map
             (λ t. sum_into (F.ops f.now) (complex_of (complex_in self.now)).arrows
-                (value_at (cells_of (complex_of (complex_in self.now)) starts.now.degree) z.now) t.size t.cell)
+            (value_at (cells_of (complex_of (complex_in self.now)) starts.now.degree) z.now) t.size t.cell)
             (of_degree (starts.now.degree + 1) (cell ∷ []))) }
     {
         if u32::from(cell.1) == u32::from(starts.degree) + 1 {
@@ -137,7 +137,7 @@ impl Blocks {
         requires sum { IsVector (F.ops f.now) (size_of self.now.live t) sum.old.items }
         ensures sum { OnOk result (sum.new.items ≡ plus (F.ops f.now) sum.old.items
             (image_of (F.ops f.now) (matrix self.now s t)
-                (value_at (cells_of (complex_of (complex_in self.now)) starts.now.degree) z.now s))) }
+            (value_at (cells_of (complex_of (complex_in self.now)) starts.now.degree) z.now s))) }
         ensures vector { OnOk result (IsVector (F.ops f.now) (size_of self.now.live t) sum.new.items) }
     {
         if let Some(block) = self.get(s, t) {

@@ -118,7 +118,7 @@ impl Blocks {
         ensures { IsTrue result ↔ ((i : ℕ) → i < length left.now → (slice_index_or left.now i (0, 0)).0 ≢ x
             → block_matrix (block_at self.now (slice_index_or left.now i (0, 0)).0 y)
             ≡ nonzero (window 0 joined.now.rows (width (take i left.now)) (slice_index_or left.now i (0, 0)).1
-                (matrix_of joined.now))) }
+            (matrix_of joined.now))) }
     {
         let height = size_in(self.live(), y);
         let mut col = 0;
@@ -142,7 +142,7 @@ impl Blocks {
         ensures { IsTrue result ↔ ((j : ℕ) → j < length below.now → (slice_index_or below.now j (0, 0)).0 ≢ y
             → block_matrix (block_at self.now x (slice_index_or below.now j (0, 0)).0)
             ≡ nonzero (window (width (take j below.now)) (slice_index_or below.now j (0, 0)).1 0 joined.now.cols
-                (matrix_of joined.now))) }
+            (matrix_of joined.now))) }
     {
         let size = size_in(self.live(), x);
         let mut row = 0;

@@ -1,4 +1,4 @@
-ghost use Rattle.std.specs.Prelude.{◌≡◌, ◌==◌, ◌<◌, ◌≤◌, ◌+◌, ℕ, false, [], None, Some, ◌++◌, if◌then◌else◌, length, take, drop, slice_index_or, IfOk, OnOk, IsTrue, ◌↔◌};
+ghost use Rattle.std.specs.Prelude.{◌≡◌, ◌==◌, ◌<◌, ◌≤◌, ◌+◌, ℕ, false, [], None, Some, if◌then◌else◌, length, take, drop, slice_index_or, IfOk, IsTrue, ◌↔◌};
 ghost use Rattle.std.specs.List.{list_all};
 ghost use Rattle.dense_blocks.specs.Blocks.{matrix_of, IsBlock};
 ghost use Rattle.block_sparse.specs.StoredBlocks.{is_zero};
@@ -97,7 +97,7 @@ pub(crate) fn row_parts(
     ensures count { IfOk result (λ ps. length ps.items ≡ length left.now) }
     ensures parts { IfOk result (λ ps. (i : ℕ) → i < length left.now
         → IsPart (slice_index_or ps.items i None) height (slice_index_or left.now i (0, 0)).1
-            (window row height (width (take i left.now)) (slice_index_or left.now i (0, 0)).1 (matrix_of joined.now))) }
+        (window row height (width (take i left.now)) (slice_index_or left.now i (0, 0)).1 (matrix_of joined.now))) }
 {
     let mut parts = Vec::with_capacity(alloc, left.len())?;
     let mut col = 0;
@@ -124,7 +124,7 @@ pub(crate) fn column_marks(
     ensures count { IfOk result (λ ms. length ms.items ≡ length below.now) }
     ensures marks { IfOk result (λ ms. (j : ℕ) → j < length below.now → slice_index_or ms.items j None
         ≡ mark_of (slice_index_or below.now j (0, 0)).1 size
-            (window (width (take j below.now)) (slice_index_or below.now j (0, 0)).1 col size (matrix_of joined.now))) }
+        (window (width (take j below.now)) (slice_index_or below.now j (0, 0)).1 col size (matrix_of joined.now))) }
 {
     let mut marks = Vec::with_capacity(alloc, below.len())?;
     let mut row = 0;

@@ -1,0 +1,32 @@
+//! The coboundary of a cochain over the field of two elements.
+use crate::samples::fork;
+use block_sparse::Blocks;
+use dense_blocks::{Two, all_scalars};
+use std::alloc::{AllocError as NoMemory, Global};
+use std::process::Abort;
+
+fn coboundary(
+    rt: &impl Abort,
+    alloc: Global,
+    blocks: &Blocks,
+    k: u8,
+    z: &[u8],
+) -> Result<Vec<u8>, NoMemory> {
+    assert!(rt; blocks.is_over(&Two));
+    assert!(rt; z.len() == blocks.coordinates(k));
+    assert!(rt; all_scalars(&Two, z));
+    blocks.apply(alloc, &Two, k, z)
+}
+
+#[test]
+fn applies_the_fork(rt: HostRuntime) -> Result<(), NoMemory> {
+    let alloc = rt.alloc();
+    let fork = fork(&rt, alloc)?;
+    // At 2 the first and the third coordinate, at 3 the second and the third, and the third.
+    let w = coboundary(&rt, alloc, &fork, 0, &[1, 1, 1])?;
+    assert!(rt; w.as_slice() == [0, 0, 1].as_slice());
+    let w = coboundary(&rt, alloc, &fork, 0, &[0, 1, 0])?;
+    assert!(rt; w.as_slice() == [0, 1, 0].as_slice());
+    assert!(rt; coboundary(&rt, alloc, &fork, 1, &[1, 1, 1])?.is_empty());
+    Ok(())
+}
