@@ -1,4 +1,4 @@
--- Matrices with_replacements at the faces that pass a test.
+-- Matrices replaced at the faces that pass a test.
 use Rattle.std.proofs.Common.{◌≡◌, ℕ, zero, suc, ◌+◌, ◌<◌, Bool, true, false, cond, not, ◌||◌, nat_eq, nat_lt, List, []}
 use Rattle.std.proofs.Common.{◌∷◌, length, get_or, set, slice_get, None, Some, is_some, All, AllPairs, refl, sym, ap}
 use Rattle.std.proofs.Common.{ap₂, ◌∙◌, arith}
@@ -53,7 +53,7 @@ length-replaced p make [] (m ∷ ms) e = absurd (omega arith)
 length-replaced p make (f ∷ fs) [] e = absurd (omega arith)
 length-replaced p make (f ∷ fs) (m ∷ ms) e = ap suc (length-replaced p make fs ms (omega arith))
 
--- where no face passes, nothing is with_replacements
+-- where no face passes, nothing is replaced
 pub replaced-none : (p : Face → Bool) (make : Face → WrittenMatrix) (fs : List Face) (ms : List WrittenMatrix)
     → length fs ≡ length ms
     → All (λ f. p f ≡ false) fs → with_replacements p make fs ms ≡ ms
@@ -74,7 +74,7 @@ replaced-same p q make (f ∷ fs) (m ∷ ms) h =
     ap₂ (λ b rest. cond b (make f) m ∷ rest) (All-head (λ f. p f ≡ q f) f fs h)
     (replaced-same p q make fs ms (All-tail (λ f. p f ≡ q f) f fs h))
 
--- with_replacements twice: at the faces that pass either test
+-- replaced twice: at the faces that pass either test
 pub replaced-replaced : (p q : Face → Bool) (make again : Face → WrittenMatrix) (fs : List Face)
     (ms : List WrittenMatrix)
     → ((f : Face) → q f ≡ true → again f ≡ make f) → with_replacements q again fs (with_replacements p make fs ms)

@@ -12,7 +12,7 @@ use Rattle.sheaf_words.specs.declared.edit.Set.TheVariants.{Stalk, Restrict}
 use Rattle.sheaf_words.specs.declared.edit.Cause.{Cause}
 use Rattle.sheaf_words.specs.declared.edit.Cause.TheVariants.{NoCell, NoFace, StalkLimit, Shape, Entry}
 
--- a matrix, written_matrix row after row
+-- a matrix, written row after row
 pub record WrittenMatrix : Type 0 where
   pub rows : ℕ
   pub cols : ℕ
@@ -44,12 +44,8 @@ set_fault K c stalks i (Restrict s t entries) =
 
 -- the matrix with these entries from the stalk of s to that of t
 abbrev pub matrix_between : List ℕ → ℕ → ℕ → List ℕ → WrittenMatrix
-matrix_between stalks s t entries = record {
-  rows = slice_index stalks t;
-  cols = slice_index stalks s;
-  entries =
-      entries;
-}
+matrix_between stalks s t entries =
+    record { rows = slice_index stalks t; cols = slice_index stalks s; entries = entries }
 
 -- the zero matrix from the stalk of s to that of t
 abbrev pub zero_between : List ℕ → ℕ → ℕ → WrittenMatrix

@@ -34,7 +34,6 @@ pub fn apply<F: Scalars>(alloc: Global, sheaf: &mut Sheaf<F>, edit: &Edit) -> Re
     ensures accepted { OnOk result (IsVerdict (F.ops sheaf.old.field) sheaf.old edit.now Accepted) }
     ensures refused { (cause : Cause) → IsErrOf result (EditFault.Refused cause)
         → IsVerdict (F.ops sheaf.old.field) sheaf.old edit.now (Refused cause) }
-
     ensures edited { OnOk result (IsEdited (F.ops sheaf.old.field) sheaf.old edit.now sheaf.new) }
     ensures err { OnErr result (sheaf.new ≡ sheaf.old) }
 {
@@ -57,7 +56,7 @@ fn apply_sets<F: Scalars>(
     let draft = sheaf.draft();
     let complex = &draft.complex;
     let dims = complex.dims();
-    let mut work = Work::of(alloc, draft.stalks.as_slice(), &draft.blocks)?;
+    let mut work = Work::of(alloc, draft.stalks.as_slice(), draft.blocks.as_slice())?;
     make_sets(alloc, &draft.field, complex, &mut work, edit.sets.as_slice())?;
     if !stalks_fit(dims, &work.stalks) {
         return Err(EditFault::Refused(Cause::TotalLimit));
@@ -70,9 +69,11 @@ fn put_work<F: Scalars>(sheaf: &mut Sheaf<F>, work: Work) -> Result<(), EditFaul
     requires work { IsWork (F.ops sheaf.old.field) sheaf.old.complex work }
     requires few { sum work.stalks.items ≤ 4096 }
     requires touched { IsTouched sheaf.old.complex sheaf.old.blocks work }
-    ensures accepted { OnOk result (IsSquareVerdict (F.ops sheaf.old.field) sheaf.old.complex (map written_matrix work.blocks.items) Accepted) }
+    ensures accepted { OnOk result (IsSquareVerdict (F.ops sheaf.old.field) sheaf.old.complex
+        (map written_matrix work.blocks.items) Accepted) }
     ensures refused { (cause : Cause) → IsErrOf result (EditFault.Refused cause)
-        → IsSquareVerdict (F.ops sheaf.old.field) sheaf.old.complex (map written_matrix work.blocks.items) (Refused cause) }
+        → IsSquareVerdict (F.ops sheaf.old.field) sheaf.old.complex
+            (map written_matrix work.blocks.items) (Refused cause) }
     ensures ok { OnOk result (sheaf.new ≡ record sheaf.old { stalks = work.stalks.items; blocks = work.blocks.items }) }
     ensures err { OnErr result (sheaf.new ≡ sheaf.old) }
 {

@@ -28,11 +28,13 @@ pub(crate) fn make_sets<F: Scalars>(
     requires complex { IsComplex c.now }
     requires work { IsWork (F.ops f.now) c.now work.old }
     requires few { length sets.now ≤ 1000000000 }
-    ensures made { OnOk result (sets_made (F.ops f.now) c.now (work_lists work.old) 0 sets.now ≡ Ok (work_lists work.new)) }
+    ensures made { OnOk result
+        (sets_made (F.ops f.now) c.now (work_lists work.old) 0 sets.now ≡ Ok (work_lists work.new)) }
     ensures refused { (cause : Cause) → IsErrOf result (EditFault.Refused cause)
         → sets_made (F.ops f.now) c.now (work_lists work.old) 0 sets.now ≡ Err cause }
     ensures work { OnOk result (IsWork (F.ops f.now) c.now work.new) }
-    ensures touched { (start : List Block) → IsTouched c.now start work.old → OnOk result (IsTouched c.now start work.new) }
+    ensures touched { (start : List Block) → IsTouched c.now start work.old
+        → OnOk result (IsTouched c.now start work.new) }
 {
     for (i, set) in sets.iter().enumerate() {
         make_set(alloc, f, c, work, i as u32, set)?;

@@ -5,8 +5,6 @@ mod application;
 mod construction;
 mod fault;
 mod judgement;
-#[cfg(test)]
-mod tests;
 mod work;
 
 pub use application::apply;

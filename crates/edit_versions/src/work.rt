@@ -5,8 +5,8 @@ ghost use Rattle.edit_versions.specs.Edits.{written_matrix, zero_at, is_end};
 ghost use Rattle.edit_versions.specs.Works.{Puts, TakesSet, is_from, is_to};
 
 use cell_complex::Complex;
-use dense_blocks::{Block, Listed};
-use sheaf_words::copy_list;
+use dense_blocks::Block;
+use sheaf_data::copy_blocks;
 use std::alloc::{AllocError as NoMemory, Global};
 
 /// The stalks and blocks that an edit makes.
@@ -22,14 +22,14 @@ pub(crate) struct Work {
 
 impl Work {
     /// These stalks and blocks, none touched.
-    pub(crate) fn of(alloc: Global, stalks: &[u8], blocks: &Listed<Block>) -> Result<Work, NoMemory>
+    pub(crate) fn of(alloc: Global, stalks: &[u8], blocks: &[Block]) -> Result<Work, NoMemory>
         ensures stalks { IfOk result (λ w. w.stalks.items ≡ stalks.now) }
         ensures blocks { IfOk result (λ w. w.blocks.items ≡ blocks.now) }
         ensures touched { IfOk result (λ w. w.touched.items ≡ []) }
     {
         Ok(Work {
             stalks: Vec::from_slice(alloc, stalks)?,
-            blocks: copy_list(alloc, blocks)?.into_vec(),
+            blocks: copy_blocks(alloc, blocks)?,
             touched: Vec::new(alloc),
         })
     }
@@ -67,7 +67,8 @@ impl Work {
         requires cell { t < length c.now.dims }
         requires one_each { length self.old.stalks.items ≡ length c.now.dims }
         requires count { length self.old.blocks.items ≡ length c.now.faces }
-        ensures { OnOk result (Puts c.now (is_from (faces_of c.now t) t) (zero_at self.old.stalks.items) self.old self.new) }
+        ensures { OnOk result
+            (Puts c.now (is_from (faces_of c.now t) t) (zero_at self.old.stalks.items) self.old self.new) }
     {
         for &s in c.faces_of(t) {
             self.clear(alloc, c, s, t)?;
@@ -81,7 +82,8 @@ impl Work {
         requires cell { s < length c.now.dims }
         requires one_each { length self.old.stalks.items ≡ length c.now.dims }
         requires count { length self.old.blocks.items ≡ length c.now.faces }
-        ensures { OnOk result (Puts c.now (is_to (cofaces_of c.now s) s) (zero_at self.old.stalks.items) self.old self.new) }
+        ensures { OnOk result
+            (Puts c.now (is_to (cofaces_of c.now s) s) (zero_at self.old.stalks.items) self.old self.new) }
     {
         for &t in c.cofaces_of(s) {
             self.clear(alloc, c, s, t)?;

@@ -18,7 +18,8 @@ fn signed<F: Scalars>(
     restriction: &Block,
 ) -> Result<Block, NoMemory>
     requires { AllScalars (F.ops f.now) restriction.now.entries }
-    ensures block { IfOk result (λ b. IsBlock b restriction.now.rows restriction.now.cols (signed_matrix (F.ops f.now) sign (matrix_of restriction.now))) }
+    ensures block { IfOk result (λ b. IsBlock b restriction.now.rows restriction.now.cols
+        (signed_matrix (F.ops f.now) sign (matrix_of restriction.now))) }
     ensures scalars { IfOk result (λ b. AllScalars (F.ops f.now) b.entries) }
 {
     match sign {
@@ -51,8 +52,10 @@ fn arrow_of<F: Scalars>(
 /// The arrow of the face at the place.
 fn arrow_at<F: Scalars>(alloc: Global, draft: &Draft<F>, place: u32) -> Result<Arrow, NoMemory>
     requires { place < length draft.now.complex.faces }
-    ensures arrow { IfOk result (λ a. slice_get (arrows_of (F.ops draft.now.field) draft.now.complex.faces draft.now.blocks) place ≡ Some (arrow_of a)) }
-    ensures fits { IfOk result (FitsCells (F.ops draft.now.field) (numbered_cells 0 draft.now.complex.dims draft.now.stalks)) }
+    ensures arrow { IfOk result (λ a. slice_get
+        (arrows_of (F.ops draft.now.field) draft.now.complex.faces draft.now.blocks) place ≡ Some (arrow_of a)) }
+    ensures fits { IfOk result (FitsCells (F.ops draft.now.field)
+        (numbered_cells 0 draft.now.complex.dims draft.now.stalks)) }
 {
     let face = draft.complex.face_at(place);
     let restriction = &draft.blocks.as_slice()[place as usize];
@@ -62,8 +65,10 @@ fn arrow_at<F: Scalars>(alloc: Global, draft: &Draft<F>, place: u32) -> Result<A
 
 /// The faces as arrows, in order.
 pub fn arrows_of<F: Scalars>(alloc: Global, draft: &Draft<F>) -> Result<Vec<Arrow>, NoMemory>
-    ensures arrows { IfOk result (λ found. map arrow_of found.items ≡ arrows_of (F.ops draft.now.field) draft.now.complex.faces draft.now.blocks) }
-    ensures fits { IfOk result (λ found. All (FitsCells (F.ops draft.now.field) (numbered_cells 0 draft.now.complex.dims draft.now.stalks)) found.items) }
+    ensures arrows { IfOk result (λ found. map arrow_of found.items
+        ≡ arrows_of (F.ops draft.now.field) draft.now.complex.faces draft.now.blocks) }
+    ensures fits { IfOk result (λ found. All (FitsCells (F.ops draft.now.field)
+        (numbered_cells 0 draft.now.complex.dims draft.now.stalks)) found.items) }
 {
     let mut found = Vec::new(alloc);
     for place in 0..draft.complex.face_count() {

@@ -7,7 +7,5 @@
 mod arrows;
 mod cells;
 mod numbers;
-#[cfg(test)]
-mod tests;
 
 pub use numbers::betti;

@@ -11,7 +11,8 @@ use std::alloc::{AllocError as NoMemory, Global};
 
 /// The whole complex of a draft, as cells and matrices.
 fn complex_of<F: Scalars>(alloc: Global, draft: &Draft<F>) -> Result<Complex, NoMemory>
-    ensures complex { IfOk result (λ c. plain_complex_of c ≡ cochain_complex_of (F.ops draft.now.field) draft.now.complex draft.now.stalks draft.now.blocks) }
+    ensures complex { IfOk result (λ c. plain_complex_of c
+        ≡ cochain_complex_of (F.ops draft.now.field) draft.now.complex draft.now.stalks draft.now.blocks) }
     ensures over { IfOk result (IsComplexOver (F.ops draft.now.field)) }
 {
     let cells = numbered(alloc, draft.complex.dims(), draft.stalks.as_slice())?;
@@ -28,7 +29,8 @@ fn complex_of<F: Scalars>(alloc: Global, draft: &Draft<F>) -> Result<Complex, No
 /// Nothing is asked of incidences and squares: cocycles and coboundaries are read of any draft. Fails only where memory
 /// does.
 pub fn betti<F: Scalars>(alloc: Global, draft: &Draft<F>) -> Result<Vec<u32>, NoMemory>
-    ensures { IfOk result (λ numbers. AreBetti (F.ops draft.now.field) draft.now.complex draft.now.stalks draft.now.blocks numbers.items) }
+    ensures { IfOk result (λ numbers. AreBetti (F.ops draft.now.field) draft.now.complex draft.now.stalks
+        draft.now.blocks numbers.items) }
 {
     let complex = complex_of(alloc, draft)?;
     let mut numbers = Vec::new(alloc);

@@ -8,7 +8,7 @@ use Rattle.reply_text.specs.Transcripts.{ends_for, asks_for, is_accepted, curren
 use Rattle.reply_text.specs.Counts.{IsCountOf}
 
 -- one more, counted
-abbrev step : {X : Type 0} → (X → Bool) → ℕ → X → ℕ
+abbrev pub step : {X : Type 0} → (X → Bool) → ℕ → X → ℕ
 step p n x = n + (if p x then 1 else 0)
 
 fold-more : {X : Type 0} (f : ℕ → X → ℕ) (n : ℕ) (xs : List X) (x : X) → fold f n (xs ++ x ∷ []) ≡ f (fold f n xs) x

@@ -1,3 +1,4 @@
 mod Writing
 pub mod Counting
 mod Naming
+mod Bounds

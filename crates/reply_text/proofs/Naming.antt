@@ -4,10 +4,8 @@ use Rattle.std.proofs.Common.{slice_get, get_or, length, take, if◌then◌else�
 use Rattle.std.proofs.Common.{append-nil, append_assoc}
 use Rattle.std.specs.Prelude.{All, IfSome, option_and_then}
 use Rattle.std.proofs.lemmas.Option.{slice_get_within, slice_get-get_or}
-use Rattle.std.proofs.Math.Nat.{min-le_left}
 use Rattle.std.proofs.lemmas.List.Elements.{All-from_get_or}
-use Rattle.std.proofs.lemmas.List.{length-take, length-take-le}
-use Rattle.std.proofs.lemmas.List.Sums.{count_by-le-length}
+use Rattle.std.proofs.lemmas.List.{length-take-le}
 use Rattle.std.proofs.lemmas.List.Concat.{flat_map-append}
 use Rattle.std.proofs.lemmas.Bool.{eqb-true}
 use Rattle.sheaf_words.specs.declared.query.Command.{Command}
@@ -20,7 +18,7 @@ use Rattle.reply_text.specs.Transcripts.{clients_lines, client_of, order_lines, 
 use Rattle.reply_text.specs.Transcripts.{AreAnswered}
 use Rattle.reply_text.specs.Events.{event_words}
 use Rattle.reply_text.specs.Replies.{reply_lines, IsAnswerTo}
-use Rattle.reply_text.specs.Counts.{IsCountOf, AreCounted}
+use Rattle.reply_text.specs.Counts.{IsCountOf}
 use Rattle.reply_text.specs.declared.counts.Counts.{Counts}
 
 -- the lines of the client after one event more
@@ -52,7 +50,7 @@ written-more c script events i event start old new h more next =
     ∙ ap lines_text (sym (client_lines-more c script [] (take i events) event))
     ∙ ap (λ es. lines_text (client_lines c script [] es)) (sym next))
 
--- the event ends the command after those that have ended_count
+-- the event ends the command after those that have ended
 pub number_of-ends : (c : ℕ) (events : List Event) (event : Event) → ends_for c event ≡ true
     → command_number events event ≡ ended_count c events + 1
 number_of-ends c events (Edit d verdict) h = ap (λ k. ended_count k events + 1) (eqb-true d c h)
@@ -72,32 +70,6 @@ answer-is c script events event command counts v ends h there named =
     ∙ ap (answer_lines events event) there
     ∙ ap₂ (λ number version. reply_lines number version command event)
     (number_of-ends c events event ends ∙ ap (λ k. k + 1) (sym h.ended_is)) (sym named)
-
--- and of one that ends none
-pub no-answer : (c : ℕ) (script : List Command) (events : List Event) (event : Event) → ends_for c event ≡ false
-    → event_lines c script events event ≡ []
-no-answer c script events event h =
-    ap (λ b. if b then answer_lines events event (slice_get script (ended_count c events)) else []) h
-
-length-take-short : {X : Type 0} (i : ℕ) (xs : List X) → length (take i xs) ≤ i
-length-take-short i xs = subst (λ n. n ≤ i) (sym (length-take i xs)) (min-le_left i (length xs))
-
--- counts of some of the first events fit where all of them do
-pub ended-fits : (c i : ℕ) (events : List Event) (counts : Counts) → IsCountOf c (take i events) counts → i
-    < length events → length events + 1 < 2 ^ 32 → counts.ended + 1 < 2 ^ 32
-ended-fits c i events counts h inside few =
-    let low : ended_count c (take i events) ≤ length (take i events) = count_by-le-length (ends_for c) (take i events)
-    in
-    let short : length (take i events) ≤ i = length-take-short i events in
-    omega (arith, h.ended_is, low, short, inside, few)
-
-pub standing-fits : (c i : ℕ) (events : List Event) (counts : Counts) → IsCountOf c (take i events) counts → i
-    < length events → length events + 1 < 2 ^ 32 → counts.standing + 1 < 2 ^ 32
-standing-fits c i events counts h inside few =
-    let low : current_version (take i events) ≤ length (take i events) = count_by-le-length is_accepted (take i events)
-    in
-    let short : length (take i events) ≤ i = length-take-short i events in
-    omega (arith, h.standing_is, low, short, inside, few)
 
 -- the line of one event more
 pub order_lines-more : (earlier events : List Event) (event : Event)
@@ -125,15 +97,6 @@ ordered-more events i event number start old new h more is next =
     ∙ ap (λ text. start ++ text) (sym (flat_map-append line_text first (last ∷ []))
     ∙ ap lines_text (sym (order_lines-more [] (take i events) event))
     ∙ ap (λ es. lines_text (order_lines [] es)) (sym next))
-
--- the counts fit
-pub counts-fit : (i : ℕ) (events : List Event) (counts : List ℕ) → AreCounted (take i events) counts → i < length events
-    → length events + 1 < 2 ^ 32 → All (λ n. n + 1 < 2 ^ 32) counts
-counts-fit i events counts h inside few = All-from_get_or (λ n. n + 1 < 2 ^ 32) counts 0 (λ c l.
-    let low : ended_count c (take i events) ≤ length (take i events) = count_by-le-length (ends_for c) (take i events)
-    in
-    let short : length (take i events) ≤ i = length-take-short i events in
-    omega (arith, h c l, low, short, inside, few))
 
 -- the part of one client more
 pub clients_lines-more : (c : ℕ) (scripts : List (List Command)) (script : List Command) (events : List Event)

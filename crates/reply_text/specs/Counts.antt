@@ -10,6 +10,6 @@ pub record IsCountOf (c : ℕ) (events : List Event) (counts : Counts) : Type 0 
   pub standing_is : counts.standing ≡ current_version events
   pub asked_is : counts.asked ≡ asked_version c events
 
--- for each client how many of its commands have ended_count after these events
+-- for each client how many of its commands have ended after these events
 abbrev pub AreCounted : List Event → List ℕ → Type 0
 AreCounted events counts = (c : ℕ) → c < length counts → slice_index counts c ≡ ended_count c events

@@ -48,13 +48,21 @@ IsAnswerTo (Change edit) (events.Edit c verdict) = Unit {0}
 IsAnswerTo (Ask queries.Betti) (events.Reply c (replies.Betti numbers)) = Unit {0}
 IsAnswerTo command event = ⊥
 
--- what the first line says after the command's word
+-- what the first line says after the word of the command
 abbrev pub answer_words : Event → List (List ℕ)
 answer_words (events.Edit c verdict) = verdict_words verdict
 answer_words (events.Reply c (replies.Betti numbers)) = map decimal numbers
 answer_words event = []
 
+-- the first of the lines that answer the command of this number on version v
+abbrev pub first_line : ℕ → ℕ → Command → Event → List (List ℕ)
+first_line number v command event =
+    decimal number ∷ (codes "v" ++ decimal v) ∷ command_word command ∷ answer_words event
+
+-- the lines that follow the first: none yet
+abbrev pub following_lines : Event → List (List (List ℕ))
+following_lines event = []
+
 -- the lines that answer the command of this number on version v
 abbrev pub reply_lines : ℕ → ℕ → Command → Event → List (List (List ℕ))
-reply_lines number v command event =
-    (decimal number ∷ (codes "v" ++ decimal v) ∷ command_word command ∷ answer_words event) ∷ []
+reply_lines number v command event = first_line number v command event ∷ following_lines event

@@ -27,7 +27,7 @@ abbrev pub is_accepted : Event → Bool
 is_accepted (Edit c Accepted) = true
 is_accepted event = false
 
--- how many commands of client c have ended_count: the next one has this place in its script
+-- how many commands of client c have ended: the next one has this place in its script
 abbrev pub ended_count : ℕ → List Event → ℕ
 ended_count c events = count_by (ends_for c) events
 
@@ -46,7 +46,7 @@ abbrev pub asked_version : ℕ → List Event → ℕ
 asked_version c events = asked_from c 0 0 events
 
 -- the version that the reply names which an event after the earlier ones gives: for an accepted edit the new one, for a
--- refused edit the one that stands, for a question the one that was asked_version
+-- refused edit the one that stands, for a reply the one that was asked
 abbrev pub version_named : List Event → Event → ℕ
 version_named earlier (Edit c Accepted) = current_version earlier + 1
 version_named earlier (Edit c (Refused cause)) = current_version earlier
@@ -118,7 +118,7 @@ abbrev pub IfPresent : {X : Type 0} → Option X → (X → Type 0) → Type 0
 IfPresent None P = ⊥
 IfPresent (Some x) P = P x
 
--- client c has a command that no earlier event ended_count, and the event answers it
+-- client c has a command that no earlier event ended, and the event answers it
 abbrev pub IsAnswered : List (List Command) → List Event → ℕ → Event → Type 0
 IsAnswered scripts earlier c event =
     IfPresent (option_and_then (λ script. slice_get script (ended_count c earlier)) (slice_get scripts c))

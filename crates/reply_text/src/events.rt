@@ -10,14 +10,16 @@ use std::alloc::{AllocError as NoMemory, Global};
 
 /// Appends a word, a space, the number of a client, a space and the number of its command.
 fn put_step(out: &mut Vec<u8>, word: &[u8], client: u32, number: u32) -> Result<(), NoMemory>
-    ensures { OnOk result (out.new.items ≡ out.old.items ++ ((word.now ++ 32 ∷ decimal client) ++ 32 ∷ decimal number)) }
+    ensures { OnOk result (out.new.items ≡ out.old.items
+        ++ ((word.now ++ 32 ∷ decimal client) ++ 32 ∷ decimal number)) }
 {
     put_named(out, word, client)?;
     put_next(out, number)
 }
 
 fn put_pair(out: &mut Vec<u8>, v: u32, x: u32, y: u32) -> Result<(), NoMemory>
-    ensures { OnOk result (out.new.items ≡ out.old.items ++ (((codes "pair" ++ 32 ∷ decimal v) ++ 32 ∷ decimal x) ++ 32 ∷ decimal y)) }
+    ensures { OnOk result (out.new.items ≡ out.old.items
+        ++ (((codes "pair" ++ 32 ∷ decimal v) ++ 32 ∷ decimal x) ++ 32 ∷ decimal y)) }
 {
     put_step(out, b"pair", v, x)?;
     put_next(out, y)

@@ -5,8 +5,6 @@ mod counts;
 mod events;
 mod order;
 mod replies;
-#[cfg(test)]
-mod tests;
 mod transcripts;
 mod words;
 

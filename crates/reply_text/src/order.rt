@@ -1,11 +1,12 @@
-ghost use Rattle.std.specs.Prelude.{◌≡◌, ℕ, ◌+◌, ◌<◌, ◌^◌, ◌∷◌, [], ◌++◌, List, length, All, IfSome, OnOk};
+ghost use Rattle.std.specs.Prelude.{◌≡◌, ℕ, ◌+◌, ◌<◌, ◌^◌, ◌∷◌, [], ◌++◌, List, length, sum_by, All, IfSome, OnOk};
 ghost use Rattle.sheaf_words.specs.declared.event.Event.{Event};
 ghost use Rattle.reply_text.specs.Lines.{lines_text};
-ghost use Rattle.reply_text.specs.Transcripts.{client_of, ender_of, command_number, order_lines};
+ghost use Rattle.reply_text.specs.Transcripts.{AreOf, client_of, ender_of, command_number, order_lines};
 ghost use Rattle.reply_text.specs.Counts.{AreCounted};
 
 use crate::events::event_line;
-use sheaf_words::Event;
+use dense_blocks::Listed;
+use sheaf_words::{Command, Event};
 use std::alloc::{AllocError as NoMemory, Global};
 
 /// The client whose command the event is about.
@@ -45,25 +46,27 @@ fn count_event(counts: &mut Vec<u32>, event: &Event)
     requires known { IfSome (client_of event.now) (λ c. c < length counts.old.items) }
     requires fits { All (λ n. n + 1 < 2 ^ 32) counts.old.items }
     ensures len { length counts.new.items ≡ length counts.old.items }
-    ensures counted { (events : List Event) → AreCounted events counts.old.items → AreCounted (events ++ event.now ∷ []) counts.new.items }
+    ensures counted { (events : List Event) → AreCounted events counts.old.items
+        → AreCounted (events ++ event.now ∷ []) counts.new.items }
 {
     if let Some(c) = ender_of(event) {
         counts[c as usize] += 1;
     }
 }
 
-/// Appends a line for each event, where the first clients, so many, have made them.
+/// Appends a line for each event that the clients with these scripts have made.
 pub(crate) fn put_order(
     alloc: Global,
     out: &mut Vec<u8>,
-    clients: usize,
+    scripts: &[Listed<Command>],
     events: &[Event],
 ) -> Result<(), NoMemory>
-    requires few { length events.now + 1 < 2 ^ 32 }
-    requires known { All (λ event. IfSome (client_of event) (λ c. c < clients)) events.now }
+    requires few { sum_by length scripts.now + 1 < 2 ^ 32 }
+    requires of { AreOf scripts.now events.now }
+    requires known { All (λ event. IfSome (client_of event) (λ c. c < length scripts.now)) events.now }
     ensures { OnOk result (out.new.items ≡ out.old.items ++ lines_text (order_lines [] events.now)) }
 {
-    let mut counts = vec![in alloc; 0u32; clients]?;
+    let mut counts = vec![in alloc; 0u32; scripts.len()]?;
     for event in events {
         let number = number_of(counts.as_slice(), event);
         event_line(alloc, number, 0, event, out)?;

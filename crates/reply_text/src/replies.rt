@@ -116,7 +116,8 @@ pub fn reply_lines(
     out: &mut Vec<u8>,
 ) -> Result<(), NoMemory>
     requires { IsAnswerTo command.now event.now }
-    ensures ok { OnOk result (out.new.items ≡ out.old.items ++ lines_text (reply_lines number v command.now event.now)) }
+    ensures ok { OnOk result (out.new.items ≡ out.old.items
+        ++ lines_text (reply_lines number v command.now event.now)) }
     ensures err { OnErr result (out.new.items ≡ out.old.items) }
 {
     let text = reply(alloc, number, v, command, event)?;

@@ -1,4 +1,4 @@
-ghost use Rattle.std.specs.Prelude.{◌≡◌, ℕ, ◌+◌, ◌<◌, ◌≤◌, ◌∷◌, [], ◌++◌, List, Some, None, MatchOption, length, take, slice_get, IfOk, OnOk, codes, true, ◌^◌};
+ghost use Rattle.std.specs.Prelude.{◌≡◌, ℕ, ◌+◌, ◌<◌, ◌≤◌, ◌∷◌, [], ◌++◌, List, Some, None, MatchOption, length, take, slice_get, sum_by, IfOk, OnOk, codes, true, ◌^◌};
 ghost use Rattle.sheaf_words.specs.declared.event.Event.{Event};
 ghost use Rattle.reply_text.specs.Lines.{lines_text};
 ghost use Rattle.reply_text.specs.Replies.{IsAnswerTo};
@@ -62,7 +62,8 @@ impl Counts {
     fn after(self, client: u32, event: &Event) -> Counts
         requires ended_fits { self.ended + 1 < 2 ^ 32 }
         requires standing_fits { self.standing + 1 < 2 ^ 32 }
-        ensures { (events : List Event) → IsCountOf client events self → IsCountOf client (events ++ event.now ∷ []) result }
+        ensures { (events : List Event) → IsCountOf client events self
+            → IsCountOf client (events ++ event.now ∷ []) result }
     {
         let ended = self.ended + u32::from(ends_for(client, event));
         let standing = self.standing + u32::from(is_accepted(event));
@@ -81,7 +82,8 @@ impl Counts {
     /// The version that the reply names which the event gives.
     fn version_named(self, event: &Event) -> u32
         requires standing_fits { self.standing + 1 < 2 ^ 32 }
-        ensures { (events : List Event) (c : ℕ) → ends_for c event.now ≡ true → IsCountOf c events self → result ≡ version_named events event.now }
+        ensures { (events : List Event) (c : ℕ) → ends_for c event.now ≡ true → IsCountOf c events self
+            → result ≡ version_named events event.now }
     {
         match event {
             Event::Edit {
@@ -97,7 +99,8 @@ impl Counts {
 
 /// The command at a place of a script, if there is one.
 fn command_at(script: &[Command], place: u32) -> Option<&Command>
-    ensures { MatchOption result (slice_get script.now place ≡ None) (λ command. slice_get script.now place ≡ Some command.now) }
+    ensures { MatchOption result (slice_get script.now place ≡ None)
+        (λ command. slice_get script.now place ≡ Some command.now) }
 {
     script.get(place as usize)
 }
@@ -113,7 +116,8 @@ fn put_answer(
 ) -> Result<(), NoMemory>
     requires ended_fits { counts.ended + 1 < 2 ^ 32 }
     requires standing_fits { counts.standing + 1 < 2 ^ 32 }
-    requires answers { ends_for client event.now ≡ true → IfPresent (slice_get script.now counts.ended) (λ command. IsAnswerTo command event.now) }
+    requires answers { ends_for client event.now ≡ true
+        → IfPresent (slice_get script.now counts.ended) (λ command. IsAnswerTo command event.now) }
     ensures { (events : List Event) → IsCountOf client events counts →
         OnOk result (out.new.items ≡ out.old.items ++ lines_text (event_lines client script.now events event.now)) }
 {
@@ -136,7 +140,8 @@ fn put_client(
     script: &[Command],
     events: &[Event],
 ) -> Result<(), NoMemory>
-    requires few { length events.now + 1 < 2 ^ 32 }
+    requires few { length script.now + 1 < 2 ^ 32 }
+    requires few_versions { current_version events.now + 1 < 2 ^ 32 }
     requires answers { AreAnswered client script.now events.now }
     ensures { OnOk result (out.new.items ≡ out.old.items ++ lines_text (client_lines client script.now [] events.now)) }
 {
@@ -156,7 +161,8 @@ fn put_part(
     script: &[Command],
     events: &[Event],
 ) -> Result<(), NoMemory>
-    requires few { length events.now + 1 < 2 ^ 32 }
+    requires few { length script.now + 1 < 2 ^ 32 }
+    requires few_versions { current_version events.now + 1 < 2 ^ 32 }
     requires answers { AreAnswered client script.now events.now }
     ensures { OnOk result (out.new.items ≡ out.old.items ++ lines_text (client_part client script.now events.now)) }
 {
@@ -173,7 +179,7 @@ fn put_clients(
     scripts: &[Listed<Command>],
     events: &[Event],
 ) -> Result<(), NoMemory>
-    requires few { length events.now + 1 < 2 ^ 32 }
+    requires few { sum_by length scripts.now + 1 < 2 ^ 32 }
     requires few_clients { length scripts.now < 2 ^ 32 }
     requires of { AreOf scripts.now events.now }
     ensures { OnOk result (out.new.items ≡ out.old.items ++ lines_text (clients_lines 0 scripts.now events.now)) }
@@ -196,7 +202,7 @@ pub fn transcript(
     scripts: &[Listed<Command>],
     events: &[Event],
 ) -> Result<Vec<u8>, NoMemory>
-    requires few { length events.now + 1 < 2 ^ 32 }
+    requires few { sum_by length scripts.now + 1 < 2 ^ 32 }
     requires few_clients { length scripts.now < 2 ^ 32 }
     requires of { AreOf scripts.now events.now }
     ensures { IfOk result (λ text. text.items ≡ transcript scripts.now events.now) }
@@ -204,7 +210,7 @@ pub fn transcript(
     let mut text = Vec::new(alloc);
     put_clients(alloc, &mut text, scripts, events)?;
     text.extend_from_slice(b"order\n")?;
-    put_order(alloc, &mut text, scripts.len(), events)?;
+    put_order(alloc, &mut text, scripts, events)?;
     text.extend_from_slice(b"end\n")?;
     Ok(text)
 }

@@ -1,7 +1,7 @@
 -- Blocks that a loop makes one by one, and what a sheaf keeps.
 use Rattle.std.proofs.Common.{◌≡◌, ℕ, zero, suc, ◌+◌, ◌*◌, List, [], ◌∷◌, ◌++◌, length, take, get_or, slice_get, Some}
 use Rattle.std.proofs.Common.{refl, sym, ap, ◌∙◌, subst, arith, length-append}
-use Rattle.std.proofs.lemmas.List.{take_more, take_all}
+use Rattle.std.proofs.lemmas.List.{take_more}
 use Rattle.std.proofs.lemmas.List.Elements.{All-append, All-nil, All-cons}
 use Rattle.std.proofs.lemmas.Option.{get_or_from_slice_get, slice_get_within}
 use Rattle.cell_complex.specs.declared.face.Face.{Face}
@@ -47,17 +47,7 @@ shapes-next stalks faces blocks f b h new =
       rows = λ p g d i j. (both p g d i j).rows;
     }
 
--- the zero blocks of no faces, of one more face, and of all faces
-pub zero_blocks-none : (faces : List Face) (stalks : List ℕ) (blocks : List Block) → blocks ≡ []
-    → AreZeroBlocks (take 0 faces) stalks blocks
-zero_blocks-none faces stalks blocks e = subst (AreZeroBlocks [] stalks) (sym e) none
-  where
-    none : AreZeroBlocks [] stalks []
-    none = record {
-      shapes = record { count = refl; cols = λ p f b i j. cc; rows = λ p f b i j. cc };
-      zero = All-nil IsZero;
-    }
-
+-- the zero blocks of one more face
 pub zero_blocks-next : (faces : List Face) (stalks : List ℕ) (blocks : List Block) (i : ℕ) (f : Face) (b : Block)
     → AreZeroBlocks (take i faces) stalks blocks
     → slice_get faces i ≡ Some f → HasShape stalks f b → IsZero b → AreZeroBlocks (take (i + 1) faces) stalks
@@ -70,12 +60,6 @@ zero_blocks-next faces stalks blocks i f b h is shape empty =
       shapes = shapes-next stalks (take i faces) blocks f b h.shapes shape;
       zero = All-append IsZero blocks (b ∷ []) h.zero (All-cons IsZero b [] empty (All-nil IsZero));
     })
-
-pub zero_blocks-all : (faces : List Face) (stalks : List ℕ) (blocks : List Block) (i : ℕ) → i ≡ length faces
-    → AreZeroBlocks (take i faces) stalks blocks
-    → AreZeroBlocks faces stalks blocks
-zero_blocks-all faces stalks blocks i e h = subst (λ fs. AreZeroBlocks fs stalks blocks)
-    (take_all i faces (omega (arith, e))) h
 
 -- zeros are scalars
 zero-scalars : (K : Ops) → IsField K → (b : Block) → IsZero b → AllScalars K b.entries

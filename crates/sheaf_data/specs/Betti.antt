@@ -12,13 +12,13 @@ use Rattle.dense_blocks.specs.Matrices.{matrix_negative}
 use Rattle.dense_blocks.specs.Blocks.{matrix_of}
 use Rattle.dense_blocks.specs.declared.block.Block.{Block}
 
--- cells of these dimensions and stalks, numbered_cells from n on: each has its dimension as its degree, and its stalk
--- as its size
+-- cells of these dimensions and stalks, numbered from n on: each has its dimension as its degree, and its stalk as its
+-- size
 abbrev pub numbered_cells : ℕ → List ℕ → List ℕ → List Cell
 numbered_cells n [] stalks = []
 numbered_cells n (d ∷ dims) [] = []
-numbered_cells n (d ∷ dims) (size ∷ stalks) = record { cell = n; degree = d; size = size } ∷ numbered_cells (n + 1) dims
-    stalks
+numbered_cells n (d ∷ dims) (size ∷ stalks) =
+    record { cell = n; degree = d; size = size } ∷ numbered_cells (n + 1) dims stalks
 
 -- a sign times a matrix
 abbrev pub signed_matrix : Ops → Sign → List (List ℕ) → List (List ℕ)
@@ -37,11 +37,8 @@ arrows_of K (f ∷ faces) (b ∷ blocks) = arrow_of_face K f b ∷ arrows_of K f
 
 -- the whole complex: every cell, and an arrow for every face
 abbrev pub cochain_complex_of : Ops → CellComplex → List ℕ → List Block → CellularComplex
-cochain_complex_of K c stalks blocks = record {
-  cells = numbered_cells 0 c.dims stalks;
-  arrows =
-      arrows_of K c.faces blocks;
-}
+cochain_complex_of K c stalks blocks =
+    record { cells = numbered_cells 0 c.dims stalks; arrows = arrows_of K c.faces blocks }
 
 -- one more than the largest dimension of a cell, and 0 where there are no cells
 abbrev pub degree_count : List ℕ → ℕ

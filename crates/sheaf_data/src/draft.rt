@@ -94,7 +94,7 @@ impl<F: Scalars> Draft<F> {
     {
         let complex = self.complex.copy(alloc)?;
         let stalks = Vec::from_slice(alloc, self.stalks.as_slice())?;
-        let blocks = copies(alloc, self.blocks.as_slice())?;
+        let blocks = copy_blocks(alloc, self.blocks.as_slice())?;
         Ok(Draft {
             complex,
             field: self.field,
@@ -104,8 +104,8 @@ impl<F: Scalars> Draft<F> {
     }
 }
 
-/// Equal blocks.
-fn copies(alloc: Global, blocks: &[Block]) -> Result<Vec<Block>, NoMemory>
+/// Equal blocks, in order.
+pub fn copy_blocks(alloc: Global, blocks: &[Block]) -> Result<Vec<Block>, NoMemory>
     ensures { IfOk result (λ v. v.items ≡ blocks.now) }
 {
     let mut copies = Vec::with_capacity(alloc, blocks.len())?;

@@ -5,10 +5,8 @@ mod draft;
 mod fault;
 mod sheaf;
 mod stalks;
-#[cfg(test)]
-mod tests;
 
-pub use draft::Draft;
+pub use draft::{Draft, copy_blocks};
 pub use fault::SealFault;
 pub use sheaf::Sheaf;
 pub use stalks::stalks_fit;

@@ -117,7 +117,8 @@ impl<F: Scalars> Sheaf<F> {
         requires fits { IsDraft (F.ops self.now.field) self.now.complex stalks.now blocks.now }
         requires faces { All (λ p. p < length self.now.complex.faces) touched.now }
         requires others { AreSameElsewhere touched.now self.now.blocks blocks.now }
-        ensures { IsFirstFailure (Commutes (F.ops self.now.field) self.now.complex blocks.now) (length self.now.complex.dims) result }
+        ensures { IsFirstFailure (Commutes (F.ops self.now.field) self.now.complex blocks.now)
+            (length self.now.complex.dims) result }
     {
         let draft = &self.draft;
         let touched = Touched::Faces(touched);

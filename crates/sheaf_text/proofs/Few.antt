@@ -20,7 +20,7 @@ use Rattle.sheaf_text.specs.Readings.{InputValue, Reading, Good, BadLine, conten
 use Rattle.sheaf_text.specs.Readings.{reading_at_end, go_on, onto_last, into_last, into_script, command_with_set}
 use Rattle.sheaf_text.specs.Readings.{input_of}
 use Rattle.sheaf_text.specs.KnownLines.{advance, nothing_known, run}
-use Rattle.sheaf_text.specs.Answers.{Gives, CanBeServed, AreServable, input_value}
+use Rattle.sheaf_text.specs.Answers.{Gives, IsServable, AreServable, input_value}
 use Rattle.sheaf_text.specs.declared.fault.LineCause.TheVariants as causes
 use Rattle.sheaf_text.specs.declared.fault.Which.TheVariants as limits
 use Rattle.sheaf_text.specs.declared.fault.Refusal.{Refusal}
@@ -79,72 +79,77 @@ count-into_last (s ∷ t ∷ more) change =
       count-into_last (t ∷ more) change,
     )
 
-more_changes : (m n : ℕ) → m ≤ n → (c : Command) → CanBeServed m c → CanBeServed n c
-more_changes m n le (Change e) h = omega arith
-more_changes m n le (Ask q) h = h
+more_changes : (dims : List ℕ) (m n : ℕ) → m ≤ n → (c : Command) → IsServable dims m c → IsServable dims n c
+more_changes dims m n le (Change e) h = omega arith
+more_changes dims m n le (Ask q) h = h
 
-all_more_changes : (m n : ℕ) → m ≤ n → (script : List Command) → All (CanBeServed m) script → All (CanBeServed n) script
-all_more_changes m n le = All-weaker (CanBeServed m) (CanBeServed n) (more_changes m n le)
+all_more_changes : (dims : List ℕ) (m n : ℕ) → m ≤ n → (script : List Command) → All (IsServable dims m) script
+    → All (IsServable dims n) script
+all_more_changes dims m n le = All-weaker (IsServable dims m) (IsServable dims n) (more_changes dims m n le)
 
-with_set-changes : (n : ℕ) (c : Command) (change : Set) → CanBeServed n c
-    → CanBeServed (n + 1) (command_with_set c change)
-with_set-changes n (Change e) change h = omega (arith, length-append e.sets (change ∷ []))
-with_set-changes n (Ask q) change h = h
+with_set-changes : (dims : List ℕ) (n : ℕ) (c : Command) (change : Set) → IsServable dims n c
+    → IsServable dims (n + 1) (command_with_set c change)
+with_set-changes dims n (Change e) change h = omega (arith, length-append e.sets (change ∷ []))
+with_set-changes dims n (Ask q) change h = h
 
-into_script-changes : (n : ℕ) (script : List Command) (change : Set) → All (CanBeServed n) script
-    → All (CanBeServed (n + 1)) (into_script script change)
-into_script-changes n [] change h = All-nil (CanBeServed (n + 1))
-into_script-changes n (c ∷ []) change h =
-    All-cons (CanBeServed (n + 1)) (command_with_set c change) []
-    (with_set-changes n c change (All-head (CanBeServed n) c [] h)) (All-nil (CanBeServed (n + 1)))
-into_script-changes n (c ∷ d ∷ more) change h =
-    All-cons (CanBeServed (n + 1)) c (into_script (d ∷ more) change)
-    (more_changes n (n + 1) (omega arith) c (All-head (CanBeServed n) c (d ∷ more) h))
-    (into_script-changes n (d ∷ more) change (All-tail (CanBeServed n) c (d ∷ more) h))
+into_script-changes : (dims : List ℕ) (n : ℕ) (script : List Command) (change : Set) → All (IsServable dims n) script
+    → All (IsServable dims (n + 1)) (into_script script change)
+into_script-changes dims n [] change h = All-nil (IsServable dims (n + 1))
+into_script-changes dims n (c ∷ []) change h =
+    All-cons (IsServable dims (n + 1)) (command_with_set c change) []
+    (with_set-changes dims n c change (All-head (IsServable dims n) c [] h)) (All-nil (IsServable dims (n + 1)))
+into_script-changes dims n (c ∷ d ∷ more) change h =
+    All-cons (IsServable dims (n + 1)) c (into_script (d ∷ more) change)
+    (more_changes dims n (n + 1) (omega arith) c (All-head (IsServable dims n) c (d ∷ more) h))
+    (into_script-changes dims n (d ∷ more) change (All-tail (IsServable dims n) c (d ∷ more) h))
 
-into_last-changes : (n : ℕ) (scripts : List (List Command)) (change : Set) → All (All (CanBeServed n)) scripts
-    → All (All (CanBeServed (n + 1))) (into_last scripts change)
-into_last-changes n [] change h = All-nil (All (CanBeServed (n + 1)))
-into_last-changes n (s ∷ []) change h =
-    All-cons (All (CanBeServed (n + 1))) (into_script s change) []
-    (into_script-changes n s change (All-head (All (CanBeServed n)) s [] h)) (All-nil (All (CanBeServed (n + 1))))
-into_last-changes n (s ∷ t ∷ more) change h =
-    All-cons (All (CanBeServed (n + 1))) s (into_last (t ∷ more) change)
-    (all_more_changes n (n + 1) (omega arith) s (All-head (All (CanBeServed n)) s (t ∷ more) h))
-    (into_last-changes n (t ∷ more) change (All-tail (All (CanBeServed n)) s (t ∷ more) h))
+into_last-changes : (dims : List ℕ) (n : ℕ) (scripts : List (List Command)) (change : Set)
+    → All (All (IsServable dims n)) scripts
+    → All (All (IsServable dims (n + 1))) (into_last scripts change)
+into_last-changes dims n [] change h = All-nil (All (IsServable dims (n + 1)))
+into_last-changes dims n (s ∷ []) change h =
+    All-cons (All (IsServable dims (n + 1))) (into_script s change) []
+    (into_script-changes dims n s change (All-head (All (IsServable dims n)) s [] h))
+        (All-nil (All (IsServable dims (n + 1))))
+into_last-changes dims n (s ∷ t ∷ more) change h =
+    All-cons (All (IsServable dims (n + 1))) s (into_last (t ∷ more) change)
+    (all_more_changes dims n (n + 1) (omega arith) s (All-head (All (IsServable dims n)) s (t ∷ more) h))
+    (into_last-changes dims n (t ∷ more) change (All-tail (All (IsServable dims n)) s (t ∷ more) h))
 
-onto_last-changes : (n : ℕ) (scripts : List (List Command)) (c : Command) → CanBeServed n c
-    → All (All (CanBeServed n)) scripts → All (All (CanBeServed n)) (onto_last scripts c)
-onto_last-changes n [] c new h = All-nil (All (CanBeServed n))
-onto_last-changes n (s ∷ []) c new h =
-    All-cons (All (CanBeServed n)) (s ++ c ∷ []) []
-    (All-push (CanBeServed n) s c (All-head (All (CanBeServed n)) s [] h) new) (All-nil (All (CanBeServed n)))
-onto_last-changes n (s ∷ t ∷ more) c new h =
-    All-cons (All (CanBeServed n)) s (onto_last (t ∷ more) c) (All-head (All (CanBeServed n)) s (t ∷ more) h)
-    (onto_last-changes n (t ∷ more) c new (All-tail (All (CanBeServed n)) s (t ∷ more) h))
+onto_last-changes : (dims : List ℕ) (n : ℕ) (scripts : List (List Command)) (c : Command) → IsServable dims n c
+    → All (All (IsServable dims n)) scripts → All (All (IsServable dims n)) (onto_last scripts c)
+onto_last-changes dims n [] c new h = All-nil (All (IsServable dims n))
+onto_last-changes dims n (s ∷ []) c new h =
+    All-cons (All (IsServable dims n)) (s ++ c ∷ []) []
+    (All-push (IsServable dims n) s c (All-head (All (IsServable dims n)) s [] h) new)
+        (All-nil (All (IsServable dims n)))
+onto_last-changes dims n (s ∷ t ∷ more) c new h =
+    All-cons (All (IsServable dims n)) s (onto_last (t ∷ more) c) (All-head (All (IsServable dims n)) s (t ∷ more) h)
+    (onto_last-changes dims n (t ∷ more) c new (All-tail (All (IsServable dims n)) s (t ∷ more) h))
 
 -- ---- a line more
 
 -- what the scripts of so many lines have, where so many commands are counted
-record AreFewAt (scripts : List (List Command)) (counted line : ℕ) : Type 0 where
+record AreFewAt (dims : List ℕ) (scripts : List (List Command)) (counted line : ℕ) : Type 0 where
   clients : length scripts ≤ 8
   commands : count scripts ≤ counted
   most : counted ≤ 4096
-  changes : All (All (CanBeServed line)) scripts
+  changes : All (All (IsServable dims line)) scripts
 
-line_more : (scripts : List (List Command)) (counted line : ℕ) → AreFewAt scripts counted line
-    → AreFewAt scripts counted (line + 1)
-line_more scripts counted line few = record {
+line_more : (dims : List ℕ) (scripts : List (List Command)) (counted line : ℕ) → AreFewAt dims scripts counted line
+    → AreFewAt dims scripts counted (line + 1)
+line_more dims scripts counted line few = record {
   clients = few.clients;
   commands = few.commands;
   most = few.most;
-  changes = All-weaker (All (CanBeServed line)) (All (CanBeServed (line + 1)))
-      (all_more_changes line (line + 1) (omega arith)) scripts few.changes;
+  changes = All-weaker (All (IsServable dims line)) (All (IsServable dims (line + 1)))
+      (all_more_changes dims line (line + 1) (omega arith)) scripts few.changes;
 }
 
-client_more : (scripts : List (List Command)) (counted line : ℕ) → length scripts < 8 → AreFewAt scripts counted line
-    → AreFewAt (scripts ++ [] ∷ []) counted line
-client_more scripts counted line room few = record {
+client_more : (dims : List ℕ) (scripts : List (List Command)) (counted line : ℕ) → length scripts < 8
+    → AreFewAt dims scripts counted line
+    → AreFewAt dims (scripts ++ [] ∷ []) counted line
+client_more dims scripts counted line room few = record {
   clients = omega (arith, length-append scripts ([] ∷ []));
   commands = omega (
     arith,
@@ -154,60 +159,65 @@ client_more scripts counted line room few = record {
         [] [],
   );
   most = few.most;
-  changes = All-push (All (CanBeServed line)) scripts [] few.changes (All-nil (CanBeServed line));
+  changes = All-push (All (IsServable dims line)) scripts [] few.changes (All-nil (IsServable dims line));
 }
 
-command_more : (scripts : List (List Command)) (counted line : ℕ) (c : Command) → CanBeServed line c → counted < 4096
-    → AreFewAt scripts counted line → AreFewAt (onto_last scripts c) (counted + 1) line
-command_more scripts counted line c new room few = record {
+command_more : (dims : List ℕ) (scripts : List (List Command)) (counted line : ℕ) (c : Command)
+    → IsServable dims line c → counted < 4096
+    → AreFewAt dims scripts counted line → AreFewAt dims (onto_last scripts c) (counted + 1) line
+command_more dims scripts counted line c new room few = record {
   clients = omega (arith, few.clients, length-onto_last scripts c);
   commands = omega (arith, few.commands, count-onto_last scripts c);
   most = omega arith;
-  changes = onto_last-changes line scripts c new few.changes;
+  changes = onto_last-changes dims line scripts c new few.changes;
 }
 
-change_more : (scripts : List (List Command)) (counted line : ℕ) (s : Set) → AreFewAt scripts counted line
-    → AreFewAt (into_last scripts s) counted (line + 1)
-change_more scripts counted line s few = record {
+change_more : (dims : List ℕ) (scripts : List (List Command)) (counted line : ℕ) (s : Set)
+    → AreFewAt dims scripts counted line
+    → AreFewAt dims (into_last scripts s) counted (line + 1)
+change_more dims scripts counted line s few = record {
   clients = omega (arith, few.clients, length-into_last scripts s);
   commands = omega (arith, few.commands, count-into_last scripts s);
   most = few.most;
-  changes = into_last-changes line scripts s few.changes;
+  changes = into_last-changes dims line scripts s few.changes;
 }
 
-abbrev AreFewKnown : Known → ℕ → Type 0
-AreFewKnown k line = AreFewAt k.scripts k.commands line
+abbrev AreFewKnown : List ℕ → Known → ℕ → Type 0
+AreFewKnown dims k line = AreFewAt dims k.scripts k.commands line
 
-kind_keeps : (k : Known) (line : ℕ) (kind : Kind) (ws : List (List ℕ)) → kind_refusal k kind ws ≡ None
-    → AreFewKnown k line → AreFewKnown (advance k (item_of_kind (Some kind) ws)) (line + 1)
-kind_keeps k line kinds.Client ws e few =
-    client_more k.scripts k.commands (line + 1)
+kind_keeps : (dims : List ℕ) (k : Known) (line : ℕ) (kind : Kind) (ws : List (List ℕ)) → kind_refusal k kind ws ≡ None
+    → AreFewKnown dims k line → AreFewKnown dims (advance k (item_of_kind (Some kind) ws)) (line + 1)
+kind_keeps dims k line kinds.Client ws e few =
+    client_more dims k.scripts k.commands (line + 1)
     (leb-false _ _ (passes (nat_le 8 (length k.scripts)) (Over limits.Clients) None e).0)
-    (line_more k.scripts k.commands line few)
-kind_keeps k line kinds.Betti ws e few =
-    command_more k.scripts k.commands (line + 1) (Ask Betti) refl
+    (line_more dims k.scripts k.commands line few)
+kind_keeps dims k line kinds.Betti ws e few =
+    command_more dims k.scripts k.commands (line + 1) (Ask Betti) tt
     (leb-false _ _ (passes (nat_le 4096 k.commands) (Over limits.Commands) None e).0)
-    (line_more k.scripts k.commands line few)
-kind_keeps k line kinds.Edit ws e few =
-    command_more k.scripts k.commands (line + 1) (Change (record { sets = [] })) (omega arith)
+    (line_more dims k.scripts k.commands line few)
+kind_keeps dims k line kinds.Edit ws e few =
+    command_more dims k.scripts k.commands (line + 1) (Change (record { sets = [] })) (omega arith)
     (leb-false _ _ (passes (nat_le 4096 k.commands) (Over limits.Commands) None e).0)
-    (line_more k.scripts k.commands line few)
-kind_keeps k line kinds.Stalk ws e few = change_more k.scripts k.commands line (set_of kinds.Stalk ws) few
-kind_keeps k line kinds.Restrict ws e few = change_more k.scripts k.commands line (set_of kinds.Restrict ws) few
-kind_keeps k line kind ws e few = line_more k.scripts k.commands line few
+    (line_more dims k.scripts k.commands line few)
+kind_keeps dims k line kinds.Stalk ws e few = change_more dims k.scripts k.commands line (set_of kinds.Stalk ws) few
+kind_keeps dims k line kinds.Restrict ws e few = change_more dims k.scripts k.commands line
+    (set_of kinds.Restrict ws) few
+kind_keeps dims k line kind ws e few = line_more dims k.scripts k.commands line few
 
-content_keeps : (k : Known) (line : ℕ) (kind : Option Kind) (ws : List (List ℕ)) → content_refusal k kind ws ≡ None
-    → AreFewKnown k line → AreFewKnown (advance k (item_of_kind kind ws)) (line + 1)
-content_keeps k line None ws e few = let none =
+content_keeps : (dims : List ℕ) (k : Known) (line : ℕ) (kind : Option Kind) (ws : List (List ℕ))
+    → content_refusal k kind ws ≡ None
+    → AreFewKnown dims k line → AreFewKnown dims (advance k (item_of_kind kind ws)) (line + 1)
+content_keeps dims k line None ws e few = let none =
     (passes (is_ended k.stage) (Bad causes.After) (Some (Bad causes.Word)) e).1 in absurd cc
-content_keeps k line (Some kind) ws e few =
-    kind_keeps k line kind ws (right k kind ws (passes (is_ended k.stage) (Bad causes.After) _ e).1).fits few
+content_keeps dims k line (Some kind) ws e few =
+    kind_keeps dims k line kind ws (right k kind ws (passes (is_ended k.stage) (Bad causes.After) _ e).1).fits few
 
-line_keeps : (k : Known) (line : ℕ) (ws : List (List ℕ)) (b : Bool) → is_skipped ws ≡ b → refusal k ws ≡ None
-    → AreFewKnown k line → AreFewKnown (advance k (item_of ws)) (line + 1)
+line_keeps : (dims : List ℕ) (k : Known) (line : ℕ) (ws : List (List ℕ)) (b : Bool) → is_skipped ws ≡ b
+    → refusal k ws ≡ None
+    → AreFewKnown dims k line → AreFewKnown dims (advance k (item_of ws)) (line + 1)
 unfolding refusal item_of
-line_keeps k line ws true is e few = rw is (line_more k.scripts k.commands line few)
-line_keeps k line ws false is e few = rw is (content_keeps k line (kind_of ws) ws (rw is at e) few)
+line_keeps dims k line ws true is e few = rw is (line_more dims k.scripts k.commands line few)
+line_keeps dims k line ws false is e few = rw is (content_keeps dims k line (kind_of ws) ws (rw is at e) few)
 
 -- ---- all lines
 
@@ -224,29 +234,31 @@ not_refused None line later v e = (refl, e)
 not_refused (Some (Bad cause)) line later v e = absurd cc
 not_refused (Some (Over which)) line later v e = absurd cc
 
-few-run : (k : Known) (line : ℕ) (more : List (List (List ℕ))) (v : InputValue) → line + length more ≤ 1000000000
-    → AreFewKnown k line → run k line more ≡ Good v → AreServable v.scripts
+few-run : (dims : List ℕ) (k : Known) (line : ℕ) (more : List (List (List ℕ))) (v : InputValue)
+    → line + length more ≤ 1000000000
+    → AreFewKnown dims k line → run k line more ≡ Good v → AreServable dims v.scripts
 unfolding run
-few-run k line [] v short few e =
-    subst AreServable (sym (scripts-ending k line v (is_ended k.stage) refl e))
+few-run dims k line [] v short few e =
+    subst (AreServable dims) (sym (scripts-ending k line v (is_ended k.stage) refl e))
     (record {
       clients = few.clients;
       commands = omega (arith, few.commands, few.most);
-      each = All-weaker (All (CanBeServed line)) (All (CanBeServed 1000000000))
-          (all_more_changes line 1000000000 (omega arith)) k.scripts few.changes;
+      each = All-weaker (All (IsServable dims line)) (All (IsServable dims 1000000000))
+          (all_more_changes dims line 1000000000 (omega arith)) k.scripts few.changes;
     })
-few-run k line (ws ∷ more) v short few e =
+few-run dims k line (ws ∷ more) v short few e =
     let next = advance k (item_of ws) in
     let accepted = not_refused (refusal k ws) (line + 1) (run next (line + 1) more) v e in
-    few-run next (line + 1) more v (omega arith) (line_keeps k line ws (is_skipped ws) refl accepted.0 few) accepted.1
+    few-run dims next (line + 1) more v (omega arith)
+        (line_keeps dims k line ws (is_skipped ws) refl accepted.0 few) accepted.1
 
-few_at_start : AreFewKnown nothing_known 0
-few_at_start = record {
+few_at_start : (dims : List ℕ) → AreFewKnown dims nothing_known 0
+few_at_start dims = record {
   clients = omega arith;
   commands = omega arith;
   most = omega arith;
   changes =
-      All-nil (All (CanBeServed 0));
+      All-nil (All (IsServable dims 0));
 }
 
 one_line : (b : Bool) (x : List ℕ) → length (if b then [] else x ∷ []) ≤ 1
@@ -271,7 +283,9 @@ length-contents bytes =
 
 -- what is read of so many bytes is few
 pub few_given : (bytes : List ℕ) (result : Result Input TextFault) → length bytes ≤ 16777216
-    → Gives result (run nothing_known 0 (contents bytes)) → IfOk result (λ input. AreServable input.scripts)
-few_given bytes (Ok input) short gives = few-run nothing_known 0 (contents bytes) (input_value input)
-    (omega (arith, length-contents bytes)) few_at_start gives
+    → Gives result (run nothing_known 0 (contents bytes))
+    → IfOk result (λ input. AreServable input.draft.complex.dims input.scripts)
+few_given bytes (Ok input) short gives = few-run input.draft.complex.dims nothing_known 0 (contents bytes)
+    (input_value input)
+    (omega (arith, length-contents bytes)) (few_at_start input.draft.complex.dims) gives
 few_given bytes (Err fault) short gives = tt

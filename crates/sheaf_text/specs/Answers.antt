@@ -4,7 +4,9 @@ use Rattle.dense_blocks.specs.declared.block.Block.{Block}
 use Rattle.field_table.specs.Table.{order_of}
 use Rattle.sheaf_words.specs.declared.query.Command.{Command}
 use Rattle.sheaf_words.specs.declared.query.Command.TheVariants.{Change, Ask}
-use Rattle.sheaf_words.specs.declared.query.Query.TheVariants.{Betti}
+use Rattle.sheaf_words.specs.declared.query.Query.{Query}
+use Rattle.sheaf_words.specs.declared.query.Query.TheVariants.{Betti, Reduce, Equiv, Basis, Class}
+use Rattle.sheaf_words.specs.declared.query.Query.TheVariants.{Sections, Extend}
 use Rattle.sheaf_text.specs.Readings.{Reading, Good, BadLine, Limit, InputValue, Matrix}
 use Rattle.sheaf_text.specs.declared.input.Input.{Input}
 use Rattle.sheaf_text.specs.declared.fault.TextFault.{TextFault}
@@ -35,14 +37,24 @@ abbrev pub Gives : Result Input TextFault → Reading → Type 0
 Gives (Ok input) reading = reading ≡ Good (input_value input)
 Gives (Err fault) reading = GivesFault fault reading
 
--- the command is an edit of at most n changes, or it asks for the Betti numbers
-abbrev pub CanBeServed : ℕ → Command → Type 0
-CanBeServed n (Change e) = length e.sets ≤ n
-CanBeServed n (Ask q) = q ≡ Betti
+-- what can be asked of a complex whose cells have these dimensions
+abbrev pub CanBeServed : List ℕ → Query → Type 0
+CanBeServed dims Betti = Unit {0}
+CanBeServed dims Reduce = ⊥
+CanBeServed dims Equiv = ⊥
+CanBeServed dims (Basis k) = ⊥
+CanBeServed dims (Class k z) = ⊥
+CanBeServed dims Sections = ⊥
+CanBeServed dims (Extend s v) = ⊥
 
--- at most 8 scripts, at most 4,096 commands in all, each an edit of at most 1,000,000,000 changes or a question for the
--- Betti numbers
-pub record AreServable (scripts : List (List Command)) : Type 0 where
+-- the command is an edit of at most n changes, or a question that can be served
+abbrev pub IsServable : List ℕ → ℕ → Command → Type 0
+IsServable dims n (Change e) = length e.sets ≤ n
+IsServable dims n (Ask q) = CanBeServed dims q
+
+-- at most 8 scripts, at most 4,096 commands in all, each an edit of at most 1,000,000,000 changes or a question that can
+-- be served
+pub record AreServable (dims : List ℕ) (scripts : List (List Command)) : Type 0 where
   pub clients : length scripts ≤ 8
   pub commands : sum_by length scripts ≤ 4096
-  pub each : All (All (CanBeServed 1000000000)) scripts
+  pub each : All (All (IsServable dims 1000000000)) scripts

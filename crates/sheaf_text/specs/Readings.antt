@@ -1,4 +1,4 @@
--- The reading of bytes: each line is judged from the lines before it, and the first that is refused_reading decides.
+-- The reading of bytes: each line is judged from the lines before it, and the first that is refused decides.
 use Rattle.std.specs.Prelude.{ℕ, ◌+◌, Bool, true, false, List, [], ◌∷◌, ◌++◌, drop, length, map, min, count_by, sum_by}
 use Rattle.std.specs.Prelude.{Option, Some, None, nat_lt, slice_index, if◌then◌else◌}
 use Rattle.std.specs.List.{fold, filter_map}
@@ -24,7 +24,7 @@ use Rattle.sheaf_text.specs.declared.fault.Which.TheVariants as limits
 use Rattle.sheaf_text.specs.declared.fault.Refusal.{Refusal}
 use Rattle.sheaf_text.specs.declared.fault.Refusal.TheVariants.{Bad, Over}
 
--- ---- what a line says that is not refused_reading
+-- ---- what a line says that is not refused
 
 pub data Item : Type 0 where
   Skipped : Item
@@ -221,7 +221,7 @@ abbrev pub refused_reading : ℕ → Refusal → Reading
 refused_reading line (Bad cause) = BadLine line cause
 refused_reading line (Over which) = Limit line which
 
--- a refused_reading line decides; else the lines after it do
+-- a refused line decides; else the lines after it do
 abbrev pub go_on : Option Refusal → ℕ → Reading → Reading
 go_on (Some r) line later = refused_reading line r
 go_on None line later = later

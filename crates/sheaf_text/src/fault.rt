@@ -39,12 +39,12 @@ pub enum LineCause {
 pub enum Which {
     /// The bytes; the line is 0.
     Bytes,
-    /// The lines `cell`.
-    Cells,
     /// The dimension of a cell.
     Dimension,
     /// The dimension of a stalk.
     Stalk,
+    /// The lines `cell`.
+    Cells,
     /// The sum of the dimensions of all stalks.
     Total,
     /// The lines `face`.

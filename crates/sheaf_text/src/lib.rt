@@ -19,8 +19,6 @@ mod parts;
 mod reader;
 mod scripts;
 mod state;
-#[cfg(test)]
-mod tests;
 mod words;
 
 pub use fault::{LineCause, TextFault, Which};

@@ -38,7 +38,7 @@ fn read_lines(alloc: Global, bytes: &[u8]) -> Result<Input, TextFault>
 /// [`MOST_BYTES`] bytes are refused before any line. `NoMemory` says nothing of the bytes.
 pub fn read(alloc: Global, bytes: &[u8]) -> Result<Input, TextFault>
     ensures gives { Gives result (reading bytes.now) }
-    ensures few { IfOk result (λ input. AreServable input.scripts) }
+    ensures few { IfOk result (λ input. AreServable input.draft.complex.dims input.scripts) }
 {
     if bytes.len() > MOST_BYTES {
         return Err(TextFault::Limit {

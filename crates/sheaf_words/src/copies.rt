@@ -10,7 +10,7 @@ pub type Row = Listed<u8>;
 pub type Numbers = Listed<u32>;
 
 /// A value that is copied where there is memory.
-pub trait TryCopy: Drop {
+pub(crate) trait TryCopy: Drop {
     /// An equal value.
     fn try_copy(&self, alloc: Global) -> Result<Self, NoMemory>
         ensures { IfOk result (λ copy. copy ≡ self.now) };
@@ -36,7 +36,10 @@ pub fn copy_values<T: Copy>(alloc: Global, list: &Listed<T>) -> Result<Listed<T>
 }
 
 /// An equal list, copied member by member.
-pub fn copy_list<T: TryCopy>(alloc: Global, list: &Listed<T>) -> Result<Listed<T>, NoMemory>
+pub(crate) fn copy_list<T: TryCopy>(
+    alloc: Global,
+    list: &Listed<T>,
+) -> Result<Listed<T>, NoMemory>
     ensures { IfOk result (λ copy. copy ≡ list.now) }
 {
     let members = list.as_slice();

@@ -1,6 +1,5 @@
 ghost use Rattle.std.specs.Prelude.{◌≡◌, IfOk};
 
-use crate::copies::TryCopy;
 use crate::edit::Verdict;
 use crate::reply::Reply;
 use std::alloc::{AllocError as NoMemory, Global};
@@ -39,11 +38,5 @@ impl Event {
                 r: r.copy(alloc)?,
             }),
         }
-    }
-}
-
-impl TryCopy for Event {
-    fn try_copy(&self, alloc: Global) -> Result<Self, NoMemory> {
-        self.copy(alloc)
     }
 }

@@ -6,10 +6,8 @@ mod edit;
 mod event;
 mod query;
 mod reply;
-#[cfg(test)]
-mod tests;
 
-pub use copies::{Numbers, Row, TryCopy, copy_list, copy_values};
+pub use copies::{Numbers, Row, copy_values};
 pub use edit::{Cause, Edit, Set, Verdict};
 pub use event::Event;
 pub use query::{Command, Query};

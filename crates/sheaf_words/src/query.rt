@@ -1,6 +1,6 @@
 ghost use Rattle.std.specs.Prelude.{◌≡◌, IfOk};
 
-use crate::copies::{Numbers, TryCopy, copy_values};
+use crate::copies::{Numbers, copy_values};
 use crate::edit::Edit;
 use std::alloc::{AllocError as NoMemory, Global};
 
@@ -64,11 +64,5 @@ impl Command {
             Command::Change(edit) => Ok(Command::Change(edit.copy(alloc)?)),
             Command::Ask(query) => Ok(Command::Ask(query.copy(alloc)?)),
         }
-    }
-}
-
-impl TryCopy for Command {
-    fn try_copy(&self, alloc: Global) -> Result<Self, NoMemory> {
-        self.copy(alloc)
     }
 }

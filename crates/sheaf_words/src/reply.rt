@@ -112,9 +112,7 @@ impl Reply {
         match self {
             Reply::Betti(numbers) => Ok(Reply::Betti(copy_values(alloc, numbers)?)),
             Reply::Reduce(reduced) => Ok(Reply::Reduce(reduced.copy(alloc)?)),
-            Reply::Equiv(reduced, maps) => {
-                Ok(Reply::Equiv(reduced.copy(alloc)?, maps.copy(alloc)?))
-            }
+            Reply::Equiv(reduced, maps) => equivalence(alloc, reduced, maps),
             Reply::Basis { k, vectors } => Ok(Reply::Basis {
                 k: *k,
                 vectors: copy_list(alloc, vectors)?,
@@ -125,12 +123,7 @@ impl Reply {
                 coords,
                 vectors,
                 primitive,
-            } => Ok(Reply::Class {
-                k: *k,
-                coords: copy_values(alloc, coords)?,
-                vectors: copy_list(alloc, vectors)?,
-                primitive: copy_values(alloc, primitive)?,
-            }),
+            } => class(alloc, *k, coords, vectors, primitive),
             Reply::Sections(vectors) => Ok(Reply::Sections(copy_list(alloc, vectors)?)),
             Reply::Section { s, z } => Ok(Reply::Section {
                 s: *s,
@@ -144,4 +137,29 @@ impl Reply {
             Reply::BadEntry => Ok(Reply::BadEntry),
         }
     }
+}
+
+/// The reply with copies of these.
+fn equivalence(alloc: Global, reduced: &Reduced, maps: &Maps) -> Result<Reply, NoMemory>
+    ensures { IfOk result (λ copy. copy ≡ Reply.Equiv reduced.now maps.now) }
+{
+    Ok(Reply::Equiv(reduced.copy(alloc)?, maps.copy(alloc)?))
+}
+
+/// The reply with copies of these.
+fn class(
+    alloc: Global,
+    k: u8,
+    coords: &Row,
+    vectors: &Listed<Row>,
+    primitive: &Row,
+) -> Result<Reply, NoMemory>
+    ensures { IfOk result (λ copy. copy ≡ Reply.Class k coords.now vectors.now primitive.now) }
+{
+    Ok(Reply::Class {
+        k,
+        coords: copy_values(alloc, coords)?,
+        vectors: copy_list(alloc, vectors)?,
+        primitive: copy_values(alloc, primitive)?,
+    })
 }

@@ -1,19 +1,20 @@
 use Rattle.std.proofs.Common.{◌≡◌, ◌+◌, ◌∷◌, ◌++◌, ◌^◌, ◌<◌, [], take, All, sym, ◌∙◌, subst}
 use Rattle.reply_text.specs.Counts.{AreCounted}
 use Rattle.reply_text.proofs.Counting.{take_next}
-use Rattle.reply_text.proofs.Naming.{counts-fit, ordered-more}
+use Rattle.reply_text.proofs.Naming.{ordered-more}
+use Rattle.reply_text.proofs.Bounds.{counts-fit}
 use Rattle.reply_text.proofs.order.put_order.Goals as goal
 
 pub number_of-number-requires-clause-fits : goal.number_of-number-requires-clause-fits
 number_of-number-requires-clause-fits c =
     subst (λ counts. All (λ n. n + 1 < 2 ^ 32) counts) (sym c.as_slice.ensures.value)
-    (counts-fit c.loop-event.event-index c.args.events.now c.loop-event.counts.items c.loop-event.invariant.1
-    c.loop-event-test.true c.requires.few)
+    (counts-fit c.args.scripts.now c.args.events.now c.loop-event.event-index c.loop-event.counts.items c.requires.of
+    c.loop-event.invariant.1 c.loop-event.invariant.2 c.loop-event-test.true c.requires.few)
 
 pub count_event-requires-clause-fits : goal.count_event-requires-clause-fits
 count_event-requires-clause-fits c =
-    counts-fit c.loop-event.event-index c.args.events.now c.loop-event.counts.items c.loop-event.invariant.1
-    c.loop-event-test.true c.requires.few
+    counts-fit c.args.scripts.now c.args.events.now c.loop-event.event-index c.loop-event.counts.items c.requires.of
+    c.loop-event.invariant.1 c.loop-event.invariant.2 c.loop-event-test.true c.requires.few
 
 pub loop-event-preserved : goal.loop-event-preserved
 loop-event-preserved c =

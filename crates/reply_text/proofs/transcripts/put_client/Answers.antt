@@ -5,10 +5,31 @@ use Rattle.reply_text.specs.Transcripts.{IfPresent}
 use Rattle.reply_text.specs.Counts.{IsCountOf}
 use Rattle.reply_text.proofs.Counting.{take_next}
 use Rattle.reply_text.proofs.Naming.{written-more}
+use Rattle.reply_text.proofs.Bounds.{ended-fits, standing-fits}
 use Rattle.reply_text.proofs.transcripts.put_client.Goals as goal
 
 pub loop-event-init : goal.loop-event-init
 loop-event-init c = (sym (append-nil c.args.out.now.items), c.none-counts.ensures c.args.client)
+
+pub put_answer-requires-clause-ended_fits : goal.put_answer-requires-clause-ended_fits
+put_answer-requires-clause-ended_fits c =
+    ended-fits c.args.client c.args.script.now c.args.events.now c.loop-event.event-index c.loop-event.counts
+    c.requires.answers c.loop-event.invariant.1 c.loop-event-test.true c.requires.few
+
+pub put_answer-requires-clause-standing_fits : goal.put_answer-requires-clause-standing_fits
+put_answer-requires-clause-standing_fits c =
+    standing-fits c.args.client c.args.events.now c.loop-event.event-index c.loop-event.counts c.loop-event.invariant.1
+    c.requires.few_versions
+
+pub after-counts-requires-clause-ended_fits : goal.after-counts-requires-clause-ended_fits
+after-counts-requires-clause-ended_fits c =
+    ended-fits c.args.client c.args.script.now c.args.events.now c.loop-event.event-index c.loop-event.counts
+    c.requires.answers c.loop-event.invariant.1 c.loop-event-test.true c.requires.few
+
+pub after-counts-requires-clause-standing_fits : goal.after-counts-requires-clause-standing_fits
+after-counts-requires-clause-standing_fits c =
+    standing-fits c.args.client c.args.events.now c.loop-event.event-index c.loop-event.counts c.loop-event.invariant.1
+    c.requires.few_versions
 
 pub put_answer-requires-clause-answers : goal.put_answer-requires-clause-answers
 put_answer-requires-clause-answers c = λ ends.

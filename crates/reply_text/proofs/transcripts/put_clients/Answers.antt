@@ -4,7 +4,24 @@ use Rattle.reply_text.specs.Lines.{lines_text}
 use Rattle.reply_text.specs.Transcripts.{AreAnswered, client_part}
 use Rattle.reply_text.proofs.Counting.{take_next}
 use Rattle.reply_text.proofs.Naming.{parts-more, answered-of}
+use Rattle.reply_text.proofs.Bounds.{script-short, versions-short}
 use Rattle.reply_text.proofs.transcripts.put_clients.Goals as goal
+
+pub put_part-requires-clause-few : goal.put_part-requires-clause-few
+put_part-requires-clause-few c =
+    let scripts = c.args.scripts.now in
+    let there = slice_get_read scripts (length scripts) c.loop-script.script-index c.script-item.result refl
+    c.loop-script-test.true c.script-item.is in
+    omega (
+      arith,
+      ap length c.as_slice.ensures,
+      script-short scripts c.loop-script.script-index c.script-item.result there,
+      c.requires.few,
+    )
+
+pub put_part-requires-clause-few_versions : goal.put_part-requires-clause-few_versions
+put_part-requires-clause-few_versions c =
+    omega (arith, versions-short c.args.scripts.now c.args.events.now c.requires.of, c.requires.few)
 
 pub put_part-requires-clause-answers : goal.put_part-requires-clause-answers
 put_part-requires-clause-answers c =

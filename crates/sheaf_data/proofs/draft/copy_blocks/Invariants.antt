@@ -1,5 +1,5 @@
 use Rattle.std.proofs.Common.{◌≡◌, take}
-use Rattle.sheaf_data.proofs.draft.copies.Given as goal
+use Rattle.sheaf_data.proofs.draft.copy_blocks.Given as goal
 
 abbrev pub invariant-loop-block : goal.invariant-loop-block
 invariant-loop-block l = l.copies.items ≡ take l.block-index l.blocks
