@@ -12,7 +12,7 @@ use Rattle.sheaf_text.specs.Grammar.{Known, refusal}
 use Rattle.sheaf_text.specs.declared.fault.Which.TheVariants as limits
 use Rattle.sheaf_text.specs.Readings.{Item, Skipped, IsField, IsCell, IsFace, IsClient, IsQuery, IsEdit, IsSet, IsCommit}
 use Rattle.sheaf_text.specs.Readings.{IsDone, Limit, item_of, reading_at_end, go_on, known_of, reading_from, reading}
-use Rattle.sheaf_text.specs.Readings.{contents, stage_after, order_after, dim_in, stalk_in, face_in, entries_in}
+use Rattle.sheaf_text.specs.Readings.{contents, stage_after, order_after, dim_in, stalk_in, face_of_item, entries_in}
 use Rattle.sheaf_text.specs.Readings.{scripts_after, is_command, is_heavy, size_in, set_size, up_to_most}
 use Rattle.sheaf_text.specs.KnownLines.{advance, nothing_known, run}
 
@@ -33,7 +33,7 @@ after k i = record {
   order = order_after k.order i;
   dims = k.dims ++ filter_map dim_in (i ∷ []);
   stalks = k.stalks ++ filter_map stalk_in (i ∷ []);
-  faces = k.faces ++ filter_map face_in (i ∷ []);
+  faces = k.faces ++ filter_map face_of_item (i ∷ []);
   entries = k.entries ++ filter_map entries_in (i ∷ []);
   scripts = scripts_after k.scripts i;
   commands = k.commands + cond (is_command i) 1 0;
@@ -57,7 +57,7 @@ known_after earlier i =
       fold_more order_after _ earlier i,
       filter_map-append dim_in earlier (i ∷ []),
       filter_map-append stalk_in earlier (i ∷ []),
-      filter_map-append face_in earlier (i ∷ []),
+      filter_map-append face_of_item earlier (i ∷ []),
       filter_map-append entries_in earlier (i ∷ []),
       fold_more scripts_after _ earlier i,
       fold_more (λ (a : ℕ) (x : Item). a + cond (is_command x) 1 0) 0 earlier i,

@@ -91,9 +91,9 @@ abbrev pub stalk_in : Item → Option ℕ
 stalk_in (IsCell d n) = Some n
 stalk_in item = None
 
-abbrev pub face_in : Item → Option Face
-face_in (IsFace f es) = Some f
-face_in item = None
+abbrev pub face_of_item : Item → Option Face
+face_of_item (IsFace f es) = Some f
+face_of_item item = None
 
 abbrev pub entries_in : Item → Option (List ℕ)
 entries_in (IsFace f es) = Some es
@@ -162,7 +162,7 @@ known_of earlier = record {
   order = fold order_after 2 earlier;
   dims = filter_map dim_in earlier;
   stalks = filter_map stalk_in earlier;
-  faces = filter_map face_in earlier;
+  faces = filter_map face_of_item earlier;
   entries = filter_map entries_in earlier;
   scripts = fold scripts_after [] earlier;
   commands = count_by is_command earlier;
