@@ -2,8 +2,8 @@
 use Rattle.std.proofs.Common.{◌≡◌, ℕ, ◌+◌, ◌≤◌, Bool, true, false, ◌==◌, if◌then◌else◌, nat_lt, List, [], ◌∷◌, ◌++◌}
 use Rattle.std.proofs.Common.{length, slice_get, slice_index_or, take, Option, Some, ◌*◌, refl, sym, ap, ap₂, subst}
 use Rattle.std.proofs.Common.{◌∙◌, arith, length-append}
-use Rattle.std.specs.Prelude.{sum_by, unwrap_or}
-use Rattle.std.proofs.lemmas.List.Sums.{sum_by_more}
+use Rattle.std.specs.Prelude.{unwrap_or}
+use Rattle.std.proofs.lemmas.List.Elements.{All-weaker}
 use Rattle.std.proofs.lemmas.Option.{slice_get_within, get_or_from_slice_get}
 use Rattle.std.proofs.lemmas.Bool.{eqb-true, eqb-false, eq-eqb, ltb-true, ltb-false, lt-ltb, le-ltb}
 use Rattle.dense_blocks.specs.Field.{Ops}
@@ -27,7 +27,8 @@ use Rattle.core_machine.specs.Replies.{IsRightReply}
 use Rattle.core_machine.specs.Machine.{Lane, State, free_lane, waiting_lane, first_state, command_at, with_lane}
 use Rattle.core_machine.specs.Machine.{with_pairs, EditStep, AskStep, ReplyStep, IsLegalAndWhole}
 use Rattle.core_machine.proofs.CountLaws.{leads-more}
-use Rattle.sheaf_run.specs.Sessions.{Progress, IsSheafAfter, IsJudged, position_of, IsProgress}
+use Rattle.sheaf_text.specs.Answers.{IsServable, AreServable}
+use Rattle.sheaf_run.specs.Sessions.{Progress, IsSessionCommand, IsSheafAfter, IsJudged, position_of, IsProgress}
 
 slice_get-last : {X : Type 0} (xs : List X) (x : X) → slice_get (xs ++ x ∷ []) (length xs) ≡ Some x
 slice_get-last [] x = refl
@@ -290,15 +291,15 @@ edit-progress scripts start c i e v old middle new before after same judged was 
     subst (λ es. IsProgress scripts start c (i + 1) (record { sheaf = new; events = es })) (sym all)
     (judge-step scripts start c i old e v new comes (subst (IsJudged old.sheaf e v) sheaf judged) h)
 
--- the events of one script more
-pub commands-more : (scripts : List (List Command)) (i : ℕ) (script : List Command) (old new : ℕ)
-    → slice_get scripts i ≡ Some script → old ≤ 2 * sum_by length (take i scripts) → new ≤ old + 2 * length script
-    → new ≤ 2 * sum_by length (take (i + 1) scripts)
-commands-more scripts i script old new there before more =
-    omega (
-      arith,
-      before,
-      more,
-      sum_by_more length scripts i script (slice_get_within scripts i script there),
-      ap length (get_or_from_slice_get scripts i script script there),
-    )
+-- ---- what a session serves
+
+session_command : (dims : List ℕ) (command : Command) → IsServable dims 1000000000 command → IsSessionCommand command
+session_command dims (commands.Change edit) few = few
+session_command dims (commands.Ask queries.Betti) can = refl
+session_command dims (commands.Ask q) can = absurd can
+
+pub session_commands : (dims : List ℕ) (scripts : List (List Command)) → AreServable dims scripts
+    → All (All IsSessionCommand) scripts
+session_commands dims scripts servable =
+    All-weaker (All (IsServable dims 1000000000)) (All IsSessionCommand)
+    (All-weaker (IsServable dims 1000000000) IsSessionCommand (session_command dims)) scripts servable.each

@@ -1,11 +1,13 @@
 -- Clients that are served one after the other, on one sheaf that their edits change.
-use Rattle.std.specs.Prelude.{◌≡◌, ℕ, ◌+◌, ◌==◌, List, [], Option, Some, IfSome, length, nat_lt, slice_get}
+use Rattle.std.specs.Prelude.{◌≡◌, ℕ, ◌+◌, ◌≤◌, ◌==◌, List, [], Option, Some, IfSome, length, nat_lt, slice_get}
 use Rattle.std.specs.Prelude.{slice_index_or, if◌then◌else◌}
 use Rattle.field_table.specs.declared.field.Field.{Field}
 use Rattle.field_table.specs.Table.{ops_of}
 use Rattle.sheaf_data.specs.Sheaves.{SheafData}
 use Rattle.sheaf_data.specs.Betti.{AreBetti}
+use Rattle.sheaf_words.specs.declared.query.Query.TheVariants.{Betti}
 use Rattle.sheaf_words.specs.declared.query.Command.{Command}
+use Rattle.sheaf_words.specs.declared.query.Command.TheVariants.{Change, Ask}
 use Rattle.sheaf_words.specs.declared.edit.Edit.{Edit}
 use Rattle.sheaf_words.specs.declared.edit.Verdict.{Verdict}
 use Rattle.sheaf_words.specs.declared.edit.Verdict.TheVariants.{Accepted, Refused}
@@ -21,6 +23,11 @@ pub record Progress : Type 0 where
 -- the numbers, if they are known, are the Betti numbers of the sheaf
 abbrev pub AreKnown : SheafData Field → Option (List ℕ) → Type 0
 AreKnown sheaf numbers = IfSome numbers (AreBetti (ops_of sheaf.field) sheaf.complex sheaf.stalks sheaf.blocks)
+
+-- a command that a session serves: an edit of at most 1,000,000,000 changes, or a question for the Betti numbers
+abbrev pub IsSessionCommand : Command → Type 0
+IsSessionCommand (Change edit) = length edit.sets ≤ 1000000000
+IsSessionCommand (Ask query) = query ≡ Betti
 
 -- the sheaf after a verdict: the edited one, or the same
 abbrev pub IsSheafAfter : SheafData Field → Edit → Verdict → SheafData Field → Type 0

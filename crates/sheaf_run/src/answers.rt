@@ -24,7 +24,7 @@ fn solution(
     sheaf: Sheaf<Field>,
     scripts: &[Listed<Command>],
 ) -> Result<Vec<u8>, NoMemory>
-    requires { AreServable scripts.now }
+    requires { AreServable sheaf.complex.dims scripts.now }
     ensures { IfOk result (λ text. IsTextOf Solve sheaf scripts.now text.items) }
 {
     let events = session_events(alloc, sheaf, scripts)?;
@@ -38,7 +38,7 @@ fn solve<K: Sink>(
     scripts: &[Listed<Command>],
     sink: &mut K,
 ) -> Status
-    requires { AreServable scripts.now }
+    requires { AreServable sheaf.complex.dims scripts.now }
     ensures { Replies (IsRight Solve sheaf scripts.now)
         (sink_view K.taken K.flushed K.fault_count sink.old)
         (sink_view K.taken K.flushed K.fault_count sink.new) result }
@@ -64,7 +64,7 @@ fn command_count(scripts: &[Listed<Command>]) -> usize
 /// Writes how many cells and faces a draft has, how many clients ask, and how many commands these have. Takes no
 /// memory.
 fn check<K: Sink>(draft: &Draft<Field>, scripts: &[Listed<Command>], sink: &mut K) -> Status
-    requires { AreServable scripts.now }
+    requires { AreServable draft.now.complex.dims scripts.now }
     ensures { Replies (IsRight Check draft.now scripts.now)
         (sink_view K.taken K.flushed K.fault_count sink.old)
         (sink_view K.taken K.flushed K.fault_count sink.new) result }
@@ -88,7 +88,7 @@ fn answer_sheaf<K: Sink>(
     scripts: &[Listed<Command>],
     sink: &mut K,
 ) -> Status
-    requires { AreServable scripts.now }
+    requires { AreServable sheaf.complex.dims scripts.now }
     ensures { Replies (IsRight job sheaf scripts.now)
         (sink_view K.taken K.flushed K.fault_count sink.old)
         (sink_view K.taken K.flushed K.fault_count sink.new) result }
@@ -107,7 +107,7 @@ pub fn answer<K: Sink>(
     scripts: &[Listed<Command>],
     sink: &mut K,
 ) -> Status
-    requires { AreServable scripts.now }
+    requires { AreServable draft.complex.dims scripts.now }
     ensures { Replies (AnswersDraft job draft scripts.now)
         (sink_view K.taken K.flushed K.fault_count sink.old)
         (sink_view K.taken K.flushed K.fault_count sink.new) result }

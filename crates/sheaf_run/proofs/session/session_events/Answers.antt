@@ -1,15 +1,14 @@
-use Rattle.std.proofs.Common.{◌+◌, ◌*◌, ◌≤◌, length, slice_get, Some, refl, sym, ap, subst, ◌∙◌, arith, rules}
+use Rattle.std.proofs.Common.{◌+◌, length, slice_get, Some, refl, sym, ap, subst, ◌∙◌, rules}
 use Rattle.std.proofs.lemmas.Option.{slice_get_read}
 use Rattle.field_table.specs.Table.{ops_of}
 use Rattle.core_machine.specs.Machine.{IsLegalAndWhole}
 use Rattle.sheaf_run.specs.Sessions.{IsProgress}
-use Rattle.sheaf_run.proofs.ServingLaws.{first-progress, last-progress, commands-more}
+use Rattle.sheaf_run.proofs.ServingLaws.{first-progress, last-progress}
 use Rattle.sheaf_run.proofs.session.session_events.Goals as goal
 
 pub loop-script-init : goal.loop-script-init
 loop-script-init c = (
   refl,
-  rw c.new-session.ensures (omega arith),
   subst (IsProgress c.args.scripts.now c.args.sheaf 0 0) (sym c.new-session.ensures)
       (first-progress c.args.scripts.now c.args.sheaf),
 )
@@ -20,22 +19,17 @@ loop-script-preserved c =
     let i = c.loop-script.script-index in
     let script = c.script-item.result in
     let here = c.loop-script.invariant in
-    let there = slice_get_read scripts (length scripts) i script refl c.loop-script-test.true c.script-item.is in
-    let client = c.loop-script.client in (
+    let there = slice_get_read scripts (length scripts) i script refl c.loop-script-test.true c.script-item.is in (
       ap (λ n. n + 1) here.0,
-      commands-more scripts i script (length c.loop-script.session.events) (length c.serve_all.new.self.events) there
-          here.1
-          (subst (λ s. length c.serve_all.new.self.events ≤ length c.loop-script.session.events + 2 * length s)
-          c.as_slice.ensures c.in_ok-serve_all.ensures.few),
       subst (λ k. IsProgress scripts c.args.sheaf (k + 1) 0 c.serve_all.new.self) here.0
-          (c.in_ok-serve_all.ensures.progress scripts c.args.sheaf (ap (slice_get scripts) here.0 ∙ there
+          (c.in_ok-serve_all.ensures scripts c.args.sheaf (ap (slice_get scripts) here.0 ∙ there
           ∙ ap Some (sym c.as_slice.ensures))
-          (subst (λ k. IsProgress scripts c.args.sheaf k 0 c.loop-script.session) (sym here.0) here.2)),
+          (subst (λ k. IsProgress scripts c.args.sheaf k 0 c.loop-script.session) (sym here.0) here.1)),
     )
 
-pub returns-clause-legal : goal.returns-clause-legal
-returns-clause-legal c =
+pub returns : goal.returns
+returns c =
     let scripts = c.args.scripts.now in
     subst (IsLegalAndWhole (ops_of c.args.sheaf.field) scripts c.args.sheaf) (sym c.into_events.ensures)
     (last-progress scripts c.args.sheaf c.loop-script.session
-    (subst (λ k. IsProgress scripts c.args.sheaf k 0 c.loop-script.session) (search rules) c.loop-script.invariant.2))
+    (subst (λ k. IsProgress scripts c.args.sheaf k 0 c.loop-script.session) (search rules) c.loop-script.invariant.1))
