@@ -110,7 +110,7 @@ into_last-changes dims n [] change h = All-nil (All (IsServable dims (n + 1)))
 into_last-changes dims n (s ∷ []) change h =
     All-cons (All (IsServable dims (n + 1))) (into_script s change) []
     (into_script-changes dims n s change (All-head (All (IsServable dims n)) s [] h))
-        (All-nil (All (IsServable dims (n + 1))))
+    (All-nil (All (IsServable dims (n + 1))))
 into_last-changes dims n (s ∷ t ∷ more) change h =
     All-cons (All (IsServable dims (n + 1))) s (into_last (t ∷ more) change)
     (all_more_changes dims n (n + 1) (omega arith) s (All-head (All (IsServable dims n)) s (t ∷ more) h))
@@ -122,7 +122,7 @@ onto_last-changes dims n [] c new h = All-nil (All (IsServable dims n))
 onto_last-changes dims n (s ∷ []) c new h =
     All-cons (All (IsServable dims n)) (s ++ c ∷ []) []
     (All-push (IsServable dims n) s c (All-head (All (IsServable dims n)) s [] h) new)
-        (All-nil (All (IsServable dims n)))
+    (All-nil (All (IsServable dims n)))
 onto_last-changes dims n (s ∷ t ∷ more) c new h =
     All-cons (All (IsServable dims n)) s (onto_last (t ∷ more) c) (All-head (All (IsServable dims n)) s (t ∷ more) h)
     (onto_last-changes dims n (t ∷ more) c new (All-tail (All (IsServable dims n)) s (t ∷ more) h))
@@ -250,7 +250,7 @@ few-run dims k line (ws ∷ more) v short few e =
     let next = advance k (item_of ws) in
     let accepted = not_refused (refusal k ws) (line + 1) (run next (line + 1) more) v e in
     few-run dims next (line + 1) more v (omega arith)
-        (line_keeps dims k line ws (is_skipped ws) refl accepted.0 few) accepted.1
+    (line_keeps dims k line ws (is_skipped ws) refl accepted.0 few) accepted.1
 
 few_at_start : (dims : List ℕ) → AreFewKnown dims nothing_known 0
 few_at_start dims = record {
