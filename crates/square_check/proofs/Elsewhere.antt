@@ -35,13 +35,6 @@ kept-any {X} q g p x (y ∷ ps) there is passes =
     by None e = e
     by (Some z) e = or_right (q z) (list_any q (filter_map g ps)) e
 
-pub others-written : {X : Type 0} (xs : List X) (i j : ℕ) (x : X) → j ≢ i → slice_get xs j ≡ slice_get (set xs i x) j
-others-written [] i j x e = refl
-others-written (y ∷ ys) zero zero x e = absurd (e refl)
-others-written (y ∷ ys) zero (suc j) x e = refl
-others-written (y ∷ ys) (suc i) zero x e = refl
-others-written (y ∷ ys) (suc i) (suc j) x e = others-written ys i j x (λ q. e (ap suc q))
-
 -- where all squares commuted, and only blocks at some places changed, all squares commute through none of the faces
 -- there
 module _ (K : Ops) (c : CellComplex) (old new : List Block) (places : List ℕ)
