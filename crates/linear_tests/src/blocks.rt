@@ -48,13 +48,19 @@ fn multiplies_to(
 #[test]
 fn multiplies(rt: HostRuntime) -> Result<(), NoMemory> {
     let cases: [((u32, u32, u32), (&[u8], &[u8], &[u8])); 4] = [
-        ((2, 3, 2), (&[1, 0, 1, 0, 1, 1], &[1, 1, 0, 1, 1, 0], &[0, 1, 1, 1])),
+        (
+            (2, 3, 2),
+            (&[1, 0, 1, 0, 1, 1], &[1, 1, 0, 1, 1, 0], &[0, 1, 1, 1]),
+        ),
         ((2, 0, 3), (&[], &[], &[0, 0, 0, 0, 0, 0])),
         ((1, 17, 1), (&ONES, &ODD, &[1])),
         ((17, 1, 1), (&ODD, &[1], &ODD)),
     ];
     for (shape, entries) in cases {
-        assert!(rt; multiplies_to(&rt, rt.alloc(), shape, entries)?, "{shape:?}");
+        assert!(rt;
+            multiplies_to(&rt, rt.alloc(), shape, entries)?,
+            "{shape:?}"
+        );
     }
     Ok(())
 }
@@ -75,7 +81,14 @@ fn adds_up_to(
 #[test]
 fn adds(rt: HostRuntime) -> Result<(), NoMemory> {
     let cases: [((u32, u32), (&[u8], &[u8], &[u8])); 3] = [
-        ((2, 3), (&[1, 0, 1, 0, 1, 1], &[1, 1, 0, 0, 1, 0], &[0, 1, 1, 0, 0, 1])),
+        (
+            (2, 3),
+            (
+                &[1, 0, 1, 0, 1, 1],
+                &[1, 1, 0, 0, 1, 0],
+                &[0, 1, 1, 0, 0, 1],
+            ),
+        ),
         ((3, 0), (&[], &[], &[])),
         ((1, 17), (&ONES, &ODD, &EVEN)),
     ];

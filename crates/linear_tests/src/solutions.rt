@@ -94,14 +94,29 @@ const SQUARES: [(Field, u32, (&[u8], bool, &[u8])); 9] = [
     // The first entry is 0, and a row below helps.
     (Field::Five, 2, (&[0, 2, 3, 0], true, &[0, 2, 3, 0])),
     // The inverse of a permutation is its transpose.
-    (Field::Two, 3, (&[0, 0, 1, 1, 0, 0, 0, 1, 0], true, &[0, 1, 0, 0, 0, 1, 1, 0, 0])),
-    (Field::Two, 3, (&[1, 1, 0, 0, 1, 1, 1, 0, 1], false, &[1, 1, 1])),
+    (
+        Field::Two,
+        3,
+        (
+            &[0, 0, 1, 1, 0, 0, 0, 1, 0],
+            true,
+            &[0, 1, 0, 0, 0, 1, 1, 0, 0],
+        ),
+    ),
+    (
+        Field::Two,
+        3,
+        (&[1, 1, 0, 0, 1, 1, 1, 0, 1], false, &[1, 1, 1]),
+    ),
 ];
 
 #[test]
 fn inverts(rt: HostRuntime) -> Result<(), NoMemory> {
     for (f, size, case) in SQUARES {
-        assert!(rt; inverts_to(&rt, rt.alloc(), &f, size, case)?, "{f:?} {size}");
+        assert!(rt;
+            inverts_to(&rt, rt.alloc(), &f, size, case)?,
+            "{f:?} {size}"
+        );
     }
     Ok(())
 }
