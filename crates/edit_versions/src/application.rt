@@ -41,11 +41,7 @@ pub fn apply<F: Scalars>(alloc: Global, sheaf: &mut Sheaf<F>, edit: &Edit) -> Re
 }
 
 /// Makes all sets, or none.
-fn apply_sets<F: Scalars>(
-    alloc: Global,
-    sheaf: &mut Sheaf<F>,
-    edit: &Edit,
-) -> Result<(), EditFault>
+fn apply_sets<F: Scalars>(alloc: Global, sheaf: &mut Sheaf<F>, edit: &Edit) -> Result<(), EditFault>
     requires { length edit.now.sets ≤ 1000000000 }
     ensures accepted { OnOk result (IsVerdict (F.ops sheaf.old.field) sheaf.old edit.now Accepted) }
     ensures refused { (cause : Cause) → IsErrOf result (EditFault.Refused cause)
@@ -57,7 +53,13 @@ fn apply_sets<F: Scalars>(
     let complex = &draft.complex;
     let dims = complex.dims();
     let mut work = Work::of(alloc, draft.stalks.as_slice(), draft.blocks.as_slice())?;
-    make_sets(alloc, &draft.field, complex, &mut work, edit.sets.as_slice())?;
+    make_sets(
+        alloc,
+        &draft.field,
+        complex,
+        &mut work,
+        edit.sets.as_slice(),
+    )?;
     if !stalks_fit(dims, &work.stalks) {
         return Err(EditFault::Refused(Cause::TotalLimit));
     }
@@ -73,7 +75,7 @@ fn put_work<F: Scalars>(sheaf: &mut Sheaf<F>, work: Work) -> Result<(), EditFaul
         (map written_matrix work.blocks.items) Accepted) }
     ensures refused { (cause : Cause) → IsErrOf result (EditFault.Refused cause)
         → IsSquareVerdict (F.ops sheaf.old.field) sheaf.old.complex
-            (map written_matrix work.blocks.items) (Refused cause) }
+        (map written_matrix work.blocks.items) (Refused cause) }
     ensures ok { OnOk result (sheaf.new ≡ record sheaf.old { stalks = work.stalks.items; blocks = work.blocks.items }) }
     ensures err { OnErr result (sheaf.new ≡ sheaf.old) }
 {

@@ -90,7 +90,8 @@ ends-one : (c d : ℕ) (scripts : List (List Command)) (event : Event) → ends_
     → d < c + length scripts → 1 ≤ ends_together c scripts event
 ends-one c d [] event ends low high = absurd (omega arith)
 ends-one c d (script ∷ scripts) event ends low high =
-    ⊎_elim (λ (l : c < d). after (ends-one (c + 1) d scripts event ends (omega arith) (omega arith))) here (cases_lt c d)
+    ⊎_elim (λ (l : c < d). after (ends-one (c + 1) d scripts event ends (omega arith) (omega arith))) here
+    (cases_lt c d)
   where
     after : 1 ≤ ends_together (c + 1) scripts event → 1 ≤ ends_together c (script ∷ scripts) event
     after rest = omega (arith, rest)

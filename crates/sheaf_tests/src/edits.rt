@@ -36,7 +36,11 @@ fn a_stalk_of_the_same_size_clears_its_restrictions(rt: HostRuntime) -> Result<(
 #[test]
 fn a_cell_is_no_face_of_itself(rt: HostRuntime) -> Result<(), Fail> {
     let entries = Listed::of(Vec::new(rt.alloc()));
-    let set = Set::Restrict { s: 0, t: 0, entries };
+    let set = Set::Restrict {
+        s: 0,
+        t: 0,
+        entries,
+    };
     let refused = EditFault::Refused(Cause::NoFace { i: 0 });
     assert_eq!(rt; answer(&rt, rt.alloc(), &CIRCLE, set)?, (Some(refused), 6));
     Ok(())

@@ -68,10 +68,16 @@ fn reads_up_to_the_limits(rt: HostRuntime) -> Result<(), Fail> {
 #[test]
 fn reads_16777216_bytes(rt: HostRuntime) -> Result<(), Fail> {
     let mut text = vec![in rt.alloc(); b' '; MOST_BYTES]?;
-    let end = BadLine { line: 2, cause: End };
+    let end = BadLine {
+        line: 2,
+        cause: End,
+    };
     assert_eq!(rt; read(rt.alloc(), &text).err(), Some(end));
     text.push(b' ')?;
-    let over = Limit { line: 0, which: Bytes };
+    let over = Limit {
+        line: 0,
+        which: Bytes,
+    };
     assert_eq!(rt; read(rt.alloc(), &text).err(), Some(over));
     Ok(())
 }

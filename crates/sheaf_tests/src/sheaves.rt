@@ -7,7 +7,13 @@ use std::alloc::{AllocError as NoMemory, Global};
 use std::process::Abort;
 use std::test::Fail;
 
-fn put(rt: &impl Abort, alloc: Global, draft: &mut Draft<Two>, place: u32, entry: u8) -> Result<(), NoMemory> {
+fn put(
+    rt: &impl Abort,
+    alloc: Global,
+    draft: &mut Draft<Two>,
+    place: u32,
+    entry: u8,
+) -> Result<(), NoMemory> {
     let block = Block::of(alloc, 1, 1, &[entry])?;
     assert!(rt; draft.takes(place, &block));
     draft.put(place, block);
@@ -15,7 +21,12 @@ fn put(rt: &impl Abort, alloc: Global, draft: &mut Draft<Two>, place: u32, entry
 }
 
 /// The draft with a 1 for each restriction, where each stalk has one coordinate.
-pub fn draft(rt: &impl Abort, alloc: Global, sample: &Sample, stalks: &[u8]) -> Result<Draft<Two>, Fail> {
+pub fn draft(
+    rt: &impl Abort,
+    alloc: Global,
+    sample: &Sample,
+    stalks: &[u8],
+) -> Result<Draft<Two>, Fail> {
     assert!(rt; Complex::fits(sample.dims));
     let complex = Complex::build(alloc, sample.dims, sample.faces)?;
     let count = complex.face_count();
@@ -34,7 +45,10 @@ fn fault(draft: Draft<Two>) -> Option<SealFault> {
 /// How many restrictions are 1.
 pub fn ones(draft: &Draft<Two>) -> usize {
     let blocks = draft.blocks.as_slice();
-    blocks.iter().filter(|b| b.entries.as_slice() == [1].as_slice()).count()
+    blocks
+        .iter()
+        .filter(|b| b.entries.as_slice() == [1].as_slice())
+        .count()
 }
 
 #[test]

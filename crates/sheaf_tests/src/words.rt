@@ -6,8 +6,16 @@ use std::fmt::Debug;
 use std::process::Abort;
 use std::test::Fail;
 
-fn expect_same<T: Debug>(rt: &impl Abort, alloc: Global, value: &T, copy: &T) -> Result<(), NoMemory> {
-    assert_eq!(rt; format!(in alloc; "{copy:?}")?, format!(in alloc; "{value:?}")?);
+fn expect_same<T: Debug>(
+    rt: &impl Abort,
+    alloc: Global,
+    value: &T,
+    copy: &T,
+) -> Result<(), NoMemory> {
+    assert_eq!(rt;
+        format!(in alloc; "{copy:?}")?,
+        format!(in alloc; "{value:?}")?
+    );
     Ok(())
 }
 
@@ -42,8 +50,17 @@ fn maps(alloc: Global) -> Result<Maps, NoMemory> {
 
 fn edit(alloc: Global) -> Result<Edit, NoMemory> {
     let entries = listed(alloc, &[5, 300])?;
-    let sets = vec![in alloc; Set::Stalk { s: 1, n: 2 }, Set::Restrict { s: 3, t: 4, entries }]?;
-    Ok(Edit { sets: Listed::of(sets) })
+    let sets = vec![in alloc;
+        Set::Stalk { s: 1, n: 2 },
+        Set::Restrict {
+            s: 3,
+            t: 4,
+            entries
+        },
+    ]?;
+    Ok(Edit {
+        sets: Listed::of(sets),
+    })
 }
 
 #[test]
@@ -71,11 +88,25 @@ fn vectors(alloc: Global) -> Result<[Reply; 5], NoMemory> {
     let coords = listed(alloc, &[1])?;
     let primitive = listed(alloc, &[3, 4])?;
     Ok([
-        Reply::Basis { k: 1, vectors: rows(alloc)? },
-        Reply::Class { k: 1, coords, vectors: rows(alloc)?, primitive },
+        Reply::Basis {
+            k: 1,
+            vectors: rows(alloc)?,
+        },
+        Reply::Class {
+            k: 1,
+            coords,
+            vectors: rows(alloc)?,
+            primitive,
+        },
         Reply::Sections(rows(alloc)?),
-        Reply::Section { s: 5, z: listed(alloc, &[6])? },
-        Reply::NoSection { s: 7, functional: listed(alloc, &[8])? },
+        Reply::Section {
+            s: 5,
+            z: listed(alloc, &[6])?,
+        },
+        Reply::NoSection {
+            s: 7,
+            functional: listed(alloc, &[8])?,
+        },
     ])
 }
 
@@ -108,7 +139,10 @@ fn copies_events(rt: HostRuntime) -> Result<(), Fail> {
         Event::Edit { c: 1, verdict },
         Event::Ask { c: 2 },
         Event::Pair { v: 3, x: 4, y: 5 },
-        Event::Reply { c: 6, r: Reply::BadEntry },
+        Event::Reply {
+            c: 6,
+            r: Reply::BadEntry,
+        },
     ];
     for event in &events {
         expect_same(&rt, alloc, event, &event.copy(alloc)?)?;

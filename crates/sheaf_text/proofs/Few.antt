@@ -257,8 +257,7 @@ few_at_start dims = record {
   clients = omega arith;
   commands = omega arith;
   most = omega arith;
-  changes =
-      All-nil (All (IsServable dims 0));
+  changes = All-nil (All (IsServable dims 0));
 }
 
 one_line : (b : Bool) (x : List ℕ) → length (if b then [] else x ∷ []) ≤ 1

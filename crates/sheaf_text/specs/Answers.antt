@@ -52,8 +52,8 @@ abbrev pub IsServable : List ℕ → ℕ → Command → Type 0
 IsServable dims n (Change e) = length e.sets ≤ n
 IsServable dims n (Ask q) = CanBeServed dims q
 
--- at most 8 scripts, at most 4,096 commands in all, each an edit of at most 1,000,000,000 changes or a question that can
--- be served
+-- at most 8 scripts, at most 4,096 commands in all, each an edit of at most 1,000,000,000 changes or a question that
+-- can be served
 pub record AreServable (dims : List ℕ) (scripts : List (List Command)) : Type 0 where
   pub clients : length scripts ≤ 8
   pub commands : sum_by length scripts ≤ 4096

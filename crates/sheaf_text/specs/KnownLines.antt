@@ -22,8 +22,7 @@ advance k IsClient = record k { stage = stages.InClient; scripts = k.scripts ++ 
 advance k (IsQuery q) = record k {
   stage = stages.InClient;
   scripts = onto_last k.scripts (Ask q);
-  commands =
-      k.commands + 1;
+  commands = k.commands + 1;
   heavy = heavier k.heavy q;
 }
 advance k IsEdit = record k {
@@ -34,8 +33,7 @@ advance k IsEdit = record k {
 advance k (IsSet s) = record k {
   stage = stages.InEdit;
   scripts = into_last k.scripts s;
-  growth =
-      up_to_most (k.growth + set_size s);
+  growth = up_to_most (k.growth + set_size s);
 }
 advance k IsCommit = record k { stage = stages.InClient }
 advance k IsDone = record k { stage = stages.Ended }
@@ -48,8 +46,7 @@ nothing_known = record {
   stalks = [];
   faces = [];
   entries = [];
-  scripts =
-      [];
+  scripts = [];
   commands = 0;
   heavy = 0;
   growth = 0;

@@ -208,8 +208,7 @@ input_of k = record {
   dims = k.dims;
   faces = k.faces;
   stalks = k.stalks;
-  blocks =
-      blocks_of k.stalks k.faces k.entries;
+  blocks = blocks_of k.stalks k.faces k.entries;
   scripts = k.scripts;
 }
 

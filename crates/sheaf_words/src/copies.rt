@@ -36,10 +36,7 @@ pub fn copy_values<T: Copy>(alloc: Global, list: &Listed<T>) -> Result<Listed<T>
 }
 
 /// An equal list, copied member by member.
-pub(crate) fn copy_list<T: TryCopy>(
-    alloc: Global,
-    list: &Listed<T>,
-) -> Result<Listed<T>, NoMemory>
+pub(crate) fn copy_list<T: TryCopy>(alloc: Global, list: &Listed<T>) -> Result<Listed<T>, NoMemory>
     ensures { IfOk result (λ copy. copy ≡ list.now) }
 {
     let members = list.as_slice();

@@ -7,7 +7,7 @@ pub put_work-requires-clause-touched : goal.put_work-requires-clause-touched
 put_work-requires-clause-touched g c =
     let start = c.args.sheaf.now.blocks in
     let same = c.draft.view_is ∙ c.draft-draft.ensures.draft in
-    let begun = touched-none c.draft.inside.complex start c.in_ok-work.work (c.in_ok-work.ensures.blocks
-    ∙ ap (λ d. d.blocks) same) c.in_ok-work.ensures.touched in
+    let blocks = c.in_ok-work.ensures.blocks ∙ c.as_slice-2.ensures ∙ ap (λ d. d.blocks) same in
+    let begun = touched-none c.draft.inside.complex start c.in_ok-work.work blocks c.in_ok-work.ensures.touched in
     subst (λ complex. IsTouched complex start c.make_sets.new.work) (ap (λ d. d.complex) same)
     (c.in_ok-make_sets.ensures.touched start begun)
