@@ -1,5 +1,5 @@
 -- What a run did, from what it read and what it replied.
-use Rattle.std.proofs.Common.{◌≡◌, ℕ, ◌<◌, List, length, Option, Some, None, inl, refl, sym, subst, ap, ap₂, ◌∙◌}
+use Rattle.std.proofs.Common.{◌≡◌, ℕ, ◌<◌, List, length, Option, Some, None, inl, refl, sym, subst, ap₂, ◌∙◌}
 use Rattle.std.specs.Prelude.{◌≢◌, IfSome}
 use Rattle.std.specs.Io.KnownBytes.{IsAtEnd}
 use Rattle.io_edge.specs.Bytes.{Gave, TookPrefix}
@@ -19,7 +19,7 @@ use Rattle.sheaf_text.specs.declared.fault.Which.TheVariants as limits
 use Rattle.sheaf_text.proofs.Kept.{reading-long}
 use Rattle.sheaf_words.specs.declared.query.Command.{Command}
 use Rattle.sheaf_run.specs.declared.job.Job.{Job}
-use Rattle.sheaf_run.specs.Answers.{Outcome, IsAnswer, IsTextOf, AnswersDraft, AnswersReading, AnswersJob}
+use Rattle.sheaf_run.specs.Answers.{Outcome, IsAnswer, AnswersDraft, AnswersReading, AnswersJob}
 use Rattle.sheaf_run.specs.Answers.{refusal, bad_line, over_limit}
 use Rattle.sheaf_run.specs.Replies.{IsRight, Replies}
 use Rattle.sheaf_run.specs.Runs.{IsSent, IsRun}
@@ -63,16 +63,6 @@ replies_weaker P Q weaker replies = record {
   no_read = replies.no_read;
   later = replies.later;
 }
-
--- a text that is right for the job is
-pub replies_text : (job : Job) (d : SheafData Field) (scripts : List (List Command)) (text : List ℕ)
-    {sink sink_new : SinkView} {result : Status}
-    → IsTextOf job d scripts text → Replies (λ a. a ≡ record { status = Done; text = text }) sink sink_new result
-    → Replies (IsRight job d scripts) sink sink_new result
-replies_text job d scripts text right replies =
-    replies_weaker (λ a. a ≡ record { status = Done; text = text }) (IsRight job d scripts)
-    (λ a is. (ap (λ (o : Outcome). o.status) is, subst (λ (o : Outcome). IsTextOf job d scripts o.text) (sym is) right))
-    replies
 
 -- a draft that is refused with its first fault is answered
 pub replies_refused : (job : Job) (d : SheafData Field) (scripts : List (List Command)) (fault : SealFault)

@@ -1,7 +1,7 @@
 -- Clients that are served one after the other make a legal order.
-use Rattle.std.proofs.Common.{◌≡◌, ℕ, ◌+◌, ◌≤◌, Bool, true, false, ◌==◌, if◌then◌else◌, nat_lt, List, [], ◌∷◌, ◌++◌}
-use Rattle.std.proofs.Common.{length, slice_get, slice_index_or, take, Option, Some, ◌*◌, refl, sym, ap, ap₂, subst}
-use Rattle.std.proofs.Common.{◌∙◌, arith, length-append}
+use Rattle.std.proofs.Common.{◌≡◌, ℕ, ◌+◌, Bool, true, false, ◌==◌, if◌then◌else◌, nat_lt, List, [], ◌∷◌, ◌++◌}
+use Rattle.std.proofs.Common.{length, slice_get, slice_index_or, Some, refl, sym, ap, ap₂, subst}
+use Rattle.std.proofs.Common.{◌∙◌, arith, length-append, All}
 use Rattle.std.specs.Prelude.{unwrap_or}
 use Rattle.std.proofs.lemmas.List.Elements.{All-weaker}
 use Rattle.std.proofs.lemmas.Option.{slice_get_within, get_or_from_slice_get}
@@ -231,20 +231,6 @@ first-progress scripts start = record {
   lanes = λ d. ap free_lane
       (sym (ap (λ b. if b then length (slice_index_or scripts d []) else if 0 == d then 0 else 0)
       (le-ltb d 0 (omega arith)) ∙ if-same (0 == d) 0));
-}
-
-pub next-progress : (scripts : List (List Command)) (start : SheafData Field) (c : ℕ) (script : List Command)
-    (p : Progress)
-    → slice_get scripts c ≡ Some script → IsProgress scripts start c (length script) p
-    → IsProgress scripts start (c + 1) 0 p
-next-progress scripts start c script p there h = record {
-  state = h.state;
-  legal = h.legal;
-  version = h.version;
-  current = h.current;
-  current_sheaf = h.current_sheaf;
-  field = h.field;
-  lanes = λ d. h.lanes d ∙ ap free_lane (position-next scripts c d script there);
 }
 
 pub last-progress : (scripts : List (List Command)) (start : SheafData Field) (p : Progress)
