@@ -18,7 +18,7 @@ mod report;
 mod sequence;
 mod torus;
 
-ghost use Rattle.std.specs.Prelude.{◌×◌, ◌≤◌, IfOk};
+ghost use Rattle.std.specs.Prelude.{◌≤◌, IfOk};
 
 use crate::failure::Failure;
 use crate::matrices::{run_invert, run_product, run_solve};
