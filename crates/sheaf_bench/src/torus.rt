@@ -1,4 +1,4 @@
-ghost use Rattle.std.specs.Prelude.{◌≡◌, ◌<◌, ◌≤◌, ◌^◌};
+ghost use Rattle.std.specs.Prelude.{◌≡◌, ◌<◌, ◌≤◌, ◌^◌, length, IfOk, OnOk};
 
 use crate::failure::Failure;
 use crate::report::{Report, Watch, checksum};
@@ -152,15 +152,24 @@ pub(crate) fn run_seal<R: Clock + AllocGlobal>(rt: &R, size: u32) -> Result<Repo
     Ok(report(rt.alloc(), 4 * size * size, "squares", sheaf.draft(), time)?)
 }
 
+/// A copy of the draft of a sheaf that has a face.
+fn draft_with_face(alloc: Global, sheaf: &Sheaf<Field>) -> Result<Draft<Field>, Failure>
+    ensures same { IfOk result (λ d. d ≡ sheaf.now) }
+    ensures face { OnOk result (0 < length sheaf.now.complex.faces) }
+{
+    let draft = sheaf.draft().copy(alloc)?;
+    if draft.complex.face_count() == 0 {
+        return Err(Failure::Made);
+    }
+    Ok(draft)
+}
+
 pub(crate) fn run_put<R: Clock + AllocGlobal>(rt: &R, size: u32) -> Result<Report, Failure>
     requires positive { 1 ≤ size }
     requires small { size ≤ 32 }
 {
     let mut sheaf = sealed(torus_draft(rt.alloc(), size)?)?;
-    if sheaf.draft().complex.face_count() == 0 {
-        return Err(Failure::Made);
-    }
-    let Draft { stalks, blocks, .. } = sheaf.draft().copy(rt.alloc())?;
+    let Draft { stalks, blocks, .. } = draft_with_face(rt.alloc(), &sheaf)?;
     let watch = Watch::start(rt);
     let answer = sheaf.put_all(stalks, blocks, &[0]);
     let time = watch.time(rt);
