@@ -1,6 +1,6 @@
 //! A value of each kind is copied.
-use dense_blocks::{Block, Listed};
-use sheaf_words::{Cause, Command, Edit, Event, Maps, Query, Reduced, Reply, Set, Verdict};
+use dense_blocks::Listed;
+use sheaf_words::{Cause, Command, Edit, Event, Query, Reply, Set, Verdict};
 use std::alloc::{AllocError as NoMemory, Global};
 use std::fmt::Debug;
 use std::process::Abort;
@@ -21,31 +21,6 @@ fn expect_same<T: Debug>(
 
 fn listed<T: Copy>(alloc: Global, items: &[T]) -> Result<Listed<T>, NoMemory> {
     Ok(Listed::of(Vec::from_slice(alloc, items)?))
-}
-
-fn rows(alloc: Global) -> Result<Listed<Listed<u8>>, NoMemory> {
-    Ok(Listed::of(vec![in alloc; listed(alloc, &[1, 0])?, listed(alloc, &[0, 1])?]?))
-}
-
-fn blocks(alloc: Global) -> Result<Listed<Block>, NoMemory> {
-    Ok(Listed::of(vec![in alloc; Block::of(alloc, 2, 1, &[1, 0])?]?))
-}
-
-fn reduced(alloc: Global) -> Result<Reduced, NoMemory> {
-    Ok(Reduced {
-        pairs: listed(alloc, &[(0, 3), (1, 4)])?,
-        live: listed(alloc, &[(2, 0, 1), (5, 1, 2)])?,
-        d: blocks(alloc)?,
-    })
-}
-
-fn maps(alloc: Global) -> Result<Maps, NoMemory> {
-    Ok(Maps {
-        base: listed(alloc, &[(0, 0, 1)])?,
-        pi: blocks(alloc)?,
-        iota: blocks(alloc)?,
-        h: blocks(alloc)?,
-    })
 }
 
 fn edit(alloc: Global) -> Result<Edit, NoMemory> {
@@ -84,47 +59,19 @@ fn copies_commands(rt: HostRuntime) -> Result<(), Fail> {
     Ok(())
 }
 
-fn vectors(alloc: Global) -> Result<[Reply; 5], NoMemory> {
-    let coords = listed(alloc, &[1])?;
-    let primitive = listed(alloc, &[3, 4])?;
-    Ok([
-        Reply::Basis {
-            k: 1,
-            vectors: rows(alloc)?,
-        },
-        Reply::Class {
-            k: 1,
-            coords,
-            vectors: rows(alloc)?,
-            primitive,
-        },
-        Reply::Sections(rows(alloc)?),
-        Reply::Section {
-            s: 5,
-            z: listed(alloc, &[6])?,
-        },
-        Reply::NoSection {
-            s: 7,
-            functional: listed(alloc, &[8])?,
-        },
-    ])
-}
-
 #[test]
 fn copies_replies(rt: HostRuntime) -> Result<(), Fail> {
     let alloc = rt.alloc();
-    for reply in &vectors(alloc)? {
-        expect_same(&rt, alloc, reply, &reply.copy(alloc)?)?;
-    }
-    let others = [
-        Reply::Betti(listed(alloc, &[2, 1])?),
-        Reply::Reduce(reduced(alloc)?),
-        Reply::Equiv(reduced(alloc)?, maps(alloc)?),
+    let numbers = listed(alloc, &[2, 1])?;
+    let functional = listed(alloc, &[8])?;
+    let replies = [
+        Reply::Betti(numbers),
+        Reply::NoSection { s: 7, functional },
         Reply::NotCocycle { k: 2, t: 3 },
         Reply::BadLength,
         Reply::BadEntry,
     ];
-    for reply in &others {
+    for reply in &replies {
         expect_same(&rt, alloc, reply, &reply.copy(alloc)?)?;
     }
     Ok(())
