@@ -5,9 +5,11 @@ use Rattle.std.proofs.Common.{subst, arith, inl, inr, List, [], ◌∷◌, lengt
 use Rattle.std.specs.List.{flat_map}
 use Rattle.std.proofs.lemmas.Bool.{eq-eqb, ne_eqb, eqb-true, cases_eq}
 use Rattle.std.proofs.lemmas.List.Elements.{All-map, All-filter, All-from_get_or, filter_passes}
-use Rattle.dense_blocks.specs.Field.{Ops, IsField}
+use Rattle.dense_blocks.specs.Field.{Ops}
+use Rattle.dense_blocks.specs.FieldLaws.{IsField}
 use Rattle.dense_blocks.specs.Vectors.{zeros, plus}
-use Rattle.dense_blocks.specs.Matrices.{image_of, identity}
+use Rattle.dense_blocks.specs.Matrices.{image_of}
+use Rattle.dense_blocks.specs.MatrixFacts.{identity}
 use Rattle.dense_blocks.proofs.Shapes.{Vector, Matrix, matrix-size, from_vector}
 use Rattle.dense_blocks.proofs.VectorLaws.{zeros-vector, plus-zeros}
 use Rattle.dense_blocks.proofs.MatrixLaws.{image_of-vector, image_of-zeros, zero_matrix-image_of, identity-image_of}
@@ -15,7 +17,7 @@ use Rattle.dense_blocks.proofs.MatrixLaws.{identity-matrix}
 use Rattle.cochain_vec.specs.declared.cell.Cell.{Cell}
 use Rattle.cochain_vec.specs.Complexes.{Arrow, CellularComplex, cells_of, total_size, coordinates, value_at, sum_into}
 use Rattle.cochain_vec.specs.Complexes.{coboundary}
-use Rattle.cochain_vec.specs.Cohomology.{IsCochainComplex}
+use Rattle.cochain_vec.specs.CochainComplexes.{IsCochainComplex}
 use Rattle.cochain_vec.proofs.CoboundaryLaws.{size_at, RowsInto, sum_into-vector, joined-vector}
 use Rattle.cochain_vec.proofs.PathLaws.{sum_over, sum_over-vector, sum_over-same, sum_over-zeros, sum_over-plus}
 use Rattle.cochain_vec.proofs.PathLaws.{joined-zeros, value-joined}

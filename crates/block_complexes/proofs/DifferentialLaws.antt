@@ -1,8 +1,10 @@
 -- The sum over all cells between two, at a vector.
 use Rattle.std.proofs.Common.{◌≡◌, ℕ, true, List, sym, ap, ◌∙◌}
-use Rattle.dense_blocks.specs.Field.{Ops, IsField}
+use Rattle.dense_blocks.specs.Field.{Ops}
+use Rattle.dense_blocks.specs.FieldLaws.{IsField}
 use Rattle.dense_blocks.specs.Vectors.{zeros}
-use Rattle.dense_blocks.specs.Matrices.{image_of, product, zero_matrix}
+use Rattle.dense_blocks.specs.Matrices.{image_of, product}
+use Rattle.dense_blocks.specs.MatrixFacts.{zero_matrix}
 use Rattle.dense_blocks.proofs.Shapes.{Vector, Matrix}
 use Rattle.dense_blocks.proofs.MatrixLaws.{product-matrix, product-image_of, zero_matrix-matrix, zero_matrix-image_of}
 use Rattle.dense_blocks.proofs.MatrixLaws.{matrix-ext}

@@ -2,8 +2,9 @@
 -- which are live. Each block complex is the same as such a one.
 use Rattle.std.proofs.Common.{◌≡◌, ◌≢◌, ◌≤◌, All, ℕ, ◌+◌, Bool, true, false, cond, ◌&&◌, List, refl, ap, ap₂}
 use Rattle.std.proofs.lemmas.Bool.{and_parts}
-use Rattle.dense_blocks.specs.Field.{Ops, IsField}
-use Rattle.dense_blocks.specs.Matrices.{zero_matrix}
+use Rattle.dense_blocks.specs.Field.{Ops}
+use Rattle.dense_blocks.specs.FieldLaws.{IsField}
+use Rattle.dense_blocks.specs.MatrixFacts.{zero_matrix}
 use Rattle.dense_blocks.proofs.Shapes.{Matrix, to_matrix, from_matrix}
 use Rattle.dense_blocks.proofs.MatrixLaws.{zero_matrix-matrix}
 use Rattle.rising_lists.specs.Rising.{IsRising, has}

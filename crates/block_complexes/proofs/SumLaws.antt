@@ -6,13 +6,15 @@ use Rattle.std.proofs.lemmas.Bool.{eq-eqb, ne_eqb, eqb-true, cases_eq}
 use Rattle.std.proofs.lemmas.List.{take_more}
 use Rattle.std.proofs.lemmas.List.Elements.{All-append, All-filter, All-from_get_or, All-map, All-nil, All-tail}
 use Rattle.std.proofs.lemmas.List.Elements.{All-head}
-use Rattle.dense_blocks.specs.Field.{Ops, IsField}
+use Rattle.dense_blocks.specs.Field.{Ops}
+use Rattle.dense_blocks.specs.FieldLaws.{IsField}
 use Rattle.dense_blocks.specs.Vectors.{zeros, plus}
 use Rattle.dense_blocks.specs.Matrices.{image_of}
 use Rattle.dense_blocks.proofs.Shapes.{Vector}
 use Rattle.dense_blocks.proofs.VectorLaws.{plus-assoc, plus-comm}
 use Rattle.cochain_vec.specs.declared.cell.Cell.{Cell}
-use Rattle.cochain_vec.specs.Complexes.{Arrow, RowsFit, sum_into}
+use Rattle.cochain_vec.specs.Complexes.{Arrow, sum_into}
+use Rattle.cochain_vec.specs.Shapes.{RowsFit}
 use Rattle.cochain_vec.proofs.CoboundaryLaws.{image_of-rows}
 use Rattle.cochain_vec.proofs.PathLaws.{sum_over, sum_over-filter}
 use Rattle.rising_lists.specs.Rising.{IsRising, has}

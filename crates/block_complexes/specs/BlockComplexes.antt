@@ -1,7 +1,7 @@
 -- Block complexes: live cells, and a matrix for each ordered pair of them. Nothing else: no storage, no flags.
 use Rattle.std.specs.Prelude.{◌≡◌, ◌≢◌, ◌≤◌, ◌==◌, ◌+◌, ℕ, true, List, [], ◌∷◌, if◌then◌else◌, map, All}
 use Rattle.dense_blocks.specs.Field.{Ops}
-use Rattle.dense_blocks.specs.Matrices.{IsMatrix, zero_matrix}
+use Rattle.dense_blocks.specs.MatrixFacts.{IsMatrix, zero_matrix}
 use Rattle.rising_lists.specs.Rising.{IsRising, has}
 
 -- the live cells, each with its degree and its size; and for cells s and t the matrix from s to t, of which only what

@@ -1,7 +1,8 @@
 -- Block complexes in which the coboundary of each coboundary is zero.
 use Rattle.std.specs.Prelude.{◌≡◌, ℕ, List, [], ◌∷◌}
 use Rattle.dense_blocks.specs.Field.{Ops}
-use Rattle.dense_blocks.specs.Matrices.{product, zero_matrix, matrix_sum}
+use Rattle.dense_blocks.specs.Matrices.{product}
+use Rattle.dense_blocks.specs.MatrixFacts.{zero_matrix, matrix_sum}
 use Rattle.block_complexes.specs.BlockComplexes.{BlockComplex, AreBothLive, cells, size_of}
 
 -- the sum over some cells of matrices of m rows and n columns

@@ -1,7 +1,8 @@
 -- Block complexes in which the coboundary of each coboundary is zero, by their matrices and by their cochains.
 use Rattle.std.specs.Prelude.{◌↔◌}
-use Rattle.dense_blocks.specs.Field.{Ops, IsField}
-use Rattle.cochain_vec.specs.Cohomology.{IsCochainComplex}
+use Rattle.dense_blocks.specs.Field.{Ops}
+use Rattle.dense_blocks.specs.FieldLaws.{IsField}
+use Rattle.cochain_vec.specs.CochainComplexes.{IsCochainComplex}
 use Rattle.block_complexes.specs.BlockComplexes.{BlockComplex, IsBlockComplex}
 use Rattle.block_complexes.specs.Cochains.{complex_of}
 use Rattle.block_complexes.specs.Differentials.{IsDifferential}

@@ -8,7 +8,8 @@ use Rattle.std.proofs.lemmas.List.{append-nil, take_at, drop_at, take_all, take_
 use Rattle.std.proofs.lemmas.List.{length-map}
 use Rattle.std.proofs.lemmas.List.Elements.{All-head, All-tail}
 use Rattle.dense_blocks.specs.Vectors.{zeros}
-use Rattle.dense_blocks.specs.Matrices.{cut, zero_matrix}
+use Rattle.dense_blocks.specs.Matrices.{cut}
+use Rattle.dense_blocks.specs.MatrixFacts.{zero_matrix}
 use Rattle.dense_blocks.specs.Blocks.{matrix_of}
 use Rattle.dense_blocks.specs.declared.block.Block.{Block}
 use Rattle.dense_blocks.proofs.Cutting.{Sized, sized-size, flat, flat-append, flat-size, cut-flat}

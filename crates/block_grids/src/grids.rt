@@ -1,9 +1,11 @@
-ghost use Rattle.std.specs.Prelude.{◌≡◌, ◌<◌, ◌≤◌, ◌+◌, ◌++◌, ◌↔◌, ℕ, Some, length, slice_index, slice_index_or, option_copied, All, IfOk, OnOk, IsTrue, MatchOption};
+ghost use Rattle.std.specs.Prelude.{◌≡◌, ◌<◌, ◌≤◌, ◌+◌, ◌++◌, ◌↔◌, ℕ, Some, length, slice_index, slice_index_or};
+ghost use Rattle.std.specs.Prelude.{option_copied, All, IfOk, OnOk, IsTrue, MatchOption};
 ghost use Rattle.dense_blocks.specs.Blocks.{matrix_of};
 ghost use Rattle.rising_lists.specs.Rising.{IsRising, has, keys, entry, line_of};
 ghost use Rattle.block_complexes.specs.BlockComplexes.{size_of};
 ghost use Rattle.block_sparse.specs.Grids.{width, window, AreSized, IsJoined, IsFirstOther};
-ghost use Rattle.block_grids.specs.Joined.{AreShaped, grid_block, corner_row, joined_row, joined_rows, joined_entries, HaveRow, IsSamePart};
+ghost use Rattle.block_grids.specs.Joined.{AreShaped, grid_block, corner_row, joined_row, joined_rows, joined_entries};
+ghost use Rattle.block_grids.specs.Joined.{HaveRow, IsSamePart};
 
 use block_sparse::{Blocks, is_same_at, is_zero_at};
 use dense_blocks::{Block, Entries};

@@ -6,9 +6,11 @@ use Rattle.std.specs.List.{list_all}
 use Rattle.std.specs.Option.{is_some}
 use Rattle.std.proofs.lemmas.Bool.{eqb-true, and_parts}
 use Rattle.std.proofs.lemmas.List.Elements.{All-head, All-tail, All-append, All-nil}
-use Rattle.dense_blocks.specs.Field.{Ops, IsField}
+use Rattle.dense_blocks.specs.Field.{Ops}
+use Rattle.dense_blocks.specs.FieldLaws.{IsField}
 use Rattle.dense_blocks.specs.Vectors.{AllScalars, IsVector, zeros}
-use Rattle.dense_blocks.specs.Matrices.{image_of, zero_matrix}
+use Rattle.dense_blocks.specs.Matrices.{image_of}
+use Rattle.dense_blocks.specs.MatrixFacts.{zero_matrix}
 use Rattle.dense_blocks.specs.Blocks.{matrix_of}
 use Rattle.dense_blocks.specs.declared.block.Block.{Block}
 use Rattle.dense_blocks.proofs.Cutting.{flat}

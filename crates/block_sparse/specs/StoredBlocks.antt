@@ -1,7 +1,7 @@
 -- Block complexes as they are stored: only nonzero blocks take room, by rows; columns note them, with flags.
 use Rattle.std.specs.Prelude.{◌≡◌, ◌≤◌, ◌==◌, ℕ, All, Bool, true, false, List, Option, Some, None, is_some}
 use Rattle.std.specs.List.{list_all}
-use Rattle.dense_blocks.specs.Matrices.{zero_matrix}
+use Rattle.dense_blocks.specs.MatrixFacts.{zero_matrix}
 use Rattle.dense_blocks.specs.Blocks.{matrix_of}
 use Rattle.dense_blocks.specs.declared.block.Block.{Block}
 use Rattle.rising_lists.specs.Rising.{ByCell, IsRising, entry_of}

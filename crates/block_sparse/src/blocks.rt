@@ -1,4 +1,6 @@
-ghost use Rattle.std.specs.Prelude.{◌≡◌, ◌==◌, ◌||◌, ◌&&◌, ◌↔◌, ◌+◌, ◌<◌, ◌≤◌, ℕ, length, slice_index, slice_index_or, true, false, None, if◌then◌else◌, not, filter, is_some, All, MatchOption, IfOk, IfErr, OnOk, OnErr, IsTrue};
+ghost use Rattle.std.specs.Prelude.{◌≡◌, ◌==◌, ◌||◌, ◌&&◌, ◌↔◌, ◌+◌, ◌<◌, ◌≤◌, ℕ, length, slice_index, slice_index_or};
+ghost use Rattle.std.specs.Prelude.{true, false, None, if◌then◌else◌, not, filter, is_some, All, MatchOption, IfOk};
+ghost use Rattle.std.specs.Prelude.{IfErr, OnOk, OnErr, IsTrue};
 ghost use Rattle.rising_lists.specs.Rising.{IsRising, has, keys, entry_of, line_of};
 ghost use Rattle.dense_blocks.specs.Blocks.{matrix_of};
 ghost use Rattle.block_complexes.specs.BlockComplexes.{cells, degree_of, size_of, live_size};

@@ -1,9 +1,11 @@
-ghost use Rattle.std.specs.Prelude.{◌≡◌, ◌↔◌, ◌+◌, ◌≤◌, ◌∷◌, ◌++◌, ℕ, true, [], length, take, drop, All, IfOk, OnOk, IsTrue};
+ghost use Rattle.std.specs.Prelude.{◌≡◌, ◌↔◌, ◌+◌, ◌≤◌, ◌∷◌, ◌++◌, ℕ, true, [], length, take, drop, All, IfOk, OnOk};
+ghost use Rattle.std.specs.Prelude.{IsTrue};
 ghost use Rattle.std.specs.List.{flat_map};
 ghost use Rattle.dense_blocks.specs.Vectors.{AllScalars, IsVector, plus};
 ghost use Rattle.dense_blocks.specs.Matrices.{image_of};
 ghost use Rattle.rising_lists.specs.Rising.{has};
-ghost use Rattle.cochain_vec.specs.Complexes.{IsCochain, cells_of, coboundary, coordinates, sum_into, total_size, value_at};
+ghost use Rattle.cochain_vec.specs.Complexes.{IsCochain, cells_of, coboundary, coordinates, sum_into, total_size};
+ghost use Rattle.cochain_vec.specs.Complexes.{value_at};
 ghost use Rattle.block_complexes.specs.BlockComplexes.{cells, degree_of, size_of, IsBlockComplex};
 ghost use Rattle.block_sparse.specs.StoredBlocks.{complex_in, matrix, AreLive};
 ghost use Rattle.block_complexes.specs.Cochains.{complex_of, of_degree};

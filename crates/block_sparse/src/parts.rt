@@ -1,6 +1,8 @@
-ghost use Rattle.std.specs.Prelude.{◌≡◌, ◌==◌, ◌<◌, ◌≤◌, ◌+◌, ℕ, false, [], None, Some, if◌then◌else◌, length, take, drop, slice_index_or, IfOk, IsTrue, ◌↔◌};
+ghost use Rattle.std.specs.Prelude.{◌≡◌, ◌==◌, ◌<◌, ◌≤◌, ◌+◌, ℕ, false, [], None, Some, if◌then◌else◌, length, take};
+ghost use Rattle.std.specs.Prelude.{drop, slice_index_or, IfOk, IsTrue, ◌↔◌};
 ghost use Rattle.std.specs.List.{list_all};
-ghost use Rattle.dense_blocks.specs.Blocks.{matrix_of, IsBlock};
+ghost use Rattle.dense_blocks.specs.Blocks.{matrix_of};
+ghost use Rattle.dense_blocks.specs.BlockFacts.{IsBlock};
 ghost use Rattle.block_sparse.specs.StoredBlocks.{is_zero};
 ghost use Rattle.block_sparse.specs.Grids.{width, window, IsPart};
 ghost use Rattle.block_sparse.specs.Fresh.{mark_of};

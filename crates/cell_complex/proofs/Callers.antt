@@ -8,7 +8,8 @@ use Rattle.std.proofs.lemmas.List.Folds.{list_any_at}
 use Rattle.std.proofs.lemmas.List.FromFn.{length-range_with_len, get_or-range_with_len}
 use Rattle.std.proofs.lemmas.Map.Views.{any-filter_same}
 use Rattle.cell_complex.specs.declared.face.Face.{Face}
-use Rattle.cell_complex.specs.Complexes.{CellComplex, IsComplex, JoinsCells, joins, all_cells, is_face, cofaces_of}
+use Rattle.cell_complex.specs.Complexes.{CellComplex, joins, all_cells, is_face}
+use Rattle.cell_complex.specs.Invariants.{IsComplex, JoinsCells, cofaces_of}
 use Rattle.cell_complex.specs.Complexes.{middles}
 use Rattle.cell_complex.proofs.Numbers.{filter-filter, range-below}
 

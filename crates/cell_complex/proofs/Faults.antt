@@ -18,9 +18,12 @@ use Rattle.std.proofs.lemmas.Option.{get_or_from_slice_get, slice_get_within}
 use Rattle.cell_complex.specs.declared.face.Face.{Face}
 use Rattle.cell_complex.specs.declared.fault.FaceFault.{FaceFault}
 use Rattle.cell_complex.specs.declared.fault.FaceFault.TheVariants.{UnknownCell, WrongDims, TwiceFace}
-use Rattle.cell_complex.specs.Complexes.{CellComplex, AreCells, IsComplex, AreApart, JoinsCells, joins, all_cells}
-use Rattle.cell_complex.specs.Complexes.{is_face, faces_of, cofaces_of, with_face}
-use Rattle.cell_complex.specs.Verdicts.{face_fault, with_first_faces, AllAccepted, IsFirstFault}
+use Rattle.cell_complex.specs.Complexes.{CellComplex, joins, all_cells}
+use Rattle.cell_complex.specs.Invariants.{AreCells, IsComplex, AreApart, JoinsCells}
+use Rattle.cell_complex.specs.Complexes.{is_face, faces_of}
+use Rattle.cell_complex.specs.Invariants.{cofaces_of, with_face}
+use Rattle.cell_complex.specs.Verdicts.{face_fault}
+use Rattle.cell_complex.specs.Builds.{with_first_faces, AllAccepted, IsFirstFault}
 use Rattle.cell_complex.specs.Fields.{AreNeighbourLists}
 use Rattle.cell_complex.specs.Neighbours.{with_cell}
 use Rattle.cell_complex.proofs.Numbers.{rising-range, with_cell-filter, set-map-range}

@@ -1,6 +1,6 @@
 -- Complexes: a list of the dimensions of the cells, and a list of faces.
-use Rattle.std.specs.Prelude.{◌≡◌, ℕ, ◌+◌, ◌<◌, ◌≤◌, Bool, List, [], ◌∷◌, ◌++◌, Option, length, slice_index, filter}
-use Rattle.std.specs.Prelude.{find, position, All, AllPairs, false, ◌==◌, ◌&&◌}
+use Rattle.std.specs.Prelude.{ℕ, Bool, List, Option, length, filter}
+use Rattle.std.specs.Prelude.{find, position, ◌==◌, ◌&&◌}
 use Rattle.std.specs.List.{list_any, range_with_len}
 use Rattle.std.specs.Option.{option_map}
 use Rattle.cell_complex.specs.declared.face.Face.{Face}
@@ -11,30 +11,9 @@ pub record CellComplex : Type 0 where
   pub dims : List ℕ
   pub faces : List Face
 
--- at most 4,096 cells, each of a dimension of at most 15
-pub record AreCells (dims : List ℕ) : Type 0 where
-  pub few : length dims ≤ 4096
-  pub low : All (λ d. d ≤ 15) dims
-
--- the face joins two of the cells, the second one dimension above the first
-pub record JoinsCells (dims : List ℕ) (f : Face) : Type 0 where
-  pub s_is_cell : f.s < length dims
-  pub t_is_cell : f.t < length dims
-  pub one_up : slice_index dims f.t ≡ slice_index dims f.s + 1
-
 -- whether the face is that of s in t
 abbrev pub joins : ℕ → ℕ → Face → Bool
 joins s t f = (s == f.s) && (t == f.t)
-
--- two faces that are not of the same pair of cells
-abbrev pub AreApart : Face → Face → Type 0
-AreApart f g = joins f.s f.t g ≡ false
-
--- the faces join cells of the complex, and no two join the same pair
-pub record IsComplex (c : CellComplex) : Type 0 where
-  pub small : AreCells c.dims
-  pub fit : All (JoinsCells c.dims) c.faces
-  pub apart : AllPairs AreApart c.faces
 
 -- the cells, in rising order
 abbrev pub all_cells : CellComplex → List ℕ
@@ -56,14 +35,6 @@ place c s t = position (joins s t) c.faces
 abbrev pub faces_of : CellComplex → ℕ → List ℕ
 faces_of c t = filter (λ s. is_face c s t) (all_cells c)
 
--- the cells of which s is a face, in rising order
-abbrev pub cofaces_of : CellComplex → ℕ → List ℕ
-cofaces_of c s = filter (λ t. is_face c s t) (all_cells c)
-
 -- the cells between s and u, in rising order
 abbrev pub middles : CellComplex → ℕ → ℕ → List ℕ
 middles c s u = filter (λ t. is_face c s t && is_face c t u) (all_cells c)
-
--- the complex with one face more
-abbrev pub with_face : CellComplex → Face → CellComplex
-with_face c f = record c { faces = c.faces ++ f ∷ [] }

@@ -2,7 +2,8 @@
 use Rattle.std.specs.Prelude.{◌≡◌, ℕ, List, map}
 use Rattle.cell_complex.specs.declared.face.Face.{Face}
 use Rattle.cell_complex.specs.declared.face.Sign.{Sign}
-use Rattle.cell_complex.specs.Complexes.{CellComplex, IsComplex, all_cells, faces_of, cofaces_of}
+use Rattle.cell_complex.specs.Complexes.{CellComplex, all_cells, faces_of}
+use Rattle.cell_complex.specs.Invariants.{IsComplex, cofaces_of}
 
 -- an entry of the map from pairs of cells to signs, as a face
 abbrev pub face_of_entry : (ℕ × ℕ) × Sign → Face

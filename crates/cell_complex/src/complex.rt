@@ -1,9 +1,12 @@
-ghost use Rattle.std.specs.Prelude.{◌≡◌, ℕ, ◌<◌, ◌↔◌, [], ◌∷◌, ◌++◌, None, Some, length, map, slice_get, slice_set, nat_eq, slice_index_or, ◌&&◌, IsTrue, IfOk, OnOk, OnErr, IsErrOf};
+ghost use Rattle.std.specs.Prelude.{◌≡◌, ℕ, ◌<◌, ◌↔◌, [], ◌∷◌, ◌++◌, None, Some, length, map, slice_get, slice_set};
+ghost use Rattle.std.specs.Prelude.{nat_eq, slice_index_or, ◌&&◌, IsTrue, IfOk, OnOk, OnErr, IsErrOf};
 ghost use Rattle.std.specs.List.Sorted.{IsStrictlyIncreasing, IsNonDecreasing};
 ghost use Rattle.indexmap.specs.IndexMap.{get};
 ghost use Rattle.cell_complex.specs.Neighbours.{neighbour_lists, with_cell};
-ghost use Rattle.cell_complex.specs.Complexes.{AreCells, IsComplex, sign, place, faces_of, cofaces_of, middles, with_face};
-ghost use Rattle.cell_complex.specs.Verdicts.{face_fault, AllAccepted, IsFirstFault};
+ghost use Rattle.cell_complex.specs.Complexes.{sign, place, faces_of, middles};
+ghost use Rattle.cell_complex.specs.Invariants.{AreCells, IsComplex, cofaces_of, with_face};
+ghost use Rattle.cell_complex.specs.Verdicts.{face_fault};
+ghost use Rattle.cell_complex.specs.Builds.{AllAccepted, IsFirstFault};
 
 use crate::face::{Face, Sign};
 use crate::fault::{AddFault, BuildFault, FaceFault};

@@ -8,8 +8,10 @@ use Rattle.std.proofs.lemmas.Bool.{and_parts, eqb-true, eq-eqb, or_parts, or_fro
 use Rattle.std.proofs.lemmas.List.Elements.{All-head, All-tail, All-cons}
 use Rattle.cell_complex.specs.declared.face.Face.{Face}
 use Rattle.cell_complex.specs.declared.face.Sign.{Sign}
-use Rattle.cell_complex.specs.Complexes.{AreApart, joins}
-use Rattle.dense_blocks.specs.Field.{Ops, IsField}
+use Rattle.cell_complex.specs.Complexes.{joins}
+use Rattle.cell_complex.specs.Invariants.{AreApart}
+use Rattle.dense_blocks.specs.Field.{Ops}
+use Rattle.dense_blocks.specs.FieldLaws.{IsField}
 use Rattle.dense_blocks.specs.Vectors.{zeros, plus}
 use Rattle.dense_blocks.specs.Matrices.{image_of}
 use Rattle.dense_blocks.specs.Blocks.{matrix_of}

@@ -10,11 +10,13 @@ use Rattle.std.proofs.lemmas.Bool.{true≢false, and_cases, eqb-true, eqb-false,
 use Rattle.std.proofs.lemmas.List.{length-map}
 use Rattle.std.proofs.lemmas.List.Elements.{All-cons, All-filter, filter_passes}
 use Rattle.cell_complex.specs.declared.face.Sign.{Sign}
-use Rattle.cell_complex.specs.Complexes.{CellComplex, IsComplex, all_cells, is_face, middles}
+use Rattle.cell_complex.specs.Complexes.{CellComplex, all_cells, is_face, middles}
+use Rattle.cell_complex.specs.Invariants.{IsComplex}
 use Rattle.cell_complex.proofs.Callers.{incident_from_face}
 use Rattle.incidence_check.specs.Incidences.{HasOppositeMiddles, are_opposite, times}
 use Rattle.incidence_check.specs.Incidences as incidences
-use Rattle.dense_blocks.specs.Field.{Ops, IsField}
+use Rattle.dense_blocks.specs.Field.{Ops}
+use Rattle.dense_blocks.specs.FieldLaws.{IsField}
 use Rattle.dense_blocks.specs.Vectors.{AllScalars, zeros, plus, combination}
 use Rattle.dense_blocks.specs.Matrices.{image_of, product}
 use Rattle.dense_blocks.specs.Blocks.{matrix_of}
@@ -23,11 +25,13 @@ use Rattle.dense_blocks.proofs.Shapes.{Vector, matrix-size}
 use Rattle.dense_blocks.proofs.VectorLaws.{plus-zeros}
 use Rattle.dense_blocks.proofs.MatrixLaws.{image_of-zeros}
 use Rattle.dense_blocks.proofs.BlockLaws.{block-matrix, block-matrix_at}
-use Rattle.square_check.specs.Squares.{AreRestrictions, through}
+use Rattle.square_check.specs.Squares.{through}
+use Rattle.square_check.specs.TouchedFaces.{AreRestrictions}
 use Rattle.square_check.proofs.Placed.{restriction-fits, face-fits, some-same, all-at}
 use Rattle.square_check.proofs.Commuting.{IsBetween, between-head, between-second, through-is}
 use Rattle.cochain_vec.specs.declared.cell.Cell.{Cell}
-use Rattle.cochain_vec.specs.Complexes.{Arrow, CellularComplex, cells_of, value_at, sum_into, RowsFit}
+use Rattle.cochain_vec.specs.Complexes.{Arrow, CellularComplex, cells_of, value_at, sum_into}
+use Rattle.cochain_vec.specs.Shapes.{RowsFit}
 use Rattle.cochain_vec.proofs.CoboundaryLaws.{size_at, RowsInto, image_of-rows, sum_into-vector}
 use Rattle.cochain_vec.proofs.PathLaws.{sum_over, sum_over-filter, arrows_from, ComeFrom, after, AreSizes, rows_from}
 use Rattle.cochain_vec.proofs.PathLaws.{coboundary-coboundary, coboundary-cocycle}

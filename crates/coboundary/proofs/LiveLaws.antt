@@ -6,8 +6,8 @@ use Rattle.std.proofs.lemmas.List.Sums.{sum_by-cons}
 use Rattle.std.proofs.lemmas.Bool.{eqb-false, eq-eqb, ne_eqb, not-true}
 use Rattle.std.proofs.lemmas.List.Elements.{All-map, All-filter, filter_passes, All-get_or}
 use Rattle.cell_complex.specs.declared.face.Face.{Face}
-use Rattle.cell_complex.specs.Complexes.{AreCells}
-use Rattle.cell_complex.specs.Complexes as complexes
+use Rattle.cell_complex.specs.Invariants.{AreCells}
+use Rattle.cell_complex.specs.Invariants.{JoinsCells}
 use Rattle.dense_blocks.specs.declared.block.Block.{Block}
 use Rattle.cochain_vec.specs.declared.cell.Cell.{Cell}
 use Rattle.cochain_vec.specs.Stalkless as stalkless
@@ -173,7 +173,7 @@ module _ (dims stalks : List ℕ) (same : length stalks ≡ length dims) where
   has-live i l nonzero = has-of_cell (λ (l : ℕ × ℕ × ℕ). l.2) live i (λ e. nonzero (sym (size-live i l nonzero) ∙ e))
 
   -- the block of a face between cells with stalks fits
-  pub fits-live : (f : Face) (b : Block) → complexes.JoinsCells dims f → b.rows ≡ slice_index stalks f.t
+  pub fits-live : (f : Face) (b : Block) → JoinsCells dims f → b.rows ≡ slice_index stalks f.t
       → b.cols ≡ slice_index stalks f.s → b.rows ≢ 0 → b.cols ≢ 0 → FitsPair live f.s f.t b
   fits-live f b fit rows cols some_rows some_cols =
       let s_stalk : slice_index stalks f.s ≢ 0 = λ e. some_cols (cols ∙ e) in

@@ -9,7 +9,8 @@ use Rattle.cell_complex.specs.declared.face.Face.{Face}
 use Rattle.cell_complex.specs.declared.face.Sign.{Sign}
 use Rattle.cell_complex.specs.declared.face.Sign.TheVariants.{Plus, Minus}
 use Rattle.cell_complex.specs.Complexes.{CellComplex, joins, is_face, sign}
-use Rattle.dense_blocks.specs.Field.{Ops, IsField}
+use Rattle.dense_blocks.specs.Field.{Ops}
+use Rattle.dense_blocks.specs.FieldLaws.{IsField}
 use Rattle.dense_blocks.specs.Vectors.{zeros, plus, negative}
 use Rattle.dense_blocks.specs.Matrices.{image_of, product}
 use Rattle.dense_blocks.specs.declared.block.Block.{Block}

@@ -4,14 +4,17 @@ use Rattle.std.proofs.Common.{subst, arith}
 use Rattle.std.proofs.Math.Nat.{zero-mul, mul-zero}
 use Rattle.std.proofs.lemmas.Option.{slice_get_read}
 use Rattle.cell_complex.specs.declared.face.Face.{Face}
-use Rattle.cell_complex.specs.Complexes.{IsComplex}
-use Rattle.dense_blocks.specs.Field.{Ops, IsField}
+use Rattle.cell_complex.specs.Invariants.{IsComplex}
+use Rattle.dense_blocks.specs.Field.{Ops}
+use Rattle.dense_blocks.specs.FieldLaws.{IsField}
 use Rattle.dense_blocks.specs.Vectors.{AllScalars}
-use Rattle.dense_blocks.specs.Blocks.{matrix_of, IsBlock}
+use Rattle.dense_blocks.specs.Blocks.{matrix_of}
+use Rattle.dense_blocks.specs.BlockFacts.{IsBlock}
 use Rattle.dense_blocks.specs.declared.block.Block.{Block}
 use Rattle.dense_blocks.proofs.BlockLaws.{block-matrix}
 use Rattle.square_check.proofs.Placed.{face-fits, all-at}
-use Rattle.sheaf_data.specs.Sheaves.{SheafData, IsDraft}
+use Rattle.sheaf_data.specs.Sheaves.{SheafData}
+use Rattle.sheaf_data.specs.Drafts.{IsDraft}
 use Rattle.sheaf_data.specs.Betti.{numbered_cells, signed_matrix}
 use Rattle.block_sparse.specs.StoredBlocks.{FitsPair}
 use Rattle.block_sparse.specs.Grids.{as_block}

@@ -10,12 +10,15 @@ use Rattle.std.proofs.lemmas.List.{get_or-map}
 use Rattle.std.proofs.lemmas.List.Elements.{All-head, All-tail, All-map, All-filter}
 use Rattle.std.proofs.lemmas.List.FromFn.{length-range_with_len, get_or-range_with_len}
 use Rattle.cell_complex.specs.declared.face.Face.{Face}
-use Rattle.cell_complex.specs.Complexes.{CellComplex, IsComplex, joins, is_face, sign}
+use Rattle.cell_complex.specs.Complexes.{CellComplex, joins, is_face, sign}
+use Rattle.cell_complex.specs.Invariants.{IsComplex}
 use Rattle.cell_complex.specs.Complexes as complexes
 use Rattle.cell_complex.proofs.Callers.{incident_from_face}
-use Rattle.dense_blocks.specs.Field.{Ops, IsField}
+use Rattle.dense_blocks.specs.Field.{Ops}
+use Rattle.dense_blocks.specs.FieldLaws.{IsField}
 use Rattle.dense_blocks.specs.Vectors.{IsVector, zeros}
-use Rattle.dense_blocks.specs.Matrices.{image_of, zero_matrix}
+use Rattle.dense_blocks.specs.Matrices.{image_of}
+use Rattle.dense_blocks.specs.MatrixFacts.{zero_matrix}
 use Rattle.dense_blocks.specs.Blocks.{matrix_of}
 use Rattle.dense_blocks.specs.declared.block.Block.{Block}
 use Rattle.dense_blocks.proofs.VectorLaws.{dot-nil}

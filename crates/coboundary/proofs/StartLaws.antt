@@ -6,7 +6,7 @@ use Rattle.std.specs.Prelude.{◌==◌, if◌then◌else◌}
 use Rattle.std.specs.List.{list_all}
 use Rattle.std.proofs.lemmas.List.{take_all}
 use Rattle.dense_blocks.specs.Vectors.{zeros}
-use Rattle.dense_blocks.specs.Matrices.{zero_matrix}
+use Rattle.dense_blocks.specs.MatrixFacts.{zero_matrix}
 use Rattle.dense_blocks.proofs.Shapes.{Matrix}
 use Rattle.dense_blocks.proofs.MatrixLaws.{no-rows, no-columns}
 use Rattle.square_check.specs.Squares.{restriction}
@@ -14,8 +14,9 @@ use Rattle.std.specs.Option.{option_map, option_and_then}
 use Rattle.std.proofs.lemmas.Bool.{and_parts, eqb-true}
 use Rattle.std.proofs.lemmas.Option.{get_or_from_slice_get, slice_get_within}
 use Rattle.cell_complex.specs.declared.face.Face.{Face}
-use Rattle.cell_complex.specs.Complexes.{CellComplex, AreApart, joins}
-use Rattle.cell_complex.specs.Verdicts.{with_first_faces}
+use Rattle.cell_complex.specs.Complexes.{CellComplex, joins}
+use Rattle.cell_complex.specs.Invariants.{AreApart}
+use Rattle.cell_complex.specs.Builds.{with_first_faces}
 use Rattle.dense_blocks.specs.Field.{Ops}
 use Rattle.dense_blocks.specs.Blocks.{matrix_of}
 use Rattle.dense_blocks.specs.declared.block.Block.{Block}
@@ -174,7 +175,8 @@ module _ (K : Ops) (c : CellComplex) (blocks : List Block) (n : ℕ) (f : Face) 
   pub first-put-empty : as_block (signed_matrix K f.sign (matrix_of b)) ≡ None → AreFirstPut K c blocks (n + 1) stored
   first-put-empty empty = first-put-more stored (λ s t. go s t (joins s t f) refl)
     where
-      go : (s t : ℕ) (x : Bool) → joins s t f ≡ x → stored s t ≡ cond x (as_block (signed_matrix K f.sign (matrix_of b)))
+      go : (s t : ℕ) (x : Bool) → joins s t f ≡ x
+          → stored s t ≡ cond x (as_block (signed_matrix K f.sign (matrix_of b)))
           (stored s t)
       go s t true e =
           let p = and_parts (nat_eq s f.s) (nat_eq t f.t) e in

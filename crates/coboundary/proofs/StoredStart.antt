@@ -1,9 +1,11 @@
 -- The start complex, stored: what stands at each pair of cells is what was put there.
 use Rattle.std.proofs.Common.{◌≡◌, ℕ, false, List, Option, Some, None, refl, ap, ◌∙◌}
 use Rattle.std.specs.Option.{option_and_then}
-use Rattle.cell_complex.specs.Complexes.{CellComplex, IsComplex}
-use Rattle.dense_blocks.specs.Field.{Ops, IsField}
-use Rattle.dense_blocks.specs.Matrices.{zero_matrix}
+use Rattle.cell_complex.specs.Complexes.{CellComplex}
+use Rattle.cell_complex.specs.Invariants.{IsComplex}
+use Rattle.dense_blocks.specs.Field.{Ops}
+use Rattle.dense_blocks.specs.FieldLaws.{IsField}
+use Rattle.dense_blocks.specs.MatrixFacts.{zero_matrix}
 use Rattle.dense_blocks.specs.declared.block.Block.{Block}
 use Rattle.dense_blocks.proofs.Shapes.{Matrix, to_matrix}
 use Rattle.block_complexes.specs.BlockComplexes.{size_of}

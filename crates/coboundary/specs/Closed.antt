@@ -1,9 +1,12 @@
 -- The coboundary of a coboundary of a sheaf is zero.
 use Rattle.std.specs.Prelude.{ℕ, List}
-use Rattle.cell_complex.specs.Complexes.{CellComplex, IsComplex}
-use Rattle.dense_blocks.specs.Field.{Ops, IsField}
+use Rattle.cell_complex.specs.Complexes.{CellComplex}
+use Rattle.cell_complex.specs.Invariants.{IsComplex}
+use Rattle.dense_blocks.specs.Field.{Ops}
+use Rattle.dense_blocks.specs.FieldLaws.{IsField}
 use Rattle.dense_blocks.specs.declared.block.Block.{Block}
-use Rattle.cochain_vec.specs.Cohomology.{IsCochainComplex, IsCoboundary, IsCocycle}
+use Rattle.cochain_vec.specs.Cohomology.{IsCoboundary, IsCocycle}
+use Rattle.cochain_vec.specs.CochainComplexes.{IsCochainComplex}
 use Rattle.sheaf_data.specs.Sheaves.{IsSheaf}
 use Rattle.sheaf_data.specs.Betti.{cochain_complex_of}
 

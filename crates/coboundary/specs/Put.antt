@@ -2,7 +2,7 @@
 use Rattle.std.specs.Prelude.{◌≡◌, ℕ, false, List, Option, take}
 use Rattle.std.specs.Option.{option_and_then}
 use Rattle.cell_complex.specs.Complexes.{CellComplex}
-use Rattle.cell_complex.specs.Verdicts.{with_first_faces}
+use Rattle.cell_complex.specs.Builds.{with_first_faces}
 use Rattle.dense_blocks.specs.Field.{Ops}
 use Rattle.dense_blocks.specs.declared.block.Block.{Block}
 use Rattle.block_complexes.specs.BlockComplexes.{HaveSameMatrices}

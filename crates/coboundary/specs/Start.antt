@@ -3,7 +3,7 @@ use Rattle.std.specs.Prelude.{â„•, List, Option, Some, None, map, filter, not, â
 use Rattle.std.specs.Option.{option_map, option_and_then}
 use Rattle.cell_complex.specs.Complexes.{CellComplex, sign}
 use Rattle.dense_blocks.specs.Field.{Ops}
-use Rattle.dense_blocks.specs.Matrices.{zero_matrix}
+use Rattle.dense_blocks.specs.MatrixFacts.{zero_matrix}
 use Rattle.dense_blocks.specs.Blocks.{matrix_of}
 use Rattle.dense_blocks.specs.declared.block.Block.{Block}
 use Rattle.cochain_vec.specs.declared.cell.Cell.{Cell}

@@ -1,10 +1,13 @@
 -- The start complex of a sheaf has the cochains and the coboundary of the sheaf.
 use Rattle.std.specs.Prelude.{◌≡◌, ◌↔◌, ℕ, List}
-use Rattle.cell_complex.specs.Complexes.{CellComplex, IsComplex}
-use Rattle.dense_blocks.specs.Field.{Ops, IsField}
+use Rattle.cell_complex.specs.Complexes.{CellComplex}
+use Rattle.cell_complex.specs.Invariants.{IsComplex}
+use Rattle.dense_blocks.specs.Field.{Ops}
+use Rattle.dense_blocks.specs.FieldLaws.{IsField}
 use Rattle.dense_blocks.specs.declared.block.Block.{Block}
 use Rattle.cochain_vec.specs.Complexes.{CellularComplex, coboundary, coordinates}
-use Rattle.cochain_vec.specs.Cohomology.{IsCochainComplex, IsBasis}
+use Rattle.cochain_vec.specs.Cohomology.{IsBasis}
+use Rattle.cochain_vec.specs.CochainComplexes.{IsCochainComplex}
 use Rattle.block_complexes.specs.BlockComplexes.{BlockComplex, IsBlockComplex}
 use Rattle.block_complexes.specs.Cochains.{complex_of}
 use Rattle.sheaf_data.specs.Sheaves.{IsSheaf}

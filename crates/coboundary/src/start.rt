@@ -1,10 +1,11 @@
 ghost use Rattle.std.specs.Prelude.{◌≡◌, ◌<◌, ◌≤◌, ◌+◌, ℕ, None, [], ◌∷◌, ◌++◌};
 ghost use Rattle.std.specs.Prelude.{length, slice_get, slice_index, IfOk, OnOk, OnErr, IfSome};
 ghost use Rattle.dense_blocks.specs.Vectors.{AllScalars};
-ghost use Rattle.dense_blocks.specs.Blocks.{matrix_of, IsBlock};
+ghost use Rattle.dense_blocks.specs.Blocks.{matrix_of};
+ghost use Rattle.dense_blocks.specs.BlockFacts.{IsBlock};
 ghost use Rattle.block_sparse.specs.StoredBlocks.{FitsPair, block_at};
 ghost use Rattle.block_sparse.specs.Lists.{with_block};
-ghost use Rattle.cell_complex.specs.Complexes.{IsComplex};
+ghost use Rattle.cell_complex.specs.Invariants.{IsComplex};
 ghost use Rattle.sheaf_data.specs.Betti.{numbered_cells, signed_matrix};
 ghost use Rattle.coboundary.specs.Start.{with_stalks};
 ghost use Rattle.coboundary.specs.Put.{AreFirstPut, IsStart};

@@ -6,9 +6,11 @@ use Rattle.std.specs.List.{flat_map}
 use Rattle.std.proofs.lemmas.List.{take-map, drop-map}
 use Rattle.std.proofs.lemmas.List.Elements.{All-tail, All-head, All-filter}
 use Rattle.std.proofs.lemmas.Bool.{eqb-true}
-use Rattle.dense_blocks.specs.Field.{Ops, IsField}
+use Rattle.dense_blocks.specs.Field.{Ops}
+use Rattle.dense_blocks.specs.FieldLaws.{IsField}
 use Rattle.dense_blocks.specs.Vectors.{zeros, plus, multiple, combination}
-use Rattle.dense_blocks.specs.Matrices.{image_of, identity}
+use Rattle.dense_blocks.specs.Matrices.{image_of}
+use Rattle.dense_blocks.specs.MatrixFacts.{identity}
 use Rattle.dense_blocks.proofs.Shapes.{Vector, Matrix, vector-size, append-vector}
 use Rattle.dense_blocks.proofs.VectorLaws.{zeros-vector, plus-vector, multiple-vector, plus-append, multiple-append}
 use Rattle.dense_blocks.proofs.VectorLaws.{plus-cross, multiple-plus, multiple-zeros, zeros-plus-zeros, dot-below}
@@ -17,7 +19,8 @@ use Rattle.dense_blocks.proofs.Cutting.{take-plus, drop-plus}
 use Rattle.dense_blocks.proofs.MatrixLaws.{image_of-plus, image_of-multiple, identity-matrix, combination-identity}
 use Rattle.cochain_vec.specs.declared.cell.Cell.{Cell}
 use Rattle.cochain_vec.specs.Complexes.{Arrow, CellularComplex, cells_of, total_size, coordinates, value_at, sum_into}
-use Rattle.cochain_vec.specs.Complexes.{coboundary, RowsFit}
+use Rattle.cochain_vec.specs.Complexes.{coboundary}
+use Rattle.cochain_vec.specs.Shapes.{RowsFit}
 
 -- a vector cut in two
 pub take-vector : (K : Ops) (m n : ℕ) (z : List ℕ) → Vector K (m + n) z → Vector K m (take m z)

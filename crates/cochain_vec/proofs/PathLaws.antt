@@ -7,7 +7,8 @@ use Rattle.std.specs.List.{flat_map}
 use Rattle.std.proofs.lemmas.List.Elements.{All-tail, All-head, All-filter}
 use Rattle.std.proofs.Math.Seq.{take-append_seam, drop-append_seam}
 use Rattle.std.proofs.lemmas.Bool.{eqb-true}
-use Rattle.dense_blocks.specs.Field.{Ops, IsField}
+use Rattle.dense_blocks.specs.Field.{Ops}
+use Rattle.dense_blocks.specs.FieldLaws.{IsField}
 use Rattle.dense_blocks.specs.Vectors.{IsVector, zeros, plus}
 use Rattle.dense_blocks.specs.Matrices.{image_of}
 use Rattle.dense_blocks.proofs.Shapes.{Vector, vector-size, from_vector}
@@ -15,8 +16,10 @@ use Rattle.dense_blocks.proofs.VectorLaws.{zeros-append, zeros-vector, plus-vect
 use Rattle.dense_blocks.proofs.VectorLaws.{zeros-plus-zeros, multiple-zero}
 use Rattle.cochain_vec.specs.declared.cell.Cell.{Cell}
 use Rattle.cochain_vec.specs.Complexes.{Arrow, CellularComplex, cells_of, total_size, coordinates, value_at, sum_into}
-use Rattle.cochain_vec.specs.Complexes.{coboundary, RowsFit}
-use Rattle.cochain_vec.specs.Cohomology.{IsCochainComplex, IsCocycle, IsCoboundary}
+use Rattle.cochain_vec.specs.Complexes.{coboundary}
+use Rattle.cochain_vec.specs.Shapes.{RowsFit}
+use Rattle.cochain_vec.specs.Cohomology.{IsCocycle, IsCoboundary}
+use Rattle.cochain_vec.specs.CochainComplexes.{IsCochainComplex}
 use Rattle.cochain_vec.proofs.CoboundaryLaws.{coboundary-cochain, coboundary-zeros, size_at, RowsInto, image_of-rows}
 use Rattle.cochain_vec.proofs.CoboundaryLaws.{sum_into-vector, sum_into-plus, sum_into-multiple, piece, pieces}
 use Rattle.cochain_vec.proofs.StalklessLaws.{sum_into-none, sum_into-same}

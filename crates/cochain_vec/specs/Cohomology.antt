@@ -4,11 +4,6 @@ use Rattle.dense_blocks.specs.Field.{Ops}
 use Rattle.dense_blocks.specs.Vectors.{IsVector, zeros, plus, combination}
 use Rattle.cochain_vec.specs.Complexes.{CellularComplex, coordinates, IsCochain, coboundary}
 
--- the coboundary of the coboundary of each cochain is the zero cochain
-abbrev pub IsCochainComplex : Ops → CellularComplex → Type 0
-IsCochainComplex K F = (k : ℕ) (z : List ℕ) → IsCochain K F k z → coboundary K F (suc k) (coboundary K F k z)
-    ≡ zeros (coordinates F (suc (suc k)))
-
 -- a cochain whose coboundary is zero
 pub record IsCocycle (K : Ops) (F : CellularComplex) (k : ℕ) (z : List ℕ) : Type 0 where
   pub cochain : IsCochain K F k z

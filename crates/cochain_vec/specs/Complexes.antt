@@ -1,5 +1,5 @@
 -- Cells with coordinates, and matrices from cell to cell: a cellular sheaf, or a block complex.
-use Rattle.std.specs.Prelude.{◌≡◌, ℕ, suc, ◌+◌, List, [], ◌∷◌, length, take, drop, filter, All, ◌==◌, if◌then◌else◌}
+use Rattle.std.specs.Prelude.{ℕ, suc, ◌+◌, List, [], ◌∷◌, take, drop, filter, ◌==◌, if◌then◌else◌}
 use Rattle.std.specs.List.{flat_map}
 use Rattle.cochain_vec.specs.declared.cell.Cell.{Cell}
 use Rattle.dense_blocks.specs.Field.{Ops}
@@ -50,7 +50,3 @@ sum_into K (a ∷ others) value n t =
 -- the coboundary of a cochain of degree k: at each cell t of degree k + 1 the sum over the matrices into t
 abbrev pub coboundary : Ops → CellularComplex → ℕ → List ℕ → List ℕ
 coboundary K F k z = flat_map (λ t. sum_into K F.arrows (value_at (cells_of F k) z) t.size t.cell) (cells_of F (suc k))
-
--- each matrix into a cell has a row for each coordinate of the cell
-abbrev pub RowsFit : CellularComplex → Type 0
-RowsFit F = All (λ t. All (λ a. a.to ≡ t.cell → length a.matrix ≡ t.size) F.arrows) F.cells

@@ -1,3 +1,5 @@
 pub mod Complexes
+pub mod Shapes
 pub mod Cohomology
+pub mod CochainComplexes
 pub mod Stalkless

@@ -1,6 +1,7 @@
 -- What the versions of a legal state are.
 use Rattle.std.specs.Prelude.{List, All}
-use Rattle.dense_blocks.specs.Field.{Ops, IsField}
+use Rattle.dense_blocks.specs.Field.{Ops}
+use Rattle.dense_blocks.specs.FieldLaws.{IsField}
 use Rattle.sheaf_data.specs.Sheaves.{SheafData, IsSheaf}
 use Rattle.sheaf_words.specs.declared.query.Command.{Command}
 use Rattle.sheaf_words.specs.declared.event.Event.{Event}

@@ -5,7 +5,8 @@ use Rattle.std.proofs.lemmas.List.{drop_more, length-take-le, drop_all}
 use Rattle.std.proofs.lemmas.List.Elements.{All-take, All-drop}
 use Rattle.std.specs.List.{refill}
 use borrow.Rule.Slice.PartMut.{post_of}
-use Rattle.dense_blocks.specs.Field.{Ops, IsField}
+use Rattle.dense_blocks.specs.Field.{Ops}
+use Rattle.dense_blocks.specs.FieldLaws.{IsField}
 use Rattle.dense_blocks.specs.Vectors.{AllScalars, zeros, plus, multiple, combination}
 use Rattle.dense_blocks.specs.Matrices.{cut}
 use Rattle.dense_blocks.proofs.Shapes.{Vector, vector_of, vector-size}

@@ -2,11 +2,14 @@
 use Rattle.std.proofs.Common.{◌≡◌, ℕ, ◌+◌, ◌*◌, ◌<◌, List, [], ◌∷◌, ◌++◌, length, take, get_or, sym, ap, ap₂, ◌∙◌}
 use Rattle.std.proofs.Common.{subst, arith}
 use Rattle.std.proofs.lemmas.List.{take_all, take_more, get_or-map, length-map}
-use Rattle.dense_blocks.specs.Field.{Ops, IsField}
+use Rattle.dense_blocks.specs.Field.{Ops}
+use Rattle.dense_blocks.specs.FieldLaws.{IsField}
 use Rattle.dense_blocks.specs.Vectors.{AllScalars, plus, negative, dot, combination}
-use Rattle.dense_blocks.specs.Matrices.{cut, image_of, product, matrix_sum, matrix_negative}
+use Rattle.dense_blocks.specs.Matrices.{cut, image_of, product, matrix_negative}
+use Rattle.dense_blocks.specs.MatrixFacts.{matrix_sum}
 use Rattle.dense_blocks.specs.declared.block.Block.{Block}
-use Rattle.dense_blocks.specs.Blocks.{matrix_of, IsBlock}
+use Rattle.dense_blocks.specs.Blocks.{matrix_of}
+use Rattle.dense_blocks.specs.BlockFacts.{IsBlock}
 use Rattle.dense_blocks.proofs.Shapes.{Vector, Matrix, vector_of, vector-size, vector-scalars, matrix-size, row-vector}
 use Rattle.dense_blocks.proofs.VectorLaws.{plus-vector, negative-vector}
 use Rattle.dense_blocks.proofs.MatrixLaws.{product-matrix, product-row, image_of-vector}

@@ -9,9 +9,10 @@ use Rattle.std.proofs.lemmas.List.{length-map, length-append, length-take-le, ge
 use Rattle.std.proofs.lemmas.List.{get_or_append_left, take-append-le, take_at, take_more, take-map, take_all, drop_all}
 use Rattle.std.proofs.lemmas.List.{append-nil}
 use Rattle.std.proofs.lemmas.List.Elements.{All-nil, All-push, All-head, All-tail, All-take, All-get_or}
-use Rattle.dense_blocks.specs.Field.{Ops, IsField}
+use Rattle.dense_blocks.specs.Field.{Ops}
+use Rattle.dense_blocks.specs.FieldLaws.{IsField}
 use Rattle.dense_blocks.specs.Vectors.{IsVector, zeros, plus, negative, multiple, dot, combination}
-use Rattle.dense_blocks.specs.Matrices.{IsMatrix}
+use Rattle.dense_blocks.specs.MatrixFacts.{IsMatrix}
 use Rattle.dense_blocks.specs.Elimination.{IsPivot, rows, pivot_multiple, pivot_remainder, reduced, parts, PullsBack}
 use Rattle.dense_blocks.specs.Elimination.{Eliminates, ComesFrom}
 use Rattle.dense_blocks.specs.Solutions.{lists, IsDependent, IsDependentCoordinate, IsLeading}

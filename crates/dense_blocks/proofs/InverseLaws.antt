@@ -5,9 +5,11 @@ use Rattle.std.proofs.lemmas.Bool.{cases_lt}
 use Rattle.std.proofs.lemmas.List.{take_at, drop_at, take-append-drop, drop_more, length-map, length-take-le}
 use Rattle.std.proofs.lemmas.List.{get_or-map, get_or-take, get_or-drop, get_or-append-add, length-drop}
 use Rattle.std.proofs.lemmas.List.Elements.{All-get_or}
-use Rattle.dense_blocks.specs.Field.{Ops, IsField}
+use Rattle.dense_blocks.specs.Field.{Ops}
+use Rattle.dense_blocks.specs.FieldLaws.{IsField}
 use Rattle.dense_blocks.specs.Vectors.{zeros, plus, negative, dot}
-use Rattle.dense_blocks.specs.Matrices.{image_of, product, identity, IsInverse}
+use Rattle.dense_blocks.specs.Matrices.{image_of, product}
+use Rattle.dense_blocks.specs.MatrixFacts.{identity, IsInverse}
 use Rattle.dense_blocks.specs.Columns.{Annihilate, unit, StartUnits, HasUnitColumns, HasNoPivot, beside, undoing}
 use Rattle.dense_blocks.specs.Inverses.{InKernel}
 use Rattle.dense_blocks.proofs.ScalarLaws.{zero_below, one_below, zero_add, zero_mul, one_mul, neg_add}

@@ -5,10 +5,13 @@ use Rattle.std.proofs.Common.{length-drop}
 use Rattle.std.proofs.lemmas.List.{take_at, drop-drop, drop-take, map_more, get_or-map, length-map, length-take-le}
 use Rattle.std.proofs.lemmas.List.Elements.{All-get_or}
 use Rattle.std.specs.List.{refill}
-use Rattle.dense_blocks.specs.Field.{Ops, IsField}
+use Rattle.dense_blocks.specs.Field.{Ops}
+use Rattle.dense_blocks.specs.FieldLaws.{IsField}
 use Rattle.dense_blocks.specs.Vectors.{AllScalars, zeros}
-use Rattle.dense_blocks.specs.Matrices.{cut, identity, IsInverse}
-use Rattle.dense_blocks.specs.Blocks.{matrix_of, IsBlock}
+use Rattle.dense_blocks.specs.Matrices.{cut}
+use Rattle.dense_blocks.specs.MatrixFacts.{identity, IsInverse}
+use Rattle.dense_blocks.specs.Blocks.{matrix_of}
+use Rattle.dense_blocks.specs.BlockFacts.{IsBlock}
 use Rattle.dense_blocks.specs.Columns.{beside, undoing, HasUnitColumns, HasNoPivot}
 use Rattle.dense_blocks.specs.Inverses.{IsInverseBlock, InKernel}
 use Rattle.dense_blocks.specs.declared.block.Block.{Block}

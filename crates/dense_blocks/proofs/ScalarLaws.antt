@@ -1,6 +1,7 @@
 -- Laws of scalars that follow from the laws of a field.
 use Rattle.std.proofs.Common.{◌≡◌, ◌≢◌, ℕ, ◌<◌, ◌≤◌, sym, ap, ap₂, ◌∙◌, arith}
-use Rattle.dense_blocks.specs.Field.{Ops, IsField}
+use Rattle.dense_blocks.specs.Field.{Ops}
+use Rattle.dense_blocks.specs.FieldLaws.{IsField}
 
 module _ (K : Ops) (F : IsField K) where
   -- 0 and 1 are scalars

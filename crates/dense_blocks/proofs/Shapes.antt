@@ -3,7 +3,7 @@ use Rattle.std.proofs.Common.{◌≡◌, ℕ, zero, suc, ◌+◌, ◌<◌, List,
 use Rattle.std.proofs.Common.{subst, zero-add, suc-add, arith, suc-le-suc}
 use Rattle.dense_blocks.specs.Field.{Ops}
 use Rattle.dense_blocks.specs.Vectors.{IsVector}
-use Rattle.dense_blocks.specs.Matrices.{IsMatrix}
+use Rattle.dense_blocks.specs.MatrixFacts.{IsMatrix}
 
 -- n scalars, coordinate by coordinate: the form of IsVector that proofs recurse on
 abbrev pub Vector : Ops → ℕ → List ℕ → Type 0

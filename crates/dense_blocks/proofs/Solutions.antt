@@ -3,9 +3,10 @@ use Rattle.std.proofs.Common.{◌≡◌, ◌≢◌, ℕ, zero, suc, ◌<◌, Lis
 use Rattle.std.proofs.Common.{ap₂, ◌∙◌, subst, arith}
 use Rattle.std.proofs.lemmas.List.{length-map, get_or_default}
 use Rattle.std.proofs.lemmas.List.Elements.{All-head, All-tail, All-get_or}
-use Rattle.dense_blocks.specs.Field.{Ops, IsField}
+use Rattle.dense_blocks.specs.Field.{Ops}
+use Rattle.dense_blocks.specs.FieldLaws.{IsField}
 use Rattle.dense_blocks.specs.Vectors.{IsVector, zeros, plus, multiple, dot, combination}
-use Rattle.dense_blocks.specs.Matrices.{IsMatrix}
+use Rattle.dense_blocks.specs.MatrixFacts.{IsMatrix}
 use Rattle.dense_blocks.specs.Elimination.{IsPivot, rows, reduced, parts, PullsBack, Eliminates}
 use Rattle.dense_blocks.specs.Solutions.{lists, Separates}
 use Rattle.dense_blocks.specs.declared.solution.Pivot.{Pivot}

@@ -1,7 +1,8 @@
 -- Laws of spans: what is a combination of a list of vectors.
 use Rattle.std.proofs.Common.{◌≡◌, ℕ, zero, suc, ◌<◌, List, [], ◌∷◌, ◌++◌, length, get_or, sym, ap, ◌∙◌, subst, arith}
 use Rattle.std.proofs.lemmas.List.{length-append}
-use Rattle.dense_blocks.specs.Field.{Ops, IsField}
+use Rattle.dense_blocks.specs.Field.{Ops}
+use Rattle.dense_blocks.specs.FieldLaws.{IsField}
 use Rattle.dense_blocks.specs.Vectors.{zeros, plus, negative, multiple, combination}
 use Rattle.dense_blocks.specs.Spans.{IsCombination}
 use Rattle.dense_blocks.proofs.ScalarLaws.{one_below}

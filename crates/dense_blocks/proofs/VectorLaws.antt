@@ -2,7 +2,8 @@
 -- A law is named by its left side, the outermost word first.
 use Rattle.std.proofs.Common.{◌≡◌, ℕ, zero, suc, ◌+◌, ◌<◌, List, [], ◌∷◌, ◌++◌, map, length, refl, sym, ap, ap₂, ◌∙◌}
 use Rattle.std.proofs.Common.{zero-add, suc-add, append_assoc, arith}
-use Rattle.dense_blocks.specs.Field.{Ops, IsField}
+use Rattle.dense_blocks.specs.Field.{Ops}
+use Rattle.dense_blocks.specs.FieldLaws.{IsField}
 use Rattle.dense_blocks.specs.Vectors.{zeros, plus, negative, multiple, dot, combination}
 use Rattle.dense_blocks.proofs.ScalarLaws.{zero_below, one_below, zero_add, neg_add, neg_zero, neg_neg, neg_of_sum}
 use Rattle.dense_blocks.proofs.ScalarLaws.{add_cross, mul_zero, zero_mul, one_mul, add_mul, neg_mul, mul_neg}

@@ -3,7 +3,7 @@ use Rattle.std.specs.Prelude.{◌≡◌, ◌≢◌, ℕ, zero, suc, ◌+◌, ◌
 use Rattle.std.specs.Prelude.{take, drop, All, slice_index}
 use Rattle.dense_blocks.specs.Field.{Ops}
 use Rattle.dense_blocks.specs.Vectors.{IsVector, zeros, plus, multiple, dot}
-use Rattle.dense_blocks.specs.Matrices.{IsMatrix}
+use Rattle.dense_blocks.specs.MatrixFacts.{IsMatrix}
 
 -- the row less as many times the pivot as the row's entry in the column says
 abbrev pub row_remainder : Ops → ℕ → List ℕ → List ℕ → List ℕ

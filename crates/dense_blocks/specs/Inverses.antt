@@ -2,7 +2,8 @@
 use Rattle.std.specs.Prelude.{◌≡◌, ◌≢◌, ℕ, List}
 use Rattle.dense_blocks.specs.Field.{Ops}
 use Rattle.dense_blocks.specs.Vectors.{AllScalars, IsVector, zeros}
-use Rattle.dense_blocks.specs.Matrices.{image_of, IsInverse}
+use Rattle.dense_blocks.specs.Matrices.{image_of}
+use Rattle.dense_blocks.specs.MatrixFacts.{IsInverse}
 use Rattle.dense_blocks.specs.Blocks.{matrix_of}
 use Rattle.dense_blocks.specs.declared.block.Block.{Block}
 use Rattle.dense_blocks.specs.declared.inverse.Inverse.{Inverse}

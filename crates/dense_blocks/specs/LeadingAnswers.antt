@@ -1,6 +1,7 @@
 -- The leading answers of an equation are unique.
 use Rattle.std.specs.Prelude.{◌≡◌, ℕ, List, length, All}
-use Rattle.dense_blocks.specs.Field.{Ops, IsField}
+use Rattle.dense_blocks.specs.Field.{Ops}
+use Rattle.dense_blocks.specs.FieldLaws.{IsField}
 use Rattle.dense_blocks.specs.Vectors.{AllScalars, IsVector}
 use Rattle.dense_blocks.specs.Solutions.{Combines, Separates}
 

@@ -1,8 +1,11 @@
 pub mod Field
+pub mod FieldLaws
 pub mod Vectors
 pub mod Matrices
+pub mod MatrixFacts
 pub mod Spans
 pub mod Blocks
+pub mod BlockFacts
 pub mod Two
 pub mod Solutions
 pub mod LeadingAnswers

@@ -19,8 +19,10 @@ pub struct Block {
 
 impl Block {
     ghost use Rattle.std.specs.Prelude.{◌<◌, ◌↔◌, [], IsTrue, IfOk, slice_index_or};
-    ghost use Rattle.dense_blocks.specs.Matrices.{cut, identity, zero_matrix};
-    ghost use Rattle.dense_blocks.specs.Blocks.{matrix_of, IsBlock};
+    ghost use Rattle.dense_blocks.specs.Matrices.{cut};
+    ghost use Rattle.dense_blocks.specs.MatrixFacts.{identity, zero_matrix};
+    ghost use Rattle.dense_blocks.specs.Blocks.{matrix_of};
+    ghost use Rattle.dense_blocks.specs.BlockFacts.{IsBlock};
 
     /// The most rows, and the most columns, of a block.
     pub const MOST: u32 = 4096;

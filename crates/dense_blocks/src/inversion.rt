@@ -1,7 +1,9 @@
 ghost use Rattle.std.specs.Prelude.{◌≡◌, ◌+◌, ◌*◌, ◌<◌, ◌≤◌, ◌++◌, length, map, drop, IfOk, OnOk};
 ghost use Rattle.dense_blocks.specs.Vectors.{AllScalars, zeros};
-ghost use Rattle.dense_blocks.specs.Matrices.{cut, identity};
-ghost use Rattle.dense_blocks.specs.Blocks.{matrix_of, IsBlock};
+ghost use Rattle.dense_blocks.specs.Matrices.{cut};
+ghost use Rattle.dense_blocks.specs.MatrixFacts.{identity};
+ghost use Rattle.dense_blocks.specs.Blocks.{matrix_of};
+ghost use Rattle.dense_blocks.specs.BlockFacts.{IsBlock};
 ghost use Rattle.dense_blocks.specs.Columns.{beside, undoing};
 ghost use Rattle.dense_blocks.specs.Inverses.{Inverts};
 

@@ -1,5 +1,6 @@
 ghost use Rattle.std.specs.Prelude.{◌≡◌, ◌≢◌, ◌<◌, ◌↔◌, IsTrue, length};
-ghost use Rattle.dense_blocks.specs.Field.{Ops, IsField};
+ghost use Rattle.dense_blocks.specs.Field.{Ops};
+ghost use Rattle.dense_blocks.specs.FieldLaws.{IsField};
 ghost use Rattle.dense_blocks.specs.Vectors.{AllScalars, plus, multiple, dot};
 
 /// A finite field, whose scalars are the numbers below its order; 0 and 1 are neutral.

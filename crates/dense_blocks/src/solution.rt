@@ -1,6 +1,6 @@
 ghost use Rattle.std.specs.Prelude.{◌≡◌, ◌≢◌, ◌+◌, ◌<◌, length, All, IfOk, OnOk, slice_index};
 ghost use Rattle.dense_blocks.specs.Vectors.{AllScalars, IsVector, combination};
-ghost use Rattle.dense_blocks.specs.Matrices.{IsMatrix};
+ghost use Rattle.dense_blocks.specs.MatrixFacts.{IsMatrix};
 ghost use Rattle.dense_blocks.specs.Solutions.{Combines, IsLeading, Solves, lists};
 ghost use Rattle.dense_blocks.specs.Elimination.{Eliminates, IsPivot, PullsBack, parts, reduced, rows};
 

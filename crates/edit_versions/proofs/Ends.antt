@@ -7,7 +7,8 @@ use Rattle.std.proofs.lemmas.List.Folds.{list_any_at}
 use Rattle.std.proofs.lemmas.List.FromFn.{length-range_with_len, get_or-range_with_len}
 use Rattle.std.proofs.lemmas.Map.Views.{any-filter_same}
 use Rattle.cell_complex.specs.declared.face.Face.{Face}
-use Rattle.cell_complex.specs.Complexes.{CellComplex, IsComplex, joins, all_cells, is_face, faces_of, cofaces_of}
+use Rattle.cell_complex.specs.Complexes.{CellComplex, joins, all_cells, is_face, faces_of}
+use Rattle.cell_complex.specs.Invariants.{IsComplex, cofaces_of}
 use Rattle.cell_complex.proofs.Callers.{incident_from_face, list_any-cofaces_of}
 use Rattle.edit_versions.specs.Edits.{is_end}
 use Rattle.edit_versions.specs.Works.{is_from, is_to}

@@ -8,11 +8,12 @@ use Rattle.std.proofs.lemmas.List.{length-map}
 use Rattle.std.proofs.lemmas.List.Elements.{All-nil, All-push}
 use Rattle.std.proofs.lemmas.List.Folds.{list_any_more, list_any-append}
 use Rattle.cell_complex.specs.declared.face.Face.{Face}
-use Rattle.cell_complex.specs.Complexes.{CellComplex, IsComplex, joins}
+use Rattle.cell_complex.specs.Complexes.{CellComplex, joins}
+use Rattle.cell_complex.specs.Invariants.{IsComplex}
 use Rattle.dense_blocks.specs.declared.block.Block.{Block}
 use Rattle.dense_blocks.specs.Vectors.{zeros}
-use Rattle.dense_blocks.specs.Matrices.{zero_matrix}
-use Rattle.dense_blocks.specs.Blocks.{IsBlock}
+use Rattle.dense_blocks.specs.MatrixFacts.{zero_matrix}
+use Rattle.dense_blocks.specs.BlockFacts.{IsBlock}
 use Rattle.dense_blocks.proofs.Cutting.{flat-zero_matrix}
 use Rattle.dense_blocks.proofs.BlockLaws.{is_block-entries}
 use Rattle.square_check.proofs.Placed.{IsPlaced}

@@ -1,5 +1,5 @@
 ghost use Rattle.std.specs.Prelude.{◌≡◌, ◌≤◌, ℕ, List, None, Some, Ok, length, OnOk, IsErrOf};
-ghost use Rattle.cell_complex.specs.Complexes.{IsComplex};
+ghost use Rattle.cell_complex.specs.Invariants.{IsComplex};
 ghost use Rattle.dense_blocks.specs.declared.block.Block.{Block};
 ghost use Rattle.sheaf_words.specs.declared.edit.Cause.{Cause};
 ghost use Rattle.edit_versions.specs.Edits.{set_fault, sets_made};

@@ -1,6 +1,7 @@
 ghost use Rattle.std.specs.Prelude.{◌≡◌, ℕ, ◌<◌, length, nat_lt};
 ghost use Rattle.std.specs.List.{list_all};
-ghost use Rattle.cell_complex.specs.Complexes.{IsComplex, is_face};
+ghost use Rattle.cell_complex.specs.Complexes.{is_face};
+ghost use Rattle.cell_complex.specs.Invariants.{IsComplex};
 ghost use Rattle.sheaf_words.specs.declared.edit.Set.TheVariants.{Stalk, Restrict};
 ghost use Rattle.edit_versions.specs.Edits.{set_fault};
 

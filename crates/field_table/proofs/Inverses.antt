@@ -1,7 +1,8 @@
 -- The list of the inverses, entry by entry.
 use Rattle.std.proofs.Common.{◌≡◌, ◌≢◌, ℕ, ◌-◌, ◌<◌, length, get_or, arith}
 use Rattle.std.proofs.lemmas.List.FromFn.{length-map-range_with_len, get_or-map-range_with_len}
-use Rattle.field_table.specs.Modular.{inverse, inverses}
+use Rattle.field_table.specs.Modular.{inverse}
+use Rattle.field_table.specs.ModularFacts.{inverses}
 
 -- each of 1, 2, .. up to q - 1 has one
 pub length-inverses : (q : ℕ) → length (inverses q) ≡ q - 1

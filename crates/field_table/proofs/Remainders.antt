@@ -1,13 +1,16 @@
 -- Sums and products with one remainder each, or one for all of them.
-use Rattle.std.proofs.Common.{◌≡◌, ℕ, zero, suc, ◌+◌, ◌*◌, ◌%◌, ◌<◌, ◌≤◌, List, [], ◌∷◌, ◌++◌, length, take, drop, get_or}
+use Rattle.std.proofs.Common.{◌≡◌, ℕ, zero, suc, ◌+◌, ◌*◌, ◌%◌, ◌<◌, ◌≤◌, List, [], ◌∷◌, ◌++◌, length, take, drop}
+use Rattle.std.proofs.Common.{get_or}
 use Rattle.std.proofs.Common.{sym, ap, ap₂, ◌∙◌, add-zero, arith}
 use Rattle.std.proofs.lemmas.List.{drop_more, drop_all, take-append-drop}
 use Rattle.std.proofs.lemmas.Nat.{mul-le, mod_below}
 use Rattle.std.proofs.Math.Nat.{add-mod, add_assoc, zero-mod}
-use Rattle.dense_blocks.specs.Field.{Ops, IsField}
+use Rattle.dense_blocks.specs.Field.{Ops}
+use Rattle.dense_blocks.specs.FieldLaws.{IsField}
 use Rattle.dense_blocks.specs.Vectors.{AllScalars, plus, multiple, dot}
 use Rattle.dense_blocks.proofs.VectorLaws.{dot-append}
-use Rattle.field_table.specs.Modular.{modulo, whole_dot}
+use Rattle.field_table.specs.Modular.{modulo}
+use Rattle.field_table.specs.ModularFacts.{whole_dot}
 
 -- remainders are scalars
 pub plus-scalars : (q : ℕ) → 0 < q → (u v : List ℕ) → AllScalars (modulo q) (plus (modulo q) u v)
@@ -46,7 +49,8 @@ whole_dot-all u v i total l e h =
 
 -- the products of i + 1 pairs of bytes
 pub products-small : (i total a b : ℕ) → total ≤ i * 65025 → a < 256 → b < 256 → total + a * b ≤ (i + 1) * 65025
-products-small i total a b h la lb = let p : a * b ≤ 65025 = mul-le a b 255 255 (omega arith) (omega arith) in omega arith
+products-small i total a b h la lb = let p : a * b ≤ 65025 = mul-le a b 255 255 (omega arith) (omega arith) in
+    omega arith
 
 -- the products of the first n pairs, and of the later ones
 pub dot-parts : (K : Ops) → IsField K → (n : ℕ) (u v u_front v_front u_back v_back : List ℕ) → u_front ≡ take n u

@@ -10,7 +10,7 @@ use Rattle.std.proofs.lemmas.List.Sums.{AllPass-from_list_all}
 use Rattle.std.proofs.lemmas.Nat.{mod_below, mul-mod_first, mul-mod_second}
 use Rattle.std.proofs.Math.Nat.{mul_assoc, mul_comm, mul-add, mul-one, add_assoc, add_comm, add-mod, add-mod-mod}
 use Rattle.std.proofs.Math.Nat.{mod-add-mod, mod-eq_of_lt, mod_self}
-use Rattle.dense_blocks.specs.Field.{IsField}
+use Rattle.dense_blocks.specs.FieldLaws.{IsField}
 use Rattle.field_table.specs.Modular.{inverse, modulo}
 
 -- whether a and what is found as its inverse multiply to 1

@@ -1,10 +1,10 @@
 -- The fields of the table.
-use Rattle.std.specs.Prelude.{◌≡◌, ℕ, List, [], ◌∷◌}
+use Rattle.std.specs.Prelude.{ℕ, List, [], ◌∷◌}
 use Rattle.dense_blocks.specs.Field.{Ops}
 use Rattle.field_table.specs.declared.field.Field.{Field}
 use Rattle.field_table.specs.declared.field.Field.TheVariants.{Two, Three, Five, Seven, Eleven, Thirteen, Seventeen}
 use Rattle.field_table.specs.declared.field.Field.TheVariants.{Nineteen, TwentyThree, TwentyNine, ThirtyOne}
-use Rattle.field_table.specs.Modular.{modulo, IsModular}
+use Rattle.field_table.specs.Modular.{modulo}
 
 -- the orders of the table
 abbrev pub orders : List ℕ
@@ -27,8 +27,3 @@ order_of ThirtyOne = 31
 -- the operations of a field
 abbrev pub ops_of : Field → Ops
 ops_of f = modulo (order_of f)
-
--- K is the field of this order; the orders of the table are primes, so on its scalars it is arithmetic modulo the order
-pub record IsFieldOfOrder (order : ℕ) (K : Ops) : Type 0 where
-  pub order_is : K.order ≡ order
-  pub operations_are : IsModular order K

@@ -1,6 +1,6 @@
 -- The laws of the fields of the table.
 use Rattle.std.proofs.Common.{refl, lit≤}
-use Rattle.dense_blocks.specs.Field.{IsField}
+use Rattle.dense_blocks.specs.FieldLaws.{IsField}
 use Rattle.field_table.specs.declared.field.Field.{Field}
 use Rattle.field_table.specs.declared.field.Field.TheVariants.{Two, Three, Five, Seven, Eleven, Thirteen, Seventeen}
 use Rattle.field_table.specs.declared.field.Field.TheVariants.{Nineteen, TwentyThree, TwentyNine, ThirtyOne}

@@ -1,6 +1,7 @@
 ghost use Rattle.std.specs.Prelude.{◌≡◌, ◌<◌, ◌↔◌, ◌%◌, IsSome, IfSome, Contains};
-ghost use Rattle.field_table.specs.Modular.{inverses};
-ghost use Rattle.field_table.specs.Table.{ops_of, order_of, orders, IsFieldOfOrder};
+ghost use Rattle.field_table.specs.ModularFacts.{inverses};
+ghost use Rattle.field_table.specs.Table.{ops_of, order_of, orders};
+ghost use Rattle.field_table.specs.Orders.{IsFieldOfOrder};
 
 use crate::kernels::{MOST_PRODUCTS, add_scaled, scale, sum_of_products};
 use dense_blocks::Scalars;
@@ -66,7 +67,7 @@ impl Field {
     }
 
     /// The inverses of 1, 2, .. up to the last scalar.
-    #[tactic(auto, unfolding(crate::specs::Modular::inverse, crate::specs::Modular::inverses))]
+    #[tactic(auto, unfolding(crate::specs::Modular::inverse, crate::specs::ModularFacts::inverses))]
     fn inverses(self) -> &'static [u8]
         ensures { result.now ≡ inverses (order_of self) }
     {

@@ -1,11 +1,13 @@
 ghost use Rattle.std.specs.Prelude.{◌≡◌, ◌≤◌, length};
 ghost use Rattle.dense_blocks.specs.Vectors.{AllScalars, plus, multiple};
-ghost use Rattle.field_table.specs.Modular.{modulo, whole_dot};
+ghost use Rattle.field_table.specs.Modular.{modulo};
+ghost use Rattle.field_table.specs.ModularFacts.{whole_dot};
 
 /// The sum of so many products of bytes is below 2^32.
 pub(crate) const MOST_PRODUCTS: usize = 65_536;
 
-/// Adds `k` times the row to the target, modulo `Q`: with a remainder by a constant the loop takes several entries at once.
+/// Adds `k` times the row to the target, modulo `Q`: with a remainder by a constant the loop takes several entries at
+/// once.
 pub(crate) fn add_scaled<const Q: u16>(target: &mut [u8], k: u8, row: &[u8])
     requires sizes { length row.now ≡ length target.old }
     requires low { 2 ≤ Q }

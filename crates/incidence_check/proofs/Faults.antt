@@ -6,14 +6,16 @@ use Rattle.std.specs.List.{list_any, filter_map, flat_map}
 use Rattle.std.proofs.lemmas.Bool.{true≢false, cond-false, eq-eqb, eqb-true, and_parts, or_parts, or_cases}
 use Rattle.std.proofs.lemmas.List.Elements.{All-head, filter_passes}
 use Rattle.std.proofs.lemmas.List.Folds.{list_any_more}
-use Rattle.cell_complex.specs.Complexes.{CellComplex, IsComplex, all_cells, is_face, sign, faces_of, cofaces_of}
+use Rattle.cell_complex.specs.Complexes.{CellComplex, all_cells, is_face, sign, faces_of}
+use Rattle.cell_complex.specs.Invariants.{IsComplex, cofaces_of}
 use Rattle.cell_complex.specs.Complexes.{middles}
 use Rattle.cell_complex.proofs.Callers.{AreIncident, incident_from_face, middles_by_cofaces, list_any-cofaces_of}
 use Rattle.incidence_check.specs.declared.incidence.Incidence.{Incidence}
 use Rattle.incidence_check.specs.declared.incidence.Incidence.TheVariants.{EdgeEnds, Signs}
 use Rattle.incidence_check.specs.Incidences.{are_opposite, are_opposite_pair, sign_product, HasOppositeEnds}
 use Rattle.incidence_check.specs.Incidences.{HasOppositeMiddles, HasRegularIncidences, edge_fault, middles_fault}
-use Rattle.incidence_check.specs.Incidences.{pair_fault, pair_faults, faults, AnswersFirst}
+use Rattle.incidence_check.specs.Incidences.{pair_fault, pair_faults, faults}
+use Rattle.incidence_check.specs.Answers.{AnswersFirst}
 use Rattle.incidence_check.specs.Reach.{reaches}
 use Rattle.incidence_check.proofs.Firsts.{filter_map-none, none_from_filter_map, flat_map-none, none_from_flat_map}
 use Rattle.incidence_check.proofs.Firsts.{none_from_append}

@@ -1,6 +1,6 @@
 -- Regular incidences.
 use Rattle.std.specs.Prelude.{◌≡◌, ℕ, ◌+◌, ◌<◌, Bool, true, false, IsTrue, not, List, [], ◌∷◌, ◌++◌, Option, None, Some}
-use Rattle.std.specs.Prelude.{length, slice_index, slice_get, Result, MatchResult, ◌⊎◌, ◌==◌, ◌&&◌, if◌then◌else◌}
+use Rattle.std.specs.Prelude.{length, slice_index, ◌⊎◌, ◌==◌, ◌&&◌, if◌then◌else◌}
 use Rattle.std.specs.List.{filter_map, flat_map}
 use Rattle.std.specs.Option.{option_map, option_and_then}
 use Rattle.cell_complex.specs.declared.face.Sign.{Sign}
@@ -74,7 +74,3 @@ pair_faults c s = filter_map (pair_fault c s) (all_cells c)
 -- all faults: those of the edges in order, then those of the pairs of cells in order
 abbrev pub faults : CellComplex → List Incidence
 faults c = filter_map (edge_fault c) (all_cells c) ++ flat_map (pair_faults c) (all_cells c)
-
--- the answer is the first of these, and ok where there are none
-abbrev pub AnswersFirst : List Incidence → Result (Unit {0}) Incidence → Type 0
-AnswersFirst faults r = MatchResult r (λ _. faults ≡ []) (λ fault. slice_get faults 0 ≡ Some fault)

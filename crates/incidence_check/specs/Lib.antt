@@ -1,2 +1,3 @@
 pub mod Incidences
+pub mod Answers
 pub mod Reach

@@ -1,7 +1,7 @@
 ghost use Rattle.std.specs.Prelude.{◌≡◌, ◌<◌, length, nat_eq};
 ghost use Rattle.std.specs.List.{list_any};
 ghost use Rattle.std.specs.List.Sorted.{IsNonDecreasing};
-ghost use Rattle.cell_complex.specs.Complexes.{IsComplex, cofaces_of};
+ghost use Rattle.cell_complex.specs.Invariants.{IsComplex, cofaces_of};
 ghost use Rattle.incidence_check.specs.Reach.{IsLeastFrom, lesser, reaches};
 
 use cell_complex::Complex;

@@ -1,5 +1,5 @@
 -- Counts of faults, and what an answer says of them.
-use Rattle.std.specs.Prelude.{ℕ, ◌+◌, ◌-◌, ◌^◌, ◌≤◌, min, Result, Ok, Err, OnErr}
+use Rattle.std.specs.Prelude.{ℕ, ◌+◌, ◌-◌, ◌^◌, ◌≤◌, min, Result, OnErr}
 
 -- the count after this one in a u64, whose last value stays
 abbrev pub next_count : ℕ → ℕ
@@ -13,13 +13,3 @@ Rose before now = next_count before ≤ now
 pub record HasCause {T E : Type 0} (before now : ℕ) (result : Result T E) : Type 0 where
   pub later : before ≤ now
   pub failed : OnErr result (Rose before now)
-
--- the count after a call by which just the errors are counted
-abbrev pub count_after : {T E : Type 0} → Result T E → ℕ → ℕ
-count_after (Ok _) before = before
-count_after (Err _) before = next_count before
-
--- a reader or a writer, and its count of faults
-pub record Counted (A : Type 0) : Type 0 where
-  pub inner : A
-  pub faults : ℕ

@@ -1,6 +1,7 @@
 ghost use Rattle.std.specs.Io.KnownBytes.{Keeps, ReadConsumes, WriteAppends};
 ghost use Rattle.std.specs.Prelude.{◌≡◌, ℕ, ◌<◌, ◌≤◌, length, IfOk};
-ghost use Rattle.io_edge.specs.Faults.{HasCause, count_after};
+ghost use Rattle.io_edge.specs.Faults.{HasCause};
+ghost use Rattle.io_edge.specs.Counts.{count_after};
 
 use crate::edge::{Failed, Sink, Source};
 use std::io::{Read, Write};
@@ -16,7 +17,7 @@ pub struct StdSource<R> {
 }
 
 impl<R> Model for StdSource<R> {
-    ghost use Rattle.io_edge.specs.Faults.{Counted};
+    ghost use Rattle.io_edge.specs.Counts.{Counted};
 
     ghost Value = { Counted R };
 
@@ -64,7 +65,7 @@ pub struct StdSink<W> {
 }
 
 impl<W> Model for StdSink<W> {
-    ghost use Rattle.io_edge.specs.Faults.{Counted};
+    ghost use Rattle.io_edge.specs.Counts.{Counted};
 
     ghost Value = { Counted W };
 

@@ -1,4 +1,5 @@
-ghost use Rattle.std.specs.Prelude.{◌≡◌, ◌≢◌, ℕ, ◌<◌, ◌≤◌, ◌↔◌, List, [], Option, None, length, take, IfOk, IfSome, OnOk, OnErr};
+ghost use Rattle.std.specs.Prelude.{◌≡◌, ◌≢◌, ℕ, ◌<◌, ◌≤◌, ◌↔◌, List, [], Option, None, length, take, IfOk, IfSome};
+ghost use Rattle.std.specs.Prelude.{OnOk, OnErr};
 ghost use Rattle.io_edge.specs.Faults.{HasCause, next_count};
 ghost use Rattle.io_edge.specs.Bytes.{Gave, Took, IsFlushed};
 

@@ -1,4 +1,5 @@
-ghost use Rattle.std.specs.Prelude.{◌≡◌, ◌≢◌, ◌==◌, ◌&&◌, ◌+◌, ℕ, true, [], None, Some, if◌then◌else◌, length, is_some, option_copied, option_map, unwrap_or, IfOk, MatchOption};
+ghost use Rattle.std.specs.Prelude.{◌≡◌, ◌≢◌, ◌==◌, ◌&&◌, ◌+◌, ℕ, true, [], None, Some, if◌then◌else◌, length, is_some};
+ghost use Rattle.std.specs.Prelude.{option_copied, option_map, unwrap_or, IfOk, MatchOption};
 ghost use Rattle.rising_lists.specs.Rising.{IsRising, has, keys, look, entry, line_of, entry_of};
 ghost use Rattle.open_columns.specs.Open.{FirstFrom, FirstPair, NoneBelow, is_open, first_of, with_mark_flag};
 

@@ -3,16 +3,18 @@ use Rattle.std.proofs.Common.{◌≡◌, ℕ, zero, suc, List, [], ◌++◌, len
 use Rattle.std.proofs.Common.{subst, ◌+◌}
 use Rattle.std.proofs.lemmas.List.{length-map, length-append, take-append-drop}
 use Rattle.std.proofs.lemmas.List.Elements.{All-contains, All-map}
-use Rattle.dense_blocks.specs.Field.{Ops, IsField}
+use Rattle.dense_blocks.specs.Field.{Ops}
+use Rattle.dense_blocks.specs.FieldLaws.{IsField}
 use Rattle.dense_blocks.specs.Vectors.{IsVector, plus, combination}
-use Rattle.dense_blocks.specs.Matrices.{identity}
+use Rattle.dense_blocks.specs.MatrixFacts.{identity}
 use Rattle.dense_blocks.specs.Spans.{IsCombination}
 use Rattle.dense_blocks.proofs.Shapes.{Vector, Matrix, to_vector, from_vector, vector-size, matrix-size, matrix_of_rows}
 use Rattle.dense_blocks.proofs.Shapes.{append-matrix}
 use Rattle.dense_blocks.proofs.VectorLaws.{combination-append, combination-nil, plus-comm}
 use Rattle.dense_blocks.proofs.MatrixLaws.{identity-matrix}
 use Rattle.dense_blocks.proofs.SpanLaws.{coefficients-vector, combines, spans-through}
-use Rattle.cochain_vec.specs.Complexes.{CellularComplex, coordinates, coboundary, RowsFit}
+use Rattle.cochain_vec.specs.Complexes.{CellularComplex, coordinates, coboundary}
+use Rattle.cochain_vec.specs.Shapes.{RowsFit}
 use Rattle.cochain_vec.specs.Cohomology.{IsCocycle, IsCoboundary, IsRepresented, IsBasis}
 use Rattle.cochain_vec.proofs.CoboundaryLaws.{take-vector, drop-vector, coboundary-columns, coboundary-cochain}
 use Rattle.plain_bases.specs.Relations.{IsRelation, SpansRelations}

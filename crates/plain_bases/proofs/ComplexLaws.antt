@@ -3,14 +3,16 @@ use Rattle.std.proofs.Common.{◌≡◌, ℕ, ◌+◌, ◌≤◌, Vec, Global, B
 use Rattle.std.proofs.Common.{get_or, All, sym, ap, ◌∙◌, subst, arith, add-one}
 use Rattle.std.specs.Prelude.{◌==◌}
 use Rattle.std.proofs.lemmas.List.Elements.{All-filter, All-map}
-use Rattle.dense_blocks.specs.Field.{Ops, IsField}
-use Rattle.dense_blocks.specs.Matrices.{IsMatrix}
+use Rattle.dense_blocks.specs.Field.{Ops}
+use Rattle.dense_blocks.specs.FieldLaws.{IsField}
+use Rattle.dense_blocks.specs.MatrixFacts.{IsMatrix}
 use Rattle.dense_blocks.proofs.Shapes.{Matrix, from_matrix}
 use Rattle.dense_blocks.specs.Solutions.{lists}
 use Rattle.dense_blocks.proofs.Cutting.{cut-size}
 use Rattle.cochain_vec.specs.declared.cell.Cell.{Cell}
 use Rattle.cochain_vec.specs.Complexes as complexes
-use Rattle.cochain_vec.specs.Complexes.{CellularComplex, total_size, coordinates, RowsFit}
+use Rattle.cochain_vec.specs.Complexes.{CellularComplex, total_size, coordinates}
+use Rattle.cochain_vec.specs.Shapes.{RowsFit}
 use Rattle.plain_bases.specs.declared.complex.Arrow.{Arrow}
 use Rattle.plain_bases.specs.declared.complex.Complex.{Complex}
 use Rattle.plain_bases.specs.View.{arrow_of, plain_complex_of, FitsCells, IsComplexOver}

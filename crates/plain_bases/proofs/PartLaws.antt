@@ -3,7 +3,8 @@ use Rattle.std.proofs.Common.{◌≡◌, ℕ, zero, suc, ◌+◌, ◌<◌, ◌�
 use Rattle.std.proofs.Common.{cond, eqb, true, false, refl, sym, ap, ◌∙◌, subst, arith, add-zero, zero-add}
 use Rattle.std.proofs.lemmas.List.{map-append, append-nil, take_more}
 use Rattle.std.proofs.lemmas.Grind.{flat_map-append, common_steps}
-use Rattle.dense_blocks.specs.Field.{Ops, IsField}
+use Rattle.dense_blocks.specs.Field.{Ops}
+use Rattle.dense_blocks.specs.FieldLaws.{IsField}
 use Rattle.dense_blocks.specs.Vectors.{AllScalars, IsVector, zeros, plus}
 use Rattle.dense_blocks.specs.Matrices.{image_of}
 use Rattle.dense_blocks.proofs.Shapes.{vector_of, vector-scalars, append-vector, to_vector, from_vector}

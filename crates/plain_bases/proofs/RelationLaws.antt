@@ -5,7 +5,8 @@ use Rattle.std.proofs.lemmas.List.{length-append, length-drop, append-nil, lengt
 use Rattle.std.proofs.Math.Seq.{take-append_seam, take-append-add, take-length, drop-cons}
 use Rattle.std.proofs.lemmas.List.Elements.{All-push}
 use Rattle.std.proofs.lemmas.Bool.{cases_eq}
-use Rattle.dense_blocks.specs.Field.{Ops, IsField}
+use Rattle.dense_blocks.specs.Field.{Ops}
+use Rattle.dense_blocks.specs.FieldLaws.{IsField}
 use Rattle.dense_blocks.specs.Vectors.{IsVector, zeros, plus, negative, multiple, combination}
 use Rattle.dense_blocks.specs.Spans.{IsCombination}
 use Rattle.dense_blocks.proofs.ScalarLaws.{zero_add, mul_neg, neg_neg}

@@ -2,9 +2,10 @@
 use Rattle.std.proofs.Common.{◌≡◌, ℕ, zero, suc, ◌+◌, ◌<◌, List, [], ◌∷◌, ◌++◌, length, map, take, get_or, set, All}
 use Rattle.std.proofs.Common.{Vec, Global, refl, sym, ap, ◌∙◌, subst, arith}
 use Rattle.std.proofs.lemmas.List.{length-map, get_or-map, map_more, take_all}
-use Rattle.dense_blocks.specs.Field.{Ops, IsField}
+use Rattle.dense_blocks.specs.Field.{Ops}
+use Rattle.dense_blocks.specs.FieldLaws.{IsField}
 use Rattle.dense_blocks.specs.Vectors.{IsVector, zeros}
-use Rattle.dense_blocks.specs.Matrices.{IsMatrix, identity}
+use Rattle.dense_blocks.specs.MatrixFacts.{IsMatrix, identity}
 use Rattle.dense_blocks.specs.Solutions.{lists}
 use Rattle.dense_blocks.proofs.Shapes.{row-vector, from_vector}
 use Rattle.dense_blocks.proofs.Cutting.{sized-size, sized-identity}

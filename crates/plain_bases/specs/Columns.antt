@@ -1,7 +1,7 @@
 -- The columns of a coboundary, and the columns of the coboundary into a degree.
 use Rattle.std.specs.Prelude.{ℕ, zero, suc, List, [], map}
 use Rattle.dense_blocks.specs.Field.{Ops}
-use Rattle.dense_blocks.specs.Matrices.{identity}
+use Rattle.dense_blocks.specs.MatrixFacts.{identity}
 use Rattle.cochain_vec.specs.Complexes.{CellularComplex, coordinates, coboundary}
 
 -- the coboundaries of the unit cochains of degree k

@@ -2,7 +2,7 @@
 use Rattle.std.specs.Prelude.{ℕ, List, map}
 use Rattle.std.specs.List.{flat_map}
 use Rattle.dense_blocks.specs.Field.{Ops}
-use Rattle.dense_blocks.specs.Matrices.{identity}
+use Rattle.dense_blocks.specs.MatrixFacts.{identity}
 use Rattle.cochain_vec.specs.declared.cell.Cell.{Cell}
 use Rattle.cochain_vec.specs.Complexes.{total_size, value_at, sum_into}
 use Rattle.plain_bases.specs.declared.complex.Arrow.{Arrow}

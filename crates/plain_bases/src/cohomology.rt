@@ -1,5 +1,5 @@
 ghost use Rattle.std.specs.Prelude.{◌≡◌, ◌==◌, ℕ, ◌+◌, ◌^◌, ◌<◌, ◌≤◌, length, filter, IfOk};
-ghost use Rattle.dense_blocks.specs.Matrices.{IsMatrix};
+ghost use Rattle.dense_blocks.specs.MatrixFacts.{IsMatrix};
 ghost use Rattle.dense_blocks.specs.Solutions.{lists};
 ghost use Rattle.cochain_vec.specs.Complexes.{coordinates};
 ghost use Rattle.cochain_vec.specs.Cohomology.{IsBasis};

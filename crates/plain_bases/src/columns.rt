@@ -1,6 +1,6 @@
 ghost use Rattle.std.specs.Prelude.{◌≡◌, ℕ, ◌<◌, ◌≤◌, [], length, All, IfOk, slice_index_or};
 ghost use Rattle.dense_blocks.specs.Vectors.{AllScalars, IsVector};
-ghost use Rattle.dense_blocks.specs.Matrices.{IsMatrix, identity};
+ghost use Rattle.dense_blocks.specs.MatrixFacts.{IsMatrix, identity};
 ghost use Rattle.dense_blocks.specs.Solutions.{lists};
 ghost use Rattle.cochain_vec.specs.Complexes.{total_size};
 ghost use Rattle.plain_bases.specs.View.{FitsCells};

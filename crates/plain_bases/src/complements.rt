@@ -1,6 +1,6 @@
 ghost use Rattle.std.specs.Prelude.{◌≡◌, ◌≢◌, ◌⊎◌, ◌∷◌, ◌++◌, [], ℕ, ◌+◌, ◌<◌, ◌≤◌, length, IfOk, OnOk};
 ghost use Rattle.dense_blocks.specs.Vectors.{IsVector, combination};
-ghost use Rattle.dense_blocks.specs.Matrices.{IsMatrix};
+ghost use Rattle.dense_blocks.specs.MatrixFacts.{IsMatrix};
 ghost use Rattle.dense_blocks.specs.Spans.{IsCombination};
 ghost use Rattle.dense_blocks.specs.Solutions.{lists};
 ghost use Rattle.plain_bases.specs.Complements.{Completes, IsConsidered};

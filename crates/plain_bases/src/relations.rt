@@ -1,6 +1,6 @@
 ghost use Rattle.std.specs.Prelude.{◌≡◌, ◌∷◌, ◌++◌, ℕ, ◌+◌, ◌<◌, ◌≤◌, length, IfOk, OnOk};
 ghost use Rattle.dense_blocks.specs.Vectors.{zeros};
-ghost use Rattle.dense_blocks.specs.Matrices.{IsMatrix};
+ghost use Rattle.dense_blocks.specs.MatrixFacts.{IsMatrix};
 ghost use Rattle.dense_blocks.specs.Solutions.{lists};
 ghost use Rattle.plain_bases.specs.Relations.{SpansRelations, SpansRelationsBelow};
 

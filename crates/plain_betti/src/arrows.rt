@@ -1,6 +1,7 @@
 ghost use Rattle.std.specs.Prelude.{◌≡◌, ◌<◌, Some, length, map, slice_get, All, IfOk};
 ghost use Rattle.dense_blocks.specs.Vectors.{AllScalars};
-ghost use Rattle.dense_blocks.specs.Blocks.{matrix_of, IsBlock};
+ghost use Rattle.dense_blocks.specs.Blocks.{matrix_of};
+ghost use Rattle.dense_blocks.specs.BlockFacts.{IsBlock};
 ghost use Rattle.plain_bases.specs.View.{arrow_of, FitsCells};
 ghost use Rattle.sheaf_data.specs.Betti.{signed_matrix, arrow_of_face, arrows_of, numbered_cells};
 

@@ -1,6 +1,7 @@
 ghost use Rattle.std.specs.Prelude.{◌≡◌, IfOk};
 ghost use Rattle.plain_bases.specs.View.{plain_complex_of, IsComplexOver};
-ghost use Rattle.sheaf_data.specs.Betti.{cochain_complex_of, AreBetti};
+ghost use Rattle.sheaf_data.specs.Betti.{cochain_complex_of};
+ghost use Rattle.sheaf_data.specs.BettiNumbers.{AreBetti};
 
 use crate::arrows::arrows_of;
 use crate::cells::{degree_count, numbered};

@@ -2,9 +2,10 @@
 use Rattle.std.proofs.Common.{◌≡◌, ℕ, zero, suc, true, false, List, [], ◌∷◌, length, Option, Some, None, ap, sym, ◌∙◌}
 use Rattle.std.proofs.Common.{subst, arith}
 use Rattle.std.specs.Option.{is_some}
-use Rattle.dense_blocks.specs.Field.{Ops, IsField}
+use Rattle.dense_blocks.specs.Field.{Ops}
+use Rattle.dense_blocks.specs.FieldLaws.{IsField}
 use Rattle.dense_blocks.specs.Blocks.{matrix_of}
-use Rattle.dense_blocks.specs.Matrices.{IsInverse}
+use Rattle.dense_blocks.specs.MatrixFacts.{IsInverse}
 use Rattle.dense_blocks.specs.declared.block.Block.{Block}
 use Rattle.dense_blocks.proofs.BlockLaws.{block-size}
 use Rattle.dense_blocks.proofs.Cutting.{Sized, matrix-sized}

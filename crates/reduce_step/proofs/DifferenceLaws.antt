@@ -361,7 +361,8 @@ module _ (v : StoredBlocks) (foot : Footprint) where
   found-joined ls bs A o found lies = go o found
     where
       same : (s t : ℕ) → Lies ls bs A s t → part ls bs A s t ≡ matrix v s t → Same s t
-      same s t h e = same-copied v foot s t h.copied (record { from = h.from; to = h.to; matrix_is = sym e ∙ h.part_is })
+      same s t h e = same-copied v foot s t h.copied
+          (record { from = h.from; to = h.to; matrix_is = sym e ∙ h.part_is })
 
       go : (o : Option (ℕ × ℕ)) → MatchOption o (IsJoined v ls bs A) (λ p. IsFirstOther v ls bs A p.0 p.1)
           → Found Same (Within ls bs) o
@@ -399,7 +400,8 @@ module _ (v : StoredBlocks) (foot : Footprint) where
       part_is =
           ap (map (λ row. segment (take m foot.left) row s)) (segment-take n foot.below (matrix_of foot.corners) t ht)
           ∙ segments-take m foot.left (segment foot.below (matrix_of foot.corners) t) s hs
-          ∙ sym (copied-at s t false false (not_x s (has-take m foot.left s hs)) (not_y t (has-take n foot.below t ht)));
+          ∙ sym (copied-at s t false false (not_x s (has-take m foot.left s hs))
+          (not_y t (has-take n foot.below t ht)));
     }
 
     pub lies-row : (k : ℕ) → (0 < k → IsSized v.live foot.y foot.pivot.rows) → (s t : ℕ)

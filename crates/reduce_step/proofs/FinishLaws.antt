@@ -1,8 +1,10 @@
 -- The new corners, as they are computed.
 use Rattle.std.proofs.Common.{◌≡◌, ℕ, List, ap, ap₂, ◌∙◌}
-use Rattle.dense_blocks.specs.Field.{Ops, IsField}
+use Rattle.dense_blocks.specs.Field.{Ops}
+use Rattle.dense_blocks.specs.FieldLaws.{IsField}
 use Rattle.dense_blocks.specs.Matrices.{product, matrix_negative}
-use Rattle.dense_blocks.specs.Blocks.{matrix_of, IsBlock}
+use Rattle.dense_blocks.specs.Blocks.{matrix_of}
+use Rattle.dense_blocks.specs.BlockFacts.{IsBlock}
 use Rattle.dense_blocks.specs.declared.block.Block.{Block}
 use Rattle.dense_blocks.proofs.MatrixLaws.{product-matrix_negative}
 

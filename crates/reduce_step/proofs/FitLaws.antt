@@ -5,9 +5,10 @@ use Rattle.std.specs.Prelude.{◌==◌, not}
 use Rattle.std.specs.List.{list_all}
 use Rattle.std.specs.Option.{is_some}
 use Rattle.std.proofs.lemmas.Bool.{cases_eq, cases_Bool, eq-eqb, ne_eqb}
-use Rattle.dense_blocks.specs.Field.{Ops, IsField}
+use Rattle.dense_blocks.specs.Field.{Ops}
+use Rattle.dense_blocks.specs.FieldLaws.{IsField}
 use Rattle.dense_blocks.specs.Vectors.{zeros}
-use Rattle.dense_blocks.specs.Matrices.{zero_matrix, IsInverse}
+use Rattle.dense_blocks.specs.MatrixFacts.{zero_matrix, IsInverse}
 use Rattle.dense_blocks.specs.Blocks.{matrix_of}
 use Rattle.dense_blocks.proofs.ScalarLaws.{one_below}
 use Rattle.dense_blocks.proofs.Shapes.{from_vector}
@@ -141,7 +142,8 @@ module _ (K : Ops) (v : StoredBlocks) (foot : Footprint) (fits : Fits v foot) wh
         (one-of foot.x s hs)
         (column-part foot.x foot.pivot.cols foot.below foot.column t foot.parts.column_cols ∙ sym (column-is t ht)));
     corners = λ s t hs ht.
-        sym ((copied-pair s t (source s hs) (target t ht)).matrix_is ∙ copied-at v foot s t false false (not_x v foot s hs)
+        sym ((copied-pair s t (source s hs) (target t ht)).matrix_is
+        ∙ copied-at v foot s t false false (not_x v foot s hs)
         (not_y v foot t ht));
   }
 

@@ -3,8 +3,9 @@
 use Rattle.std.proofs.Common.{◌≡◌, ℕ, Bool, true, false, cond, ◌&&◌, List, refl, sym, ap, ap₂, ◌∙◌, subst, arith}
 use Rattle.std.specs.Option.{is_some}
 use Rattle.std.proofs.lemmas.Bool.{eq-eqb}
-use Rattle.dense_blocks.specs.Field.{Ops, IsField}
-use Rattle.dense_blocks.specs.Matrices.{zero_matrix, IsInverse}
+use Rattle.dense_blocks.specs.Field.{Ops}
+use Rattle.dense_blocks.specs.FieldLaws.{IsField}
+use Rattle.dense_blocks.specs.MatrixFacts.{zero_matrix, IsInverse}
 use Rattle.dense_blocks.proofs.Shapes.{Matrix, to_matrix}
 use Rattle.rising_lists.specs.Rising.{has}
 use Rattle.block_complexes.specs.BlockComplexes.{AreConsecutive, cells, degree_of, size_of, IsBlockComplex}

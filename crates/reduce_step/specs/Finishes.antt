@@ -1,7 +1,7 @@
 -- What finishing a footprint gives.
 use Rattle.std.specs.Prelude.{◌≡◌, ℕ, List}
 use Rattle.dense_blocks.specs.Field.{Ops}
-use Rattle.dense_blocks.specs.Matrices.{IsInverse}
+use Rattle.dense_blocks.specs.MatrixFacts.{IsInverse}
 use Rattle.dense_blocks.specs.Blocks.{matrix_of}
 use Rattle.dense_blocks.specs.Inverses.{InKernel}
 use Rattle.dense_blocks.specs.declared.block.Block.{Block}

@@ -1,6 +1,7 @@
 ghost use Rattle.std.specs.Prelude.{◌≡◌, IfOk, IfErr};
 ghost use Rattle.dense_blocks.specs.Vectors.{AllScalars};
-ghost use Rattle.dense_blocks.specs.Blocks.{matrix_of, IsBlock};
+ghost use Rattle.dense_blocks.specs.Blocks.{matrix_of};
+ghost use Rattle.dense_blocks.specs.BlockFacts.{IsBlock};
 ghost use Rattle.dense_blocks.specs.Inverses.{IsInverseBlock, Inverts};
 ghost use Rattle.reduce_step.specs.Footprints.{IsOverField};
 ghost use Rattle.reduce_step.specs.Records.{reduced};

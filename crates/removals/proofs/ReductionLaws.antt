@@ -1,7 +1,7 @@
 -- Several removals: what they keep, and that they leave one block complex at most.
 use Rattle.std.proofs.Common.{ℕ, List, [], ◌∷◌, subst}
 use Rattle.dense_blocks.specs.Field.{Ops}
-use Rattle.dense_blocks.specs.Matrices.{IsMatrix}
+use Rattle.dense_blocks.specs.MatrixFacts.{IsMatrix}
 use Rattle.dense_blocks.proofs.Shapes.{to_matrix}
 use Rattle.dense_blocks.proofs.MatrixLaws.{inverse-unique}
 use Rattle.block_complexes.specs.BlockComplexes.{BlockComplex, HaveSameMatrices, size_of}

@@ -1,7 +1,8 @@
 -- What the removal of a pair of cells keeps, and what several keep.
 use Rattle.std.specs.Prelude.{ℕ, List}
-use Rattle.dense_blocks.specs.Field.{Ops, IsField}
-use Rattle.cochain_vec.specs.Cohomology.{IsCochainComplex}
+use Rattle.dense_blocks.specs.Field.{Ops}
+use Rattle.dense_blocks.specs.FieldLaws.{IsField}
+use Rattle.cochain_vec.specs.CochainComplexes.{IsCochainComplex}
 use Rattle.block_complexes.specs.BlockComplexes.{BlockComplex, IsBlockComplex, HaveSameMatrices}
 use Rattle.block_complexes.specs.Cochains.{complex_of}
 use Rattle.block_complexes.specs.Differentials.{IsDifferential}

@@ -1,7 +1,7 @@
 -- Several removals, one after another; and block complexes that leave nothing to remove.
 use Rattle.std.specs.Prelude.{◌≡◌, ℕ, List, [], ◌∷◌}
 use Rattle.dense_blocks.specs.Field.{Ops}
-use Rattle.dense_blocks.specs.Matrices.{IsInverse}
+use Rattle.dense_blocks.specs.MatrixFacts.{IsInverse}
 use Rattle.block_complexes.specs.BlockComplexes.{BlockComplex, AreConsecutive, HaveSameMatrices, size_of}
 use Rattle.removals.specs.Removals.{IsRemoval}
 

@@ -1,6 +1,7 @@
 ghost use Rattle.std.specs.Prelude.{◌≡◌, ◌∷◌, ◌++◌, IfOk, OnOk, OnErr};
 ghost use Rattle.reply_text.specs.Lines.{spaced_words, lines_text};
-ghost use Rattle.reply_text.specs.Replies.{query_word, command_word, cause_words, verdict_words, IsAnswerTo, answer_words, reply_lines};
+ghost use Rattle.reply_text.specs.Replies.{query_word, command_word, cause_words, verdict_words, IsAnswerTo};
+ghost use Rattle.reply_text.specs.Replies.{answer_words, reply_lines};
 
 use crate::words::{put_all, put_named, put_next, put_number};
 use sheaf_words::{Cause, Command, Event, Query, Reply, Verdict};

@@ -1,4 +1,5 @@
-ghost use Rattle.std.specs.Prelude.{◌≡◌, ◌==◌, ◌<◌, ◌≤◌, ℕ, [], None, Some, if◌then◌else◌, length, replicate, slice_index, option_copied, option_map, OnOk, IfOk};
+ghost use Rattle.std.specs.Prelude.{◌≡◌, ◌==◌, ◌<◌, ◌≤◌, ℕ, [], None, Some, if◌then◌else◌, length, replicate};
+ghost use Rattle.std.specs.Prelude.{slice_index, option_copied, option_map, OnOk, IfOk};
 ghost use Rattle.rising_lists.specs.Rising.{IsRising, IsLine, has, keys, look, entry, entry_after};
 
 use crate::duplicate::Duplicate;

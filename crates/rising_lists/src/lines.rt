@@ -1,4 +1,5 @@
-ghost use Rattle.std.specs.Prelude.{◌≡◌, ◌==◌, ◌&&◌, ℕ, true, false, [], None, if◌then◌else◌, length, is_some, option_copied, option_map, unwrap_or, IfOk, MatchOption};
+ghost use Rattle.std.specs.Prelude.{◌≡◌, ◌==◌, ◌&&◌, ℕ, true, false, [], None, if◌then◌else◌, length, is_some};
+ghost use Rattle.std.specs.Prelude.{option_copied, option_map, unwrap_or, IfOk, MatchOption};
 ghost use Rattle.rising_lists.specs.Rising.{IsRising, IsLine, has, keys, look, line_of, entry_of};
 
 use crate::duplicate::Duplicate;

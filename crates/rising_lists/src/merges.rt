@@ -1,4 +1,5 @@
-ghost use Rattle.std.specs.Prelude.{◌≡◌, ◌==◌, ◌<◌, ◌≤◌, ℕ, true, false, None, Some, ◌∷◌, if◌then◌else◌, length, slice_index_or, MatchBool, OnOk, IfOk};
+ghost use Rattle.std.specs.Prelude.{◌≡◌, ◌==◌, ◌<◌, ◌≤◌, ℕ, true, false, None, Some, ◌∷◌, if◌then◌else◌, length};
+ghost use Rattle.std.specs.Prelude.{slice_index_or, MatchBool, OnOk, IfOk};
 ghost use Rattle.std.specs.Vec.Iter.{into_iter_items};
 ghost use Rattle.rising_lists.specs.Rising.{IsLine, keys, look, stands, past, IsNext};
 

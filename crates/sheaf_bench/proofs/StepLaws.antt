@@ -5,7 +5,7 @@ use Rattle.std.specs.Prelude.{◌==◌}
 use Rattle.std.specs.Option.{is_some}
 use Rattle.std.proofs.lemmas.Bool.{eqb-true, and_parts}
 use Rattle.dense_blocks.specs.Field.{Ops}
-use Rattle.dense_blocks.specs.Matrices.{zero_matrix}
+use Rattle.dense_blocks.specs.MatrixFacts.{zero_matrix}
 use Rattle.block_complexes.specs.BlockComplexes.{size_of, IsBlockComplex, HaveSameMatrices}
 use Rattle.block_complexes.proofs.SameLaws.{same-block_complex}
 use Rattle.block_sparse.specs.StoredBlocks.{StoredBlocks, StoredBlock, block_at, matrix_or, with_flag, complex_in}

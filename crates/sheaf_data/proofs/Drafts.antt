@@ -6,7 +6,8 @@ use Rattle.std.proofs.lemmas.List.Elements.{All-append, All-nil, All-cons}
 use Rattle.std.proofs.lemmas.Option.{get_or_from_slice_get, slice_get_within}
 use Rattle.cell_complex.specs.declared.face.Face.{Face}
 use Rattle.cell_complex.specs.Complexes.{CellComplex}
-use Rattle.dense_blocks.specs.Field.{Ops, IsField}
+use Rattle.dense_blocks.specs.Field.{Ops}
+use Rattle.dense_blocks.specs.FieldLaws.{IsField}
 use Rattle.dense_blocks.specs.Vectors.{AllScalars, zeros}
 use Rattle.dense_blocks.specs.declared.block.Block.{Block}
 use Rattle.dense_blocks.proofs.Cutting.{flat, flat-zero_matrix}
@@ -17,7 +18,8 @@ use Rattle.square_check.specs.Squares.{HaveShapes, Commutes}
 use Rattle.sheaf_data.specs.declared.fault.SealFault.{SealFault}
 use Rattle.sheaf_data.specs.declared.fault.SealFault.TheVariants.{Complex, Noncommuting}
 use Rattle.sheaf_data.specs.Refusals.{IsFault}
-use Rattle.sheaf_data.specs.Sheaves.{HasShape, IsZero, AreZeroBlocks, AreBlocks, IsDraft, IsSheaf}
+use Rattle.sheaf_data.specs.Sheaves.{AreBlocks, IsSheaf}
+use Rattle.sheaf_data.specs.Drafts.{HasShape, IsZero, AreZeroBlocks, IsDraft}
 
 some-same : {X : Type 0} (x y : X) → Some x ≡ Some y → x ≡ y
 some-same x y e = cc

@@ -6,7 +6,6 @@ use Rattle.cell_complex.specs.declared.face.Sign.TheVariants.{Plus, Minus}
 use Rattle.cell_complex.specs.Complexes.{CellComplex}
 use Rattle.cochain_vec.specs.declared.cell.Cell.{Cell}
 use Rattle.cochain_vec.specs.Complexes.{Arrow, CellularComplex}
-use Rattle.cochain_vec.specs.Cohomology.{AreDimensions}
 use Rattle.dense_blocks.specs.Field.{Ops}
 use Rattle.dense_blocks.specs.Matrices.{matrix_negative}
 use Rattle.dense_blocks.specs.Blocks.{matrix_of}
@@ -44,8 +43,3 @@ cochain_complex_of K c stalks blocks =
 abbrev pub degree_count : List ℕ → ℕ
 degree_count [] = 0
 degree_count (d ∷ dims) = max (d + 1) (degree_count dims)
-
--- one number per degree, from 0 to the largest dimension: the dimension of the cohomology of that degree
-abbrev pub AreBetti : Ops → CellComplex → List ℕ → List Block → List ℕ → Type 0
-AreBetti K c stalks blocks numbers = AreDimensions K (cochain_complex_of K c stalks blocks) (degree_count c.dims)
-    numbers

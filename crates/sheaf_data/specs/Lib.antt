@@ -1,3 +1,6 @@
 pub mod Sheaves
+pub mod Drafts
 pub mod Betti
+pub mod BettiNumbers
 pub mod Refusals
+pub mod Changes

@@ -1,6 +1,5 @@
 -- Why a draft is no sheaf, and what changes with some blocks.
-use Rattle.std.specs.Prelude.{◌≡◌, ℕ, false, nat_eq, List, Some, length, slice_get}
-use Rattle.std.specs.List.{list_any}
+use Rattle.std.specs.Prelude.{◌≡◌, ℕ, List, Some, length, slice_get}
 use Rattle.cell_complex.specs.Complexes.{CellComplex}
 use Rattle.dense_blocks.specs.Field.{Ops}
 use Rattle.dense_blocks.specs.declared.block.Block.{Block}
@@ -19,7 +18,3 @@ IsFirstBad K c blocks s u = IsFirstOf (Commutes K c blocks) (length c.dims) s u
 abbrev pub IsFault : Ops → CellComplex → List Block → SealFault → Type 0
 IsFault K c blocks (Complex fault) = (HasRegularIncidences c → ⊥) × (slice_get (faults c) 0 ≡ Some fault)
 IsFault K c blocks (Noncommuting s u) = HasRegularIncidences c × IsFirstBad K c blocks s u
-
--- the blocks are the same, but for those at the places
-abbrev pub AreSameElsewhere : List ℕ → List Block → List Block → Type 0
-AreSameElsewhere places old new = (p : ℕ) → list_any (nat_eq p) places ≡ false → slice_get old p ≡ slice_get new p

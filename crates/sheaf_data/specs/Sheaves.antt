@@ -1,11 +1,9 @@
 -- Cellular sheaves: stalks and restrictions over a complex (Curry, Sheaves, Cosheaves and Applications, 2014).
-use Rattle.std.specs.Prelude.{◌≡◌, ℕ, ◌≤◌, List, length, slice_index, sum, All}
+use Rattle.std.specs.Prelude.{◌≡◌, ℕ, ◌≤◌, List, length, sum, All}
 use Rattle.cell_complex.specs.declared.face.Face.{Face}
 use Rattle.cell_complex.specs.Complexes.{CellComplex}
 use Rattle.dense_blocks.specs.Field.{Ops}
 use Rattle.dense_blocks.specs.Vectors.{AllScalars}
-use Rattle.dense_blocks.specs.Matrices.{zero_matrix}
-use Rattle.dense_blocks.specs.Blocks.{matrix_of}
 use Rattle.dense_blocks.specs.declared.block.Block.{Block}
 use Rattle.incidence_check.specs.Incidences.{HasRegularIncidences}
 use Rattle.square_check.specs.Squares.{HaveShapes, Commutes}
@@ -23,29 +21,10 @@ pub record AreStalks (dims stalks : List ℕ) : Type 0 where
   pub low : All (λ size. size ≤ 16) stalks
   pub few : sum stalks ≤ 4096
 
--- the block goes from the stalk of the face's cell s to that of its cell t
-pub record HasShape (stalks : List ℕ) (f : Face) (b : Block) : Type 0 where
-  pub cols : b.cols ≡ slice_index stalks f.s
-  pub rows : b.rows ≡ slice_index stalks f.t
-
--- all entries are zero
-abbrev pub IsZero : Block → Type 0
-IsZero b = matrix_of b ≡ zero_matrix b.rows b.cols
-
--- the zero block of each face
-pub record AreZeroBlocks (faces : List Face) (stalks : List ℕ) (blocks : List Block) : Type 0 where
-  pub shapes : HaveShapes stalks faces blocks
-  pub zero : All IsZero blocks
-
 -- a matrix of scalars for each face, in the order of the faces, from stalk to stalk
 pub record AreBlocks (K : Ops) (faces : List Face) (stalks : List ℕ) (blocks : List Block) : Type 0 where
   pub shapes : HaveShapes stalks faces blocks
   pub scalars : All (λ b. AllScalars K b.entries) blocks
-
--- stalks and blocks that fit a complex, over the field of K
-pub record IsDraft (K : Ops) (c : CellComplex) (stalks : List ℕ) (blocks : List Block) : Type 0 where
-  pub stalks_fit : AreStalks c.dims stalks
-  pub blocks_fit : AreBlocks K c.faces stalks blocks
 
 -- a cellular sheaf: regular incidences, a stalk for each cell within the bounds, a matrix for each face, and any two
 -- ways from a cell to one two dimensions up have one product

@@ -1,6 +1,7 @@
 ghost use Rattle.std.specs.Prelude.{◌≡◌, ℕ, ◌<◌, ◌↔◌, ◌≤◌, IsTrue, IfOk, IfSome, length, slice_get, slice_set, sum};
 ghost use Rattle.dense_blocks.specs.Vectors.{AllScalars};
-ghost use Rattle.sheaf_data.specs.Sheaves.{AreStalks, HasShape, IsZero, AreZeroBlocks, IsDraft};
+ghost use Rattle.sheaf_data.specs.Sheaves.{AreStalks};
+ghost use Rattle.sheaf_data.specs.Drafts.{HasShape, IsZero, AreZeroBlocks, IsDraft};
 
 use cell_complex::{Complex, Face};
 use dense_blocks::{Block, Listed, Scalars, all_scalars};
@@ -25,7 +26,8 @@ pub struct Draft<F: Scalars> {
 }
 
 impl<F: Scalars> Model for Draft<F> {
-    ghost use Rattle.sheaf_data.specs.Sheaves.{SheafData, IsDraft};
+    ghost use Rattle.sheaf_data.specs.Sheaves.{SheafData};
+    ghost use Rattle.sheaf_data.specs.Drafts.{IsDraft};
 
     ghost Value = { SheafData F };
 

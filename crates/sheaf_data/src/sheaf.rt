@@ -1,8 +1,10 @@
 ghost use Rattle.std.specs.Prelude.{◌≡◌, ℕ, ◌<◌, ◌↔◌, All, IsOk, IfOk, IfErr, OnOk, OnErr, MatchOption, length};
 ghost use Rattle.square_check.specs.Answers.{IsFirstFailure};
 ghost use Rattle.square_check.specs.Squares.{Commutes};
-ghost use Rattle.sheaf_data.specs.Sheaves.{IsDraft, IsSheaf};
-ghost use Rattle.sheaf_data.specs.Refusals.{IsFirstBad, IsFault, AreSameElsewhere};
+ghost use Rattle.sheaf_data.specs.Sheaves.{IsSheaf};
+ghost use Rattle.sheaf_data.specs.Drafts.{IsDraft};
+ghost use Rattle.sheaf_data.specs.Refusals.{IsFirstBad, IsFault};
+ghost use Rattle.sheaf_data.specs.Changes.{AreSameElsewhere};
 
 use crate::draft::Draft;
 use crate::fault::SealFault;

@@ -10,7 +10,8 @@ use Rattle.dense_blocks.specs.Field.{Ops}
 use Rattle.field_table.specs.declared.field.Field.{Field}
 use Rattle.field_table.specs.Table.{ops_of}
 use Rattle.sheaf_data.specs.Sheaves.{SheafData}
-use Rattle.sheaf_data.specs.Betti.{AreBetti, cochain_complex_of, degree_count}
+use Rattle.sheaf_data.specs.Betti.{cochain_complex_of, degree_count}
+use Rattle.sheaf_data.specs.BettiNumbers.{AreBetti}
 use Rattle.sheaf_words.specs.declared.query.Query.{Query}
 use Rattle.sheaf_words.specs.declared.query.Query.TheVariants as queries
 use Rattle.sheaf_words.specs.declared.query.Command.{Command}

@@ -4,7 +4,7 @@ use Rattle.std.specs.Prelude.{slice_index_or, if◌then◌else◌}
 use Rattle.field_table.specs.declared.field.Field.{Field}
 use Rattle.field_table.specs.Table.{ops_of}
 use Rattle.sheaf_data.specs.Sheaves.{SheafData}
-use Rattle.sheaf_data.specs.Betti.{AreBetti}
+use Rattle.sheaf_data.specs.BettiNumbers.{AreBetti}
 use Rattle.sheaf_words.specs.declared.query.Query.TheVariants.{Betti}
 use Rattle.sheaf_words.specs.declared.query.Command.{Command}
 use Rattle.sheaf_words.specs.declared.query.Command.TheVariants.{Change, Ask}

@@ -2,7 +2,7 @@ ghost use Rattle.std.specs.Prelude.{◌≡◌, ℕ, ◌+◌, ◌≤◌, List, So
 ghost use Rattle.field_table.specs.Table.{ops_of};
 ghost use Rattle.field_table.specs.declared.field.Field.{Field as FieldValue};
 ghost use Rattle.sheaf_data.specs.Sheaves.{SheafData};
-ghost use Rattle.sheaf_data.specs.Betti.{AreBetti};
+ghost use Rattle.sheaf_data.specs.BettiNumbers.{AreBetti};
 ghost use Rattle.sheaf_words.specs.declared.query.Command.{Command as CommandValue};
 ghost use Rattle.sheaf_words.specs.declared.query.Command.TheVariants.{Change, Ask};
 ghost use Rattle.sheaf_words.specs.declared.query.Query.TheVariants.{Betti};

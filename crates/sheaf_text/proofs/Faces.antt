@@ -6,7 +6,7 @@ use Rattle.std.proofs.lemmas.Bool.{and_parts, ltb-true}
 use Rattle.std.proofs.lemmas.List.{length-append, map-append}
 use Rattle.std.proofs.lemmas.List.Elements.{All-push, All-nil, All-cons}
 use Rattle.std.proofs.lemmas.Option.{slice_get_within}
-use Rattle.cell_complex.specs.Complexes.{with_face}
+use Rattle.cell_complex.specs.Invariants.{with_face}
 use Rattle.cell_complex.specs.declared.face.Face.{Face}
 use Rattle.dense_blocks.specs.declared.block.Block.{Block}
 use Rattle.dense_blocks.specs.Vectors.{AllScalars}

@@ -10,7 +10,8 @@ use Rattle.std.proofs.lemmas.List.Elements.{filter_map-append}
 use Rattle.sheaf_text.specs.Cut.{words}
 use Rattle.sheaf_text.specs.Grammar.{Known, refusal}
 use Rattle.sheaf_text.specs.declared.fault.Which.TheVariants as limits
-use Rattle.sheaf_text.specs.Readings.{Item, Skipped, IsField, IsCell, IsFace, IsClient, IsQuery, IsEdit, IsSet, IsCommit}
+use Rattle.sheaf_text.specs.Readings.{Item, Skipped, IsField, IsCell, IsFace, IsClient, IsQuery, IsEdit, IsSet}
+use Rattle.sheaf_text.specs.Readings.{IsCommit}
 use Rattle.sheaf_text.specs.Readings.{IsDone, Limit, item_of, reading_at_end, go_on, known_of, reading_from, reading}
 use Rattle.sheaf_text.specs.Readings.{contents, stage_after, order_after, dim_in, stalk_in, face_of_item, entries_in}
 use Rattle.sheaf_text.specs.Readings.{scripts_after, is_command, is_heavy, size_in, set_size, up_to_most}

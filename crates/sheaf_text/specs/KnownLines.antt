@@ -3,7 +3,8 @@ use Rattle.std.specs.Prelude.{ℕ, ◌+◌, List, [], ◌∷◌, ◌++◌, if◌
 use Rattle.sheaf_words.specs.declared.query.Command.TheVariants.{Change, Ask}
 use Rattle.sheaf_words.specs.declared.query.Query.{Query}
 use Rattle.sheaf_text.specs.Grammar.{Known, refusal}
-use Rattle.sheaf_text.specs.Readings.{Item, Skipped, IsField, IsCell, IsFace, IsClient, IsQuery, IsEdit, IsSet, IsCommit}
+use Rattle.sheaf_text.specs.Readings.{Item, Skipped, IsField, IsCell, IsFace, IsClient, IsQuery, IsEdit, IsSet}
+use Rattle.sheaf_text.specs.Readings.{IsCommit}
 use Rattle.sheaf_text.specs.Readings.{IsDone, Reading, item_of, reading_at_end, go_on, is_heavy_query, set_size}
 use Rattle.sheaf_text.specs.Readings.{up_to_most, onto_last, into_last}
 use Rattle.sheaf_text.specs.declared.line.Stage.TheVariants as stages

@@ -1,6 +1,6 @@
 -- What the lines so far say of a sheaf, as the reader keeps it.
 use Rattle.std.specs.Prelude.{◌≡◌, ℕ, List, [], ◌∷◌, ◌++◌, true, None, map, drop, length, sum}
-use Rattle.cell_complex.specs.Complexes.{AreCells}
+use Rattle.cell_complex.specs.Invariants.{AreCells}
 use Rattle.cell_complex.specs.Verdicts.{face_fault}
 use Rattle.dense_blocks.specs.declared.block.Block.{Block}
 use Rattle.field_table.specs.Table.{order_of, ops_of}

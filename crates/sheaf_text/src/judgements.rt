@@ -1,7 +1,9 @@
 ghost use Rattle.std.specs.Prelude.{◌≡◌, length, IfOk, IfErr};
 ghost use Rattle.sheaf_text.specs.Cut.{words};
 ghost use Rattle.sheaf_text.specs.Parts.{AreDraftParts, IsClosed};
-ghost use Rattle.sheaf_text.specs.Grammar.{is_ended, is_full, cause_of, field_refusal, cell_refusal, entries_refusal, face_refusal, client_refusal, command_refusal, done_refusal, reach, kind_refusal, placed_refusal, content_refusal};
+ghost use Rattle.sheaf_text.specs.Grammar.{is_ended, is_full, cause_of, field_refusal, cell_refusal, entries_refusal};
+ghost use Rattle.sheaf_text.specs.Grammar.{face_refusal, client_refusal, command_refusal, done_refusal, reach};
+ghost use Rattle.sheaf_text.specs.Grammar.{kind_refusal, placed_refusal, content_refusal};
 ghost use Rattle.sheaf_text.specs.State.{known_by, scripts_at, IsSoundState, IsReadyFor, IsFound};
 
 use crate::fault::{LineCause, Refusal, Which};

@@ -1,6 +1,7 @@
 ghost use Rattle.std.specs.Prelude.{◌≡◌, [], slice_get};
 ghost use Rattle.sheaf_text.specs.Cut.{words};
-ghost use Rattle.sheaf_text.specs.Lines.{is_skipped, kind_of_word, kind_of, may_stand, count_fits, are_numerals, is_sign, sign_of, face_in};
+ghost use Rattle.sheaf_text.specs.Lines.{is_skipped, kind_of_word, kind_of, may_stand, count_fits, are_numerals};
+ghost use Rattle.sheaf_text.specs.Lines.{is_sign, sign_of, face_in};
 
 use crate::words::{after_words, are_numbers, number, value_at, word_at};
 use cell_complex::{Face, Sign};

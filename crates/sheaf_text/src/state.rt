@@ -2,7 +2,8 @@ ghost use Rattle.std.specs.Prelude.{◌≡◌, ◌-◌, ◌^◌, ◌<◌, true, 
 ghost use Rattle.sheaf_text.specs.Cut.{words};
 ghost use Rattle.sheaf_text.specs.Answers.{Gives, GivesFault};
 ghost use Rattle.sheaf_text.specs.Readings.{item_of_kind, set_of, is_set_kind, reading_at_end, refused_reading};
-ghost use Rattle.sheaf_text.specs.State.{known_by, IsSoundState, IsReady, IsAccepted, IsUntouched, TakesItem, TakesLine, RefusesLine};
+ghost use Rattle.sheaf_text.specs.State.{known_by, IsSoundState, IsReady, IsAccepted, IsUntouched, TakesItem};
+ghost use Rattle.sheaf_text.specs.State.{TakesLine, RefusesLine};
 
 use crate::fault::{LineCause, Refusal, TextFault};
 use crate::input::Input;

@@ -8,7 +8,8 @@ use Rattle.std.proofs.lemmas.List.Folds.{list_any_at}
 use Rattle.std.proofs.lemmas.List.FromFn.{length-range_with_len, get_or-range_with_len}
 use Rattle.std.proofs.lemmas.Map.Views.{any-filter_same}
 use Rattle.std.proofs.lemmas.List.Elements.{All-head, All-cons, All-filter, filter_passes}
-use Rattle.cell_complex.specs.Complexes.{CellComplex, IsComplex, all_cells, is_face, faces_of, middles}
+use Rattle.cell_complex.specs.Complexes.{CellComplex, all_cells, is_face, faces_of, middles}
+use Rattle.cell_complex.specs.Invariants.{IsComplex}
 use Rattle.cell_complex.proofs.Numbers.{range-below}
 use Rattle.cell_complex.proofs.Callers.{AreIncident, incident_from_face}
 use Rattle.incidence_check.specs.Incidences.{HasOppositeMiddles, HasRegularIncidences}

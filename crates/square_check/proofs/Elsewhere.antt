@@ -10,7 +10,8 @@ use Rattle.dense_blocks.specs.Field.{Ops}
 use Rattle.dense_blocks.specs.Matrices.{product}
 use Rattle.dense_blocks.specs.Blocks.{matrix_of}
 use Rattle.dense_blocks.specs.declared.block.Block.{Block}
-use Rattle.square_check.specs.Squares.{restriction, through, Commutes, OthersCommute, faces_at}
+use Rattle.square_check.specs.Squares.{restriction, through, Commutes}
+use Rattle.square_check.specs.TouchedFaces.{OthersCommute, faces_at}
 use Rattle.square_check.proofs.Commuting.{all-between}
 use Rattle.square_check.proofs.Placed.{placed}
 

@@ -8,11 +8,13 @@ use Rattle.std.proofs.lemmas.Bool.{true≢false, cond-true, lt-ltb, and_parts, e
 use Rattle.std.proofs.lemmas.Option.{get_or_from_slice_get, slice_get_within}
 use Rattle.std.proofs.lemmas.List.Elements.{All-cons}
 use Rattle.cell_complex.specs.declared.face.Face.{Face}
-use Rattle.cell_complex.specs.Complexes.{CellComplex, IsComplex, JoinsCells, joins, is_face, place}
+use Rattle.cell_complex.specs.Complexes.{CellComplex, joins, is_face, place}
+use Rattle.cell_complex.specs.Invariants.{IsComplex, JoinsCells}
 use Rattle.dense_blocks.specs.Field.{Ops}
 use Rattle.dense_blocks.specs.Vectors.{AllScalars}
 use Rattle.dense_blocks.specs.declared.block.Block.{Block}
-use Rattle.square_check.specs.Squares.{AreRestrictions, restriction}
+use Rattle.square_check.specs.Squares.{restriction}
+use Rattle.square_check.specs.TouchedFaces.{AreRestrictions}
 
 -- what holds of each element holds of the one at a place
 pub all-at : {X : Type 0} (Q : X → Type 0) (xs : List X) (i : ℕ) (x : X) → All Q xs → slice_get xs i ≡ Some x → Q x

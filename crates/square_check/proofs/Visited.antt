@@ -4,12 +4,15 @@ use Rattle.std.proofs.Common.{slice_get, Option, Some, All, refl, sym, ap, â—Œâˆ
 use Rattle.std.specs.List.{list_any}
 use Rattle.std.proofs.lemmas.Bool.{or_cases, and_parts, eqb-true}
 use Rattle.cell_complex.specs.declared.face.Face.{Face}
-use Rattle.cell_complex.specs.Complexes.{CellComplex, IsComplex, joins, is_face, middles}
+use Rattle.cell_complex.specs.Complexes.{CellComplex, joins, is_face, middles}
+use Rattle.cell_complex.specs.Invariants.{IsComplex}
 use Rattle.cell_complex.proofs.Callers.{incident_from_face}
 use Rattle.dense_blocks.specs.Field.{Ops}
 use Rattle.dense_blocks.specs.declared.block.Block.{Block}
-use Rattle.square_check.specs.Answers.{earlier_pair, Fails, PassesBefore, IsFirstFailure}
-use Rattle.square_check.specs.Squares.{Commutes, OthersCommute, faces_at, is_touched}
+use Rattle.square_check.specs.Answers.{IsFirstFailure}
+use Rattle.square_check.specs.Searches.{earlier_pair, Fails, PassesBefore}
+use Rattle.square_check.specs.Squares.{Commutes}
+use Rattle.square_check.specs.TouchedFaces.{OthersCommute, faces_at, is_touched}
 use Rattle.square_check.proofs.Clearing.{clears-passing, earlier-clears_first, earlier-clears_second, first-from}
 use Rattle.square_check.proofs.Commuting.{IsBetween, all-between, between-head, commutes-none}
 use Rattle.square_check.proofs.Placed.{all-at, all-kept, first-passing, placed}

@@ -1,24 +1,10 @@
 -- The first pair that fails, in order of the first number and then of the second.
-use Rattle.std.specs.Prelude.{◌≡◌, ℕ, ◌<◌, Bool, true, Option, None, Some, nat_lt, ◌||◌, ◌==◌, ◌&&◌, if◌then◌else◌}
+use Rattle.std.specs.Prelude.{◌≡◌, ℕ, ◌<◌, Bool, true, Option, nat_lt, ◌||◌, ◌==◌, ◌&&◌}
 use Rattle.std.specs.Prelude.{MatchOption}
 
 -- whether p comes before q
 abbrev pub is_before : ℕ × ℕ → ℕ × ℕ → Bool
 is_before p q = nat_lt p.0 q.0 || ((p.0 == q.0) && nat_lt p.1 q.1)
-
--- the earlier of two pairs, as far as there are any
-abbrev pub earlier_pair : Option (ℕ × ℕ) → Option (ℕ × ℕ) → Option (ℕ × ℕ)
-earlier_pair None b = b
-earlier_pair (Some p) None = Some p
-earlier_pair (Some p) (Some q) = if is_before q p then Some q else Some p
-
--- the pair, if any, fails
-abbrev pub Fails : (ℕ → ℕ → Type 0) → Option (ℕ × ℕ) → Type 0
-Fails P r = MatchOption r (Unit {0}) (λ p. P p.0 p.1 → ⊥)
-
--- s and u pass, unless the answer is a pair that does not come after them
-abbrev pub PassesBefore : (ℕ → ℕ → Type 0) → Option (ℕ × ℕ) → ℕ → ℕ → Type 0
-PassesBefore P r s u = MatchOption r (P s u) (λ p. is_before (s, u) p ≡ true → P s u)
 
 -- s and u are cells that fail, and all before them pass
 pub record IsFirstOf (P : ℕ → ℕ → Type 0) (count s u : ℕ) : Type 0 where

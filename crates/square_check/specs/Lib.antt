@@ -1,3 +1,5 @@
 pub mod Squares
+pub mod TouchedFaces
 pub mod Answers
+pub mod Searches
 pub mod Touches

@@ -5,7 +5,7 @@ use Rattle.dense_blocks.specs.Field.{Ops}
 use Rattle.dense_blocks.specs.declared.block.Block.{Block}
 use Rattle.square_check.specs.declared.touched.Touched.{Touched}
 use Rattle.square_check.specs.declared.touched.Touched.TheVariants.{All as Every, Faces}
-use Rattle.square_check.specs.Squares.{OthersCommute}
+use Rattle.square_check.specs.TouchedFaces.{OthersCommute}
 
 -- the places are those of faces, and all squares through none of these faces commute
 abbrev pub AreTouched : Ops → CellComplex → List Block → Touched → Type 0

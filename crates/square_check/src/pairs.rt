@@ -1,8 +1,10 @@
 ghost use Rattle.std.specs.Prelude.{◌≡◌, ℕ, ◌<◌, ◌↔◌, true, Some, IsTrue, MatchOption, length};
-ghost use Rattle.cell_complex.specs.Complexes.{IsComplex, is_face};
+ghost use Rattle.cell_complex.specs.Complexes.{is_face};
+ghost use Rattle.cell_complex.specs.Invariants.{IsComplex};
 ghost use Rattle.incidence_check.specs.Incidences.{HasRegularIncidences};
-ghost use Rattle.square_check.specs.Answers.{Fails, PassesBefore};
-ghost use Rattle.square_check.specs.Squares.{AreRestrictions, Commutes, restriction};
+ghost use Rattle.square_check.specs.Searches.{Fails, PassesBefore};
+ghost use Rattle.square_check.specs.Squares.{Commutes, restriction};
+ghost use Rattle.square_check.specs.TouchedFaces.{AreRestrictions};
 
 use crate::answers::earlier;
 use crate::squares::square;

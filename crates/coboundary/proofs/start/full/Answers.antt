@@ -1,6 +1,6 @@
 -- The live cells, and all faces put.
 use Rattle.std.proofs.Common.{◌≡◌, length, sym, ap, ◌∙◌, subst, arith}
-use Rattle.cell_complex.specs.Complexes.{AreCells, IsComplex}
+use Rattle.cell_complex.specs.Invariants.{AreCells, IsComplex}
 use Rattle.sheaf_data.specs.Sheaves.{SheafData, AreStalks, IsSheaf}
 use Rattle.block_sparse.specs.StoredBlocks.{block_at, AreLive}
 use Rattle.coboundary.specs.Put.{AreFirstPut, IsStart}

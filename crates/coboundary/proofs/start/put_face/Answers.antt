@@ -1,7 +1,8 @@
 -- The next face and its block, and where they stand.
 use Rattle.std.proofs.Common.{◌≡◌, ℕ, sym, ap, ◌∙◌, subst}
 use Rattle.std.proofs.lemmas.Result.{on_ok_weaker}
-use Rattle.dense_blocks.specs.Blocks.{matrix_of, IsBlock}
+use Rattle.dense_blocks.specs.Blocks.{matrix_of}
+use Rattle.dense_blocks.specs.BlockFacts.{IsBlock}
 use Rattle.sheaf_data.specs.Sheaves.{SheafData}
 use Rattle.sheaf_data.specs.Betti.{signed_matrix}
 use Rattle.block_sparse.specs.StoredBlocks.{FitsPair, block_at}

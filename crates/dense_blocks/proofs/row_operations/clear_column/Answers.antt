@@ -1,5 +1,6 @@
 use Rattle.std.proofs.Common.{◌≡◌, ℕ, ◌-◌, ◌*◌, List, ◌++◌, sym, ap, ◌∙◌}
-use Rattle.dense_blocks.specs.Field.{Ops, IsField}
+use Rattle.dense_blocks.specs.Field.{Ops}
+use Rattle.dense_blocks.specs.FieldLaws.{IsField}
 use Rattle.dense_blocks.specs.Matrices.{cut}
 use Rattle.dense_blocks.proofs.ClearingLaws.{below-size, column-written, column-stuck}
 use Rattle.dense_blocks.proofs.row_operations.clear_column.Goals as goal

@@ -1,8 +1,9 @@
 use Rattle.std.proofs.Common.{◌≡◌, ℕ, ◌<◌, List, length, take, get_or, refl, sym, ap, ◌∙◌, subst, arith}
 use Rattle.std.proofs.lemmas.List.{get_or_read}
-use Rattle.dense_blocks.specs.Field.{Ops, IsField}
+use Rattle.dense_blocks.specs.Field.{Ops}
+use Rattle.dense_blocks.specs.FieldLaws.{IsField}
 use Rattle.dense_blocks.specs.Vectors.{IsVector, combination, zeros}
-use Rattle.dense_blocks.specs.Matrices.{IsMatrix}
+use Rattle.dense_blocks.specs.MatrixFacts.{IsMatrix}
 use Rattle.dense_blocks.specs.Elimination.{Eliminates, PullsBack, parts, reduced, rows}
 use Rattle.dense_blocks.specs.Solutions.{lists, IsLeading, Separates}
 use Rattle.dense_blocks.specs.declared.solution.Pivot.{Pivot}

@@ -1,5 +1,5 @@
 use Rattle.std.proofs.Common.{◌≡◌, ◌+◌, ◌*◌, ◌≤◌, drop}
-use Rattle.field_table.specs.Modular.{whole_dot}
+use Rattle.field_table.specs.ModularFacts.{whole_dot}
 use Rattle.field_table.proofs.kernels.sum_of_products.Given as goal
 
 abbrev pub invariant-loop-i : goal.invariant-loop-i

@@ -1,6 +1,7 @@
 use Rattle.std.proofs.Common.{◌≡◌, ℕ, ◌<◌, ◌≤◌, ⊎_elim, length, sym, ap, ◌∙◌, arith}
 use Rattle.std.proofs.lemmas.Bool.{cases_lt}
-use Rattle.cell_complex.specs.Complexes.{CellComplex, cofaces_of}
+use Rattle.cell_complex.specs.Complexes.{CellComplex}
+use Rattle.cell_complex.specs.Invariants.{cofaces_of}
 use Rattle.incidence_check.specs.Incidences.{pair_fault}
 use Rattle.incidence_check.proofs.Firsts.{filter_map-none, filter_map-first}
 use Rattle.incidence_check.proofs.Faults.{none_unreached, reached-below}

@@ -1,6 +1,7 @@
 use Rattle.std.proofs.Common.{ℕ, ◌+◌, ◌<◌, nat_eq, List, length, take, get_or, All, sym, subst, arith}
 use Rattle.std.specs.List.{list_any}
-use Rattle.cell_complex.specs.Complexes.{CellComplex, cofaces_of}
+use Rattle.cell_complex.specs.Complexes.{CellComplex}
+use Rattle.cell_complex.specs.Invariants.{cofaces_of}
 use Rattle.cell_complex.proofs.Numbers.{non_decreasing}
 use Rattle.cell_complex.proofs.Callers.{cofaces_of-below}
 use Rattle.incidence_check.specs.Reach.{IsLeastFrom, reaches}

@@ -1,7 +1,7 @@
 use Rattle.std.proofs.Common.{◌∙◌, ◌++◌, ◌∷◌, [], sym, subst, ap, ap₂, map, length, arith, List, ℕ}
 use Rattle.std.proofs.lemmas.List.{map-append}
 use Rattle.dense_blocks.specs.Vectors.{AllScalars}
-use Rattle.dense_blocks.specs.Matrices.{identity}
+use Rattle.dense_blocks.specs.MatrixFacts.{identity}
 use Rattle.dense_blocks.specs.Solutions.{lists}
 use Rattle.plain_bases.specs.Parts.{image}
 use Rattle.plain_bases.proofs.VecLaws.{unit_is_vector, images-next, images-all}

@@ -1,5 +1,5 @@
 use Rattle.std.proofs.Common.{◌≡◌, map, take}
-use Rattle.dense_blocks.specs.Matrices.{identity}
+use Rattle.dense_blocks.specs.MatrixFacts.{identity}
 use Rattle.dense_blocks.specs.Solutions.{lists}
 use Rattle.plain_bases.specs.Parts.{image}
 use Rattle.plain_bases.proofs.columns.columns.Given as goal

@@ -2,7 +2,7 @@ use Rattle.std.proofs.Common.{◌≡◌, ◌<◌, ◌≤◌, ◌+◌, ◌∙◌,
 use Rattle.std.proofs.Common.{arith}
 use Rattle.std.proofs.lemmas.List.{drop-map, length-drop}
 use Rattle.dense_blocks.specs.Vectors.{IsVector}
-use Rattle.dense_blocks.specs.Matrices.{IsMatrix}
+use Rattle.dense_blocks.specs.MatrixFacts.{IsMatrix}
 use Rattle.dense_blocks.specs.Solutions.{lists}
 use Rattle.dense_blocks.proofs.EliminationSteps.{list_at}
 use Rattle.plain_bases.specs.Complements.{Completes, IsConsidered}

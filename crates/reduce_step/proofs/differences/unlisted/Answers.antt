@@ -14,4 +14,5 @@ returns-then-not-is_among c =
     )
 
 pub returns : goal.returns
-returns c = each-among c.args.cells.now (c.args.but ∷ keys c.args.listed.now) (λ i l. c.loop-c.invariant i (omega arith))
+returns c = each-among c.args.cells.now (c.args.but ∷ keys c.args.listed.now)
+    (λ i l. c.loop-c.invariant i (omega arith))

@@ -1,5 +1,5 @@
 use Rattle.std.proofs.Common.{ap, ◌∙◌, sym}
-use Rattle.dense_blocks.specs.Matrices.{matrix_sum}
+use Rattle.dense_blocks.specs.MatrixFacts.{matrix_sum}
 use Rattle.dense_blocks.specs.Blocks.{matrix_of}
 use Rattle.reduce_step.proofs.FinishLaws.{change-negative}
 use Rattle.reduce_step.proofs.finish.new_corners.Goals as goal

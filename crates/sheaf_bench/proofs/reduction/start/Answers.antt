@@ -1,5 +1,5 @@
 use Rattle.std.proofs.Common.{◌∙◌, subst}
-use Rattle.cell_complex.specs.Complexes.{IsComplex}
+use Rattle.cell_complex.specs.Invariants.{IsComplex}
 use Rattle.sheaf_data.specs.Sheaves.{SheafData}
 use Rattle.block_complexes.proofs.SameLaws.{same-block_complex}
 use Rattle.block_sparse.specs.StoredBlocks.{complex_in}

@@ -1,5 +1,5 @@
 use Rattle.std.proofs.Common.{take}
-use Rattle.sheaf_data.specs.Sheaves.{AreZeroBlocks}
+use Rattle.sheaf_data.specs.Drafts.{AreZeroBlocks}
 use Rattle.sheaf_data.proofs.draft.zero_blocks.Given as goal
 
 abbrev pub invariant-loop-place : goal.invariant-loop-place

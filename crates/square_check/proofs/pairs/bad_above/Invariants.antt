@@ -1,5 +1,5 @@
 use Rattle.std.proofs.Common.{ℕ, ◌<◌, get_or}
-use Rattle.square_check.specs.Answers.{Fails, PassesBefore}
+use Rattle.square_check.specs.Searches.{Fails, PassesBefore}
 use Rattle.square_check.specs.Squares.{Commutes}
 use Rattle.square_check.proofs.pairs.bad_above.Given as goal
 

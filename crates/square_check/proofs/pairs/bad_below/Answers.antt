@@ -1,7 +1,7 @@
 use Rattle.std.proofs.Common.{ℕ, ◌+◌, ◌<◌, length, get_or, List, nat_eq, Option, All, below_more, sym, ap, ◌∙◌, subst}
 use Rattle.std.proofs.Common.{arith}
 use Rattle.std.specs.List.{list_any}
-use Rattle.square_check.specs.Answers.{Fails, PassesBefore}
+use Rattle.square_check.specs.Searches.{Fails, PassesBefore}
 use Rattle.square_check.specs.Squares.{Commutes}
 use Rattle.square_check.proofs.Clearing.{earlier-fails, earlier-clears_first, earlier-clears_second}
 use Rattle.square_check.proofs.Commuting.{faces_of-below, list_any-faces_of}

@@ -4,7 +4,7 @@ use Rattle.cell_complex.specs.declared.face.Face.{Face}
 use Rattle.cell_complex.specs.Complexes.{CellComplex}
 use Rattle.dense_blocks.specs.Field.{Ops}
 use Rattle.dense_blocks.specs.declared.block.Block.{Block}
-use Rattle.square_check.specs.Answers.{earlier_pair, Fails}
+use Rattle.square_check.specs.Searches.{earlier_pair, Fails}
 use Rattle.square_check.specs.Squares.{Commutes}
 use Rattle.square_check.proofs.Clearing.{earlier-fails}
 use Rattle.square_check.proofs.Placed.{some-same}

@@ -1,6 +1,6 @@
 use Rattle.std.proofs.Common.{◌≡◌, ℕ, ◌<◌, get_or, slice_get, Some}
 use Rattle.cell_complex.specs.declared.face.Face.{Face}
-use Rattle.square_check.specs.Answers.{Fails}
+use Rattle.square_check.specs.Searches.{Fails}
 use Rattle.square_check.specs.Squares.{Commutes}
 use Rattle.square_check.proofs.Visited.{ClearsAbove, ClearsBelow}
 use Rattle.square_check.proofs.touched.first_touched.Given as goal

@@ -2,7 +2,8 @@ use Rattle.std.proofs.Common.{sym, subst, arith}
 use Rattle.std.specs.List.Sorted.{IsNonDecreasing}
 use Rattle.std.proofs.lemmas.List.{map-append}
 use Rattle.cell_complex.specs.Neighbours.{neighbour_lists}
-use Rattle.cell_complex.specs.Complexes.{CellComplex, faces_of, cofaces_of}
+use Rattle.cell_complex.specs.Complexes.{CellComplex, faces_of}
+use Rattle.cell_complex.specs.Invariants.{cofaces_of}
 use Rattle.cell_complex.specs.Fields.{face_of_entry, complex_from}
 use Rattle.cell_complex.proofs.Numbers.{non_decreasing}
 use Rattle.cell_complex.proofs.Entries.{none-lookup}

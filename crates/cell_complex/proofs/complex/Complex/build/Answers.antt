@@ -3,8 +3,10 @@ use Rattle.std.proofs.lemmas.List.{take_all, length-take-le}
 use Rattle.std.proofs.lemmas.Option.{slice_get-get_or}
 use Rattle.cell_complex.specs.declared.face.Sign.TheVariants.{Plus}
 use Rattle.cell_complex.specs.declared.face.Face.{Face}
-use Rattle.cell_complex.specs.Complexes.{CellComplex, IsComplex}
-use Rattle.cell_complex.specs.Verdicts.{AllAccepted, IsFirstFault, face_fault, with_first_faces}
+use Rattle.cell_complex.specs.Complexes.{CellComplex}
+use Rattle.cell_complex.specs.Invariants.{IsComplex}
+use Rattle.cell_complex.specs.Verdicts.{face_fault}
+use Rattle.cell_complex.specs.Builds.{AllAccepted, IsFirstFault, with_first_faces}
 use Rattle.cell_complex.proofs.Faults.{accepted-complex, first_fault}
 use Rattle.cell_complex.proofs.complex.Complex.build.Goals as goal
 

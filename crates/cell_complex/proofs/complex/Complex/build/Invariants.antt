@@ -1,6 +1,6 @@
 use Rattle.std.proofs.Common.{◌≡◌}
-use Rattle.cell_complex.specs.Complexes.{IsComplex}
-use Rattle.cell_complex.specs.Verdicts.{with_first_faces}
+use Rattle.cell_complex.specs.Invariants.{IsComplex}
+use Rattle.cell_complex.specs.Builds.{with_first_faces}
 use Rattle.cell_complex.proofs.complex.Complex.build.Given as goal
 
 abbrev pub invariant-loop-face : goal.invariant-loop-face

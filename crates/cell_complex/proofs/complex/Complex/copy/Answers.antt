@@ -1,5 +1,6 @@
 use Rattle.std.proofs.Common.{ap, ◌∙◌}
-use Rattle.cell_complex.specs.Complexes.{CellComplex, with_face}
+use Rattle.cell_complex.specs.Complexes.{CellComplex}
+use Rattle.cell_complex.specs.Invariants.{with_face}
 use Rattle.cell_complex.specs.Verdicts.{face_fault}
 use Rattle.cell_complex.proofs.Faults.{accepted-complex, with_first_faces-more}
 use Rattle.cell_complex.proofs.complex.Complex.copy.Goals as goal

@@ -1,5 +1,5 @@
 use Rattle.std.proofs.Common.{◌≡◌}
-use Rattle.cell_complex.specs.Verdicts.{with_first_faces}
+use Rattle.cell_complex.specs.Builds.{with_first_faces}
 use Rattle.cell_complex.proofs.complex.Complex.copy.Given as goal
 
 abbrev pub invariant-loop-place : goal.invariant-loop-place

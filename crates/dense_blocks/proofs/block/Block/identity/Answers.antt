@@ -1,5 +1,5 @@
 use Rattle.std.proofs.Common.{arith, refl}
-use Rattle.dense_blocks.specs.Matrices.{identity}
+use Rattle.dense_blocks.specs.MatrixFacts.{identity}
 use Rattle.dense_blocks.proofs.Cutting.{sized-identity, first_rows-size, cut-first_rows}
 use Rattle.dense_blocks.proofs.block.Block.identity.Goals as goal
 

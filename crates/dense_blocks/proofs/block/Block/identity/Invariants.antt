@@ -1,5 +1,5 @@
 use Rattle.std.proofs.Common.{◌≡◌}
-use Rattle.dense_blocks.specs.Matrices.{identity}
+use Rattle.dense_blocks.specs.MatrixFacts.{identity}
 use Rattle.dense_blocks.proofs.Cutting.{first_rows}
 use Rattle.dense_blocks.proofs.block.Block.identity.Given as goal
 

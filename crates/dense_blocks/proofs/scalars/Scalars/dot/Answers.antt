@@ -1,5 +1,6 @@
 use Rattle.std.proofs.Common.{◌≡◌, ℕ, ◌+◌, List, get_or, refl, ap, ◌∙◌, arith}
-use Rattle.dense_blocks.specs.Field.{Ops, IsField}
+use Rattle.dense_blocks.specs.Field.{Ops}
+use Rattle.dense_blocks.specs.FieldLaws.{IsField}
 use Rattle.dense_blocks.proofs.ScalarLaws.{zero_below}
 use Rattle.dense_blocks.proofs.RowSteps.{dot_from, dot_from-start, dot_from-next, dot_from-all}
 use Rattle.dense_blocks.proofs.scalars.Scalars.dot.Goals as goal

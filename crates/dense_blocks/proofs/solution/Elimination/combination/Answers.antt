@@ -2,7 +2,8 @@ use Rattle.std.proofs.Common.{◌≡◌, ℕ, ◌<◌, List, [], ◌∷◌, ◌+
 use Rattle.std.proofs.Common.{◌∙◌, subst, subst₂, arith, length-append}
 use Rattle.std.specs.Prelude.{All}
 use Rattle.std.proofs.lemmas.List.{get_or_read, take_at}
-use Rattle.dense_blocks.specs.Field.{Ops, IsField}
+use Rattle.dense_blocks.specs.Field.{Ops}
+use Rattle.dense_blocks.specs.FieldLaws.{IsField}
 use Rattle.dense_blocks.specs.Vectors.{combination, plus, multiple, zeros}
 use Rattle.dense_blocks.specs.Elimination.{ComesFrom, rows}
 use Rattle.dense_blocks.specs.Solutions.{lists}

@@ -1,5 +1,6 @@
 use Rattle.std.proofs.Common.{subst}
-use Rattle.cell_complex.specs.Complexes.{faces_of, cofaces_of}
+use Rattle.cell_complex.specs.Complexes.{faces_of}
+use Rattle.cell_complex.specs.Invariants.{cofaces_of}
 use Rattle.edit_versions.specs.Edits.{zero_at, is_end}
 use Rattle.edit_versions.specs.Works.{Puts, is_from, is_to}
 use Rattle.edit_versions.proofs.Ends.{ends-at}

@@ -1,5 +1,6 @@
 use Rattle.std.proofs.Common.{ℕ, List, length, refl, sym, ap, ◌∙◌}
-use Rattle.dense_blocks.specs.Field.{Ops, IsField}
+use Rattle.dense_blocks.specs.Field.{Ops}
+use Rattle.dense_blocks.specs.FieldLaws.{IsField}
 use Rattle.dense_blocks.specs.Vectors.{plus, multiple}
 use Rattle.dense_blocks.proofs.Shapes.{vector_of}
 use Rattle.dense_blocks.proofs.RowSteps.{plus-multiple-zero}

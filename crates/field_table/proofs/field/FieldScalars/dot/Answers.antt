@@ -1,5 +1,6 @@
 use Rattle.std.proofs.Common.{◌≡◌, ℕ, ◌%◌, List, sym, ap, ◌∙◌, arith}
-use Rattle.dense_blocks.specs.Field.{Ops, IsField}
+use Rattle.dense_blocks.specs.Field.{Ops}
+use Rattle.dense_blocks.specs.FieldLaws.{IsField}
 use Rattle.dense_blocks.specs.Vectors.{dot}
 use Rattle.dense_blocks.proofs.ScalarLaws.{zero_add, zero_below}
 use Rattle.dense_blocks.proofs.VectorLaws.{dot-below}

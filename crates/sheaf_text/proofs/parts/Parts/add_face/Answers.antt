@@ -1,7 +1,7 @@
 use Rattle.std.proofs.Common.{refl, ap, ◌∙◌, List, ℕ, map}
 use Rattle.std.specs.Prelude.{slice_index}
 use Rattle.cell_complex.specs.declared.face.Face.{Face}
-use Rattle.cell_complex.specs.Complexes.{with_face}
+use Rattle.cell_complex.specs.Invariants.{with_face}
 use Rattle.sheaf_text.specs.Cut.{words, value_of}
 use Rattle.sheaf_text.proofs.Faces.{adds_face}
 use Rattle.sheaf_text.proofs.parts.Parts.add_face.Goals as goal

@@ -1,0 +1,18 @@
+-- The first pair that fails, as it is searched.
+use Rattle.std.specs.Prelude.{◌≡◌, ℕ, true, Option, None, Some, if◌then◌else◌}
+use Rattle.std.specs.Prelude.{MatchOption}
+use Rattle.square_check.specs.Answers.{is_before}
+
+-- the earlier of two pairs, as far as there are any
+abbrev pub earlier_pair : Option (ℕ × ℕ) → Option (ℕ × ℕ) → Option (ℕ × ℕ)
+earlier_pair None b = b
+earlier_pair (Some p) None = Some p
+earlier_pair (Some p) (Some q) = if is_before q p then Some q else Some p
+
+-- the pair, if any, fails
+abbrev pub Fails : (ℕ → ℕ → Type 0) → Option (ℕ × ℕ) → Type 0
+Fails P r = MatchOption r (Unit {0}) (λ p. P p.0 p.1 → ⊥)
+
+-- s and u pass, unless the answer is a pair that does not come after them
+abbrev pub PassesBefore : (ℕ → ℕ → Type 0) → Option (ℕ × ℕ) → ℕ → ℕ → Type 0
+PassesBefore P r s u = MatchOption r (P s u) (λ p. is_before (s, u) p ≡ true → P s u)
