@@ -19,13 +19,13 @@ use Rattle.sheaf_words.specs.declared.reply.Reply.{Reply as Answer}
 use Rattle.sheaf_words.specs.declared.reply.Reply.TheVariants as replies
 use Rattle.sheaf_words.specs.declared.event.Event.{Event}
 use Rattle.sheaf_words.specs.declared.event.Event.TheVariants.{Edit, Ask, Pair, Reply}
-use Rattle.reply_text.specs.Replies.{IsAnswerTo}
-use Rattle.reply_text.specs.Transcripts.{ends_for, is_accepted, ended_count, current_version, asked_version, IfPresent}
-use Rattle.reply_text.specs.Transcripts.{IsAnswered, IsOf, AreOf}
+use Rattle.reply_text.specs.ClientEvents.{IsAnswerTo, IfPresent, IsAnswered, IsOf, AreOf}
+use Rattle.reply_text.specs.Transcripts.{ends_for, is_accepted, ended_count, current_version, asked_version}
 use Rattle.reply_text.proofs.Counting.{count-more, asked-more}
 use Rattle.core_machine.specs.Replies.{IsRightReply}
 use Rattle.core_machine.specs.Machine.{Lane, State, free_lane, waiting_lane, first_state, command_at, with_lane}
-use Rattle.core_machine.specs.Machine.{AreVersionsAfter, EditStep, AskStep, ReplyStep, Step, Leads, IsLegal}
+use Rattle.core_machine.specs.Machine.{AreVersionsAfter, EditStep, AskStep, ReplyStep, Step, Leads}
+use Rattle.core_machine.specs.Legal.{IsLegal}
 use Rattle.core_machine.specs.Counts.{IsCounted}
 
 -- ---- the lanes after one step

@@ -4,8 +4,10 @@ use Rattle.dense_blocks.specs.Field.{Ops}
 use Rattle.sheaf_data.specs.Sheaves.{SheafData}
 use Rattle.sheaf_words.specs.declared.query.Command.{Command}
 use Rattle.sheaf_words.specs.declared.event.Event.{Event}
-use Rattle.reply_text.specs.Transcripts.{ended_count, current_version, asked_version, AreOf}
-use Rattle.core_machine.specs.Machine.{State, IsLegal}
+use Rattle.reply_text.specs.Transcripts.{ended_count, current_version, asked_version}
+use Rattle.reply_text.specs.ClientEvents.{AreOf}
+use Rattle.core_machine.specs.Machine.{State}
+use Rattle.core_machine.specs.Legal.{IsLegal}
 
 -- after these events: the version that stands is the current one, each lane is at the number of its ended_count
 -- commands, and a pending version is the one that stood at the client's last question

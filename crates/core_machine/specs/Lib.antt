@@ -1,4 +1,5 @@
 pub mod Replies
 pub mod Machine
+pub mod Legal
 pub mod Counts
 pub mod Versions

@@ -124,18 +124,11 @@ abbrev pub Leads : {F : Type 0} → Ops → List (List Command) → List Event �
 Leads K scripts [] s t = s ≡ t
 Leads {F} K scripts (event ∷ events) s t = (m : State F) × Step K scripts event s m × Leads K scripts events m t
 
--- legal: the events lead from the first state to this one
-abbrev pub IsLegal : {F : Type 0} → Ops → List (List Command) → SheafData F → List Event → State F → Type 0
-IsLegal K scripts sheaf events t = Leads K scripts events (first_state sheaf) t
-
--- whole: each client's script is done, and nothing is pending
-abbrev pub IsWhole : {F : Type 0} → List (List Command) → State F → Type 0
-IsWhole scripts s = (c : ℕ) (script : List Command) → slice_get scripts c ≡ Some script
-    → s.lanes c ≡ free_lane (length script)
-
--- the events are one legal order of all commands of these scripts on this sheaf, whole
+-- the events are one legal order of all commands of these scripts on this sheaf, whole: they lead from the first state
+-- to one where each client's script is done, and nothing is pending
 pub record IsLegalAndWhole {F : Type 0} (K : Ops) (scripts : List (List Command)) (sheaf : SheafData F)
     (events : List Event) : Type 0 where
   pub last : State F
-  pub legal : IsLegal K scripts sheaf events last
-  pub whole : IsWhole scripts last
+  pub legal : Leads K scripts events (first_state sheaf) last
+  pub whole : (c : ℕ) (script : List Command) → slice_get scripts c ≡ Some script
+      → last.lanes c ≡ free_lane (length script)

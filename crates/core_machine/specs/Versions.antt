@@ -5,7 +5,8 @@ use Rattle.dense_blocks.specs.FieldLaws.{IsField}
 use Rattle.sheaf_data.specs.Sheaves.{SheafData, IsSheaf}
 use Rattle.sheaf_words.specs.declared.query.Command.{Command}
 use Rattle.sheaf_words.specs.declared.event.Event.{Event}
-use Rattle.core_machine.specs.Machine.{State, IsLegal}
+use Rattle.core_machine.specs.Machine.{State}
+use Rattle.core_machine.specs.Legal.{IsLegal}
 
 -- in each state that is reached from a sheaf over a field, every version is a sheaf
 abbrev pub LegalVersionsAreSheaves : Type 0 → Type 0

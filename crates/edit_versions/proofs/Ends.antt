@@ -10,8 +10,7 @@ use Rattle.cell_complex.specs.declared.face.Face.{Face}
 use Rattle.cell_complex.specs.Complexes.{CellComplex, joins, all_cells, is_face, faces_of}
 use Rattle.cell_complex.specs.Invariants.{IsComplex, cofaces_of}
 use Rattle.cell_complex.proofs.Callers.{incident_from_face, list_any-cofaces_of}
-use Rattle.edit_versions.specs.Edits.{is_end}
-use Rattle.edit_versions.specs.Works.{is_from, is_to}
+use Rattle.edit_versions.specs.Works.{is_from, is_to, is_end}
 
 eqb-sym : (a b : ℕ) → nat_eq a b ≡ nat_eq b a
 eqb-sym a b = by (nat_eq a b) refl (nat_eq b a) refl

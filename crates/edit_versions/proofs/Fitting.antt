@@ -1,7 +1,8 @@
 -- What a set keeps: stalks of at most 16, and matrices of scalars from stalk to stalk.
 use Rattle.std.proofs.Common.{◌≡◌, ℕ, zero, suc, ◌+◌, ◌*◌, ◌<◌, ◌≤◌, Bool, true, false, not, cond, ◌||◌, nat_eq, nat_lt}
 use Rattle.std.proofs.Common.{List, [], ◌∷◌, length, map, set, slice_get, slice_index, None, Some, All, refl, sym, ap}
-use Rattle.std.proofs.Common.{◌∙◌, subst, arith, Option, Result, Ok}
+use Rattle.std.proofs.Common.{◌∙◌, subst, arith, Option, Result, Ok, Err}
+use Rattle.std.specs.Option.{option_map_or}
 use Rattle.std.specs.List.{list_all, AllZip}
 use Rattle.std.proofs.lemmas.Bool.{ltb-true, ltb-false, eqb-true, eqb-false, and_parts}
 use Rattle.std.proofs.lemmas.List.{length-set, get_or-set_other}
@@ -19,9 +20,9 @@ use Rattle.sheaf_words.specs.declared.edit.Set.TheVariants.{Stalk, Restrict}
 use Rattle.sheaf_words.specs.declared.edit.Cause.{Cause}
 use Rattle.sheaf_words.specs.declared.edit.Cause.TheVariants.{NoCell, NoFace, StalkLimit, Shape, Entry}
 use Rattle.edit_versions.specs.declared.work.Work.{Work}
-use Rattle.edit_versions.specs.Edits.{WrittenMatrix, written_matrix, SheafLists, with_replacements, is_end, zero_at}
-use Rattle.edit_versions.specs.Edits.{matrix_between, with_set, set_fault, unless, sets_made}
-use Rattle.edit_versions.specs.Works.{IsWork, TakesSet, work_lists}
+use Rattle.edit_versions.specs.Edits.{WrittenMatrix, written_matrix, SheafLists, with_replacements}
+use Rattle.edit_versions.specs.Edits.{matrix_between, with_set, set_fault, sets_made}
+use Rattle.edit_versions.specs.Works.{IsWork, TakesSet, work_lists, is_end, zero_at}
 
 -- a matrix of scalars that goes from the stalk of the face's cell s to that of its cell t
 pub record FitsFace (K : Ops) (stalks : List ℕ) (f : Face) (m : WrittenMatrix) : Type 0 where
@@ -184,7 +185,7 @@ sets-fit K o c i (x ∷ xs) l m e h =
     let parts = made (set_fault K c l.stalks i x) (sets_made K c (with_set c l x) (i + 1) xs) e in
     sets-fit K o c (i + 1) xs (with_set c l x) m parts.1 (set-fits K o c i x l parts.0 h)
   where
-    made : (f : Option Cause) (r : Result SheafLists Cause) → unless f r ≡ Ok m → (f ≡ None) × (r ≡ Ok m)
+    made : (f : Option Cause) (r : Result SheafLists Cause) → option_map_or Err f r ≡ Ok m → (f ≡ None) × (r ≡ Ok m)
     made None r is = (refl, is)
     made (Some cause) r is = absurd cc
 
@@ -211,5 +212,5 @@ pub sets_made-next : (K : Ops) (c : CellComplex) (l next : SheafLists) (i : ℕ)
     → set_fault K c l.stalks i x ≡ None
     → next ≡ with_set c l x → sets_made K c next (i + 1) xs ≡ sets_made K c l i (x ∷ xs)
 sets_made-next K c l next i x xs e h =
-    ap (λ lists. sets_made K c lists (i + 1) xs) h ∙ ap (λ o. unless o (sets_made K c (with_set c l x) (i + 1) xs))
-    (sym e)
+    ap (λ lists. sets_made K c lists (i + 1) xs) h
+    ∙ ap (λ o. option_map_or Err o (sets_made K c (with_set c l x) (i + 1) xs)) (sym e)

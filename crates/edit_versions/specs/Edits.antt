@@ -2,6 +2,7 @@
 use Rattle.std.specs.Prelude.{ℕ, ◌+◌, ◌*◌, Bool, List, [], ◌∷◌, Option, None, Some, Result, Ok, Err, length, map}
 use Rattle.std.specs.Prelude.{slice_index, slice_set, nat_lt, not, ◌==◌, ◌||◌, if◌then◌else◌}
 use Rattle.std.specs.List.{list_all}
+use Rattle.std.specs.Option.{option_map_or}
 use Rattle.cell_complex.specs.declared.face.Face.{Face}
 use Rattle.cell_complex.specs.Complexes.{CellComplex, joins, is_face}
 use Rattle.dense_blocks.specs.Field.{Ops}
@@ -47,14 +48,6 @@ abbrev pub matrix_between : List ℕ → ℕ → ℕ → List ℕ → WrittenMat
 matrix_between stalks s t entries =
     record { rows = slice_index stalks t; cols = slice_index stalks s; entries = entries }
 
--- the zero matrix from the stalk of s to that of t
-abbrev pub zero_between : List ℕ → ℕ → ℕ → WrittenMatrix
-zero_between stalks s t = matrix_between stalks s t (zeros (slice_index stalks t * slice_index stalks s))
-
--- the zero matrix of a face
-abbrev pub zero_at : List ℕ → Face → WrittenMatrix
-zero_at stalks f = zero_between stalks f.s f.t
-
 -- at each face that passes the test the matrix made for it, at each other face the one that was there
 abbrev pub with_replacements : (Face → Bool) → (Face → WrittenMatrix) → List Face → List WrittenMatrix
     → List WrittenMatrix
@@ -62,28 +55,20 @@ with_replacements p make [] ms = []
 with_replacements p make (f ∷ fs) [] = []
 with_replacements p make (f ∷ fs) (m ∷ ms) = (if p f then make f else m) ∷ with_replacements p make fs ms
 
--- whether the cell is an end of the face
-abbrev pub is_end : ℕ → Face → Bool
-is_end s f = (s == f.s) || (s == f.t)
-
--- a stalk's new size, and the zero matrix at each face at the cell
-abbrev pub with_stalk : CellComplex → SheafLists → ℕ → ℕ → SheafLists
-with_stalk c l s n =
-    let stalks = slice_set l.stalks s n in
-    record { stalks = stalks; matrices = with_replacements (is_end s) (zero_at stalks) c.faces l.matrices }
-
--- what a set makes
+-- what a set makes: a stalk's new size, and the zero matrix at each face at the cell; or the matrix of a face
 abbrev pub with_set : CellComplex → SheafLists → Set → SheafLists
-with_set c l (Stalk s n) = with_stalk c l s n
+with_set c l (Stalk s n) =
+    let stalks = slice_set l.stalks s n in
+    record {
+      stalks = stalks;
+      matrices = with_replacements (λ f. (s == f.s) || (s == f.t)) (λ f. matrix_between stalks f.s f.t
+          (zeros (slice_index stalks f.t * slice_index stalks f.s))) c.faces l.matrices;
+    }
 with_set c l (Restrict s t entries) =
     record l { matrices = with_replacements (joins s t) (λ f. matrix_between l.stalks s t entries) c.faces l.matrices }
-
--- a cause, or else what comes of the rest
-abbrev pub unless : Option Cause → Result SheafLists Cause → Result SheafLists Cause
-unless None rest = rest
-unless (Some cause) rest = Err cause
 
 -- what the sets make, taken in order, or the fault of the first that has one; their places are counted from i on
 abbrev pub sets_made : Ops → CellComplex → SheafLists → ℕ → List Set → Result SheafLists Cause
 sets_made K c l i [] = Ok l
-sets_made K c l i (x ∷ xs) = unless (set_fault K c l.stalks i x) (sets_made K c (with_set c l x) (i + 1) xs)
+sets_made K c l i (x ∷ xs) =
+    option_map_or Err (set_fault K c l.stalks i x) (sets_made K c (with_set c l x) (i + 1) xs)

@@ -1,5 +1,6 @@
 -- The verdict on an edit, and the sheaf that it makes.
-use Rattle.std.specs.Prelude.{◌≡◌, ℕ, List, Option, None, Some, Ok, MatchResult, MatchBool, length, map, sum, nat_lt}
+use Rattle.std.specs.Prelude.{◌≡◌, ℕ, List, Option, Ok, MatchResult, MatchBool, length, map, sum, nat_lt}
+use Rattle.std.specs.Option.{option_map_or}
 use Rattle.cell_complex.specs.Complexes.{CellComplex}
 use Rattle.dense_blocks.specs.Field.{Ops}
 use Rattle.dense_blocks.specs.declared.block.Block.{Block}
@@ -12,29 +13,22 @@ use Rattle.sheaf_words.specs.declared.edit.Verdict.{Verdict}
 use Rattle.sheaf_words.specs.declared.edit.Verdict.TheVariants.{Accepted, Refused}
 use Rattle.edit_versions.specs.Edits.{WrittenMatrix, written_matrix, SheafLists, sheaf_lists, sets_made}
 
--- accepted where no square fails, else refused for this one
-abbrev pub verdict_on_square : Option (ℕ × ℕ) → Verdict
-verdict_on_square None = Accepted
-verdict_on_square (Some p) = Refused (Square p.0 p.1)
-
 -- the verdict on restrictions: the first of all pairs of cells whose square does not commute, if there is one
 pub record IsSquareVerdict (K : Ops) (c : CellComplex) (matrices : List WrittenMatrix) (v : Verdict) : Type 0 where
   pub blocks : List Block
   pub same : map written_matrix blocks ≡ matrices
   pub bad : Option (ℕ × ℕ)
   pub first : IsFirstFailure (Commutes K c blocks) (length c.dims) bad
-  pub verdict : v ≡ verdict_on_square bad
+  pub verdict : v ≡ option_map_or (λ p. Refused (Square p.0 p.1)) bad Accepted
 
--- the verdict on what all sets make: too large a total, else that on the restrictions
-abbrev pub IsListVerdict : Ops → CellComplex → Verdict → SheafLists → Type 0
-IsListVerdict K c v l = MatchBool (nat_lt 4096 (sum l.stalks)) (v ≡ Refused TotalLimit)
-    (IsSquareVerdict K c l.matrices v)
-
--- the verdict on an edit of a sheaf over the field of K: the first set at fault, else that on what all sets make
+-- the verdict on an edit of a sheaf over the field of K: the first set at fault; else, of what all sets make, too large
+-- a total; else that on the restrictions
 abbrev pub IsVerdict : {F : Type 0} → Ops → SheafData F → Edit → Verdict → Type 0
 IsVerdict K sheaf edit v =
     MatchResult (sets_made K sheaf.complex (sheaf_lists sheaf.stalks sheaf.blocks) 0 edit.sets)
-    (IsListVerdict K sheaf.complex v) (λ cause. v ≡ Refused cause)
+    (λ l. MatchBool (nat_lt 4096 (sum l.stalks)) (v ≡ Refused TotalLimit)
+        (IsSquareVerdict K sheaf.complex l.matrices v))
+    (λ cause. v ≡ Refused cause)
 
 -- the edited sheaf: what all sets make, over the same complex and field
 pub record IsEdited {F : Type 0} (K : Ops) (old : SheafData F) (edit : Edit) (new : SheafData F) : Type 0 where

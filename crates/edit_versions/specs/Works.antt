@@ -1,16 +1,17 @@
 -- The stalks and blocks that an edit makes, set by set.
-use Rattle.std.specs.Prelude.{◌≡◌, ℕ, ◌≤◌, ◌<◌, List, Bool, length, map, All}
+use Rattle.std.specs.Prelude.{◌≡◌, ℕ, ◌≤◌, ◌<◌, ◌*◌, ◌==◌, ◌||◌, List, Bool, length, map, slice_index, All}
 use Rattle.std.specs.List.{list_any}
 use Rattle.cell_complex.specs.declared.face.Face.{Face}
 use Rattle.cell_complex.specs.Complexes.{CellComplex, joins}
 use Rattle.dense_blocks.specs.Field.{Ops}
+use Rattle.dense_blocks.specs.Vectors.{zeros}
 use Rattle.dense_blocks.specs.declared.block.Block.{Block}
 use Rattle.sheaf_data.specs.Sheaves.{AreBlocks}
 use Rattle.sheaf_data.specs.Changes.{AreSameElsewhere}
 use Rattle.sheaf_words.specs.declared.edit.Set.{Set}
 use Rattle.edit_versions.specs.declared.work.Work.{Work}
 use Rattle.edit_versions.specs.Edits.{WrittenMatrix, SheafLists, written_matrix, sheaf_lists, with_replacements}
-use Rattle.edit_versions.specs.Edits.{with_set}
+use Rattle.edit_versions.specs.Edits.{matrix_between, with_set}
 
 -- what the work stands for
 abbrev pub work_lists : Work → SheafLists
@@ -48,3 +49,15 @@ is_from below t f = list_any (λ s. joins s t f) below
 -- whether the face is that of s in one of these cells
 abbrev pub is_to : List ℕ → ℕ → Face → Bool
 is_to above s f = list_any (λ t. joins s t f) above
+
+-- the zero matrix from the stalk of s to that of t
+abbrev pub zero_between : List ℕ → ℕ → ℕ → WrittenMatrix
+zero_between stalks s t = matrix_between stalks s t (zeros (slice_index stalks t * slice_index stalks s))
+
+-- the zero matrix of a face
+abbrev pub zero_at : List ℕ → Face → WrittenMatrix
+zero_at stalks f = zero_between stalks f.s f.t
+
+-- whether the cell is an end of the face
+abbrev pub is_end : ℕ → Face → Bool
+is_end s f = (s == f.s) || (s == f.t)

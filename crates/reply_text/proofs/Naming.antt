@@ -11,13 +11,13 @@ use Rattle.std.proofs.lemmas.Bool.{eqb-true}
 use Rattle.sheaf_words.specs.declared.query.Command.{Command}
 use Rattle.sheaf_words.specs.declared.event.Event.{Event}
 use Rattle.sheaf_words.specs.declared.event.Event.TheVariants.{Edit, Ask, Pair, Reply}
-use Rattle.reply_text.specs.Lines.{line_text, lines_text}
+use Rattle.reply_text.specs.Lines.{line_text}
+use Rattle.reply_text.specs.Parts.{lines_text, answer_lines, event_lines, client_part}
 use Rattle.reply_text.specs.Transcripts.{ends_for, ended_count, current_version, is_accepted, command_number}
-use Rattle.reply_text.specs.Transcripts.{version_named, answer_lines, event_lines, client_lines, client_part}
-use Rattle.reply_text.specs.Transcripts.{clients_lines, client_of, order_lines, IfPresent, IsAnswered, IsOf, AreOf}
-use Rattle.reply_text.specs.Transcripts.{AreAnswered}
+use Rattle.reply_text.specs.Transcripts.{version_named, client_lines, clients_lines, order_lines}
+use Rattle.reply_text.specs.ClientEvents.{client_of, IfPresent, IsAnswered, IsOf, AreOf, AreAnswered, IsAnswerTo}
 use Rattle.reply_text.specs.Events.{event_words}
-use Rattle.reply_text.specs.Replies.{reply_lines, IsAnswerTo}
+use Rattle.reply_text.specs.Replies.{reply_lines}
 use Rattle.reply_text.specs.Counts.{IsCountOf}
 use Rattle.reply_text.specs.declared.counts.Counts.{Counts}
 

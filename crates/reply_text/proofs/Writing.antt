@@ -1,7 +1,8 @@
 -- What is written, as the text of lines of words.
 use Rattle.std.proofs.Common.{◌≡◌, ℕ, List, [], ◌∷◌, ◌++◌, ap, ◌∙◌, sym, append-nil}
 use Rattle.std.specs.List.{join_with_byte}
-use Rattle.reply_text.specs.Lines.{spaced_words, line_text, lines_text}
+use Rattle.reply_text.specs.Parts.{spaced_words, lines_text}
+use Rattle.reply_text.specs.Lines.{line_text}
 
 -- words joined, as the first and a space before each other
 pub join_spaced : (word : List ℕ) (words : List (List ℕ)) → join_with_byte 32 (word ∷ words) ≡ word

@@ -2,4 +2,6 @@ pub mod Lines
 pub mod Replies
 pub mod Events
 pub mod Transcripts
+pub mod Parts
+pub mod ClientEvents
 pub mod Counts

@@ -3,7 +3,6 @@ use Rattle.std.specs.Prelude.{ℕ, List, [], ◌∷◌, ◌++◌, map, codes}
 use Rattle.std.specs.Fmt.{decimal}
 use Rattle.sheaf_words.specs.declared.query.Command.{Command}
 use Rattle.sheaf_words.specs.declared.query.Command.TheVariants.{Change, Ask}
-use Rattle.sheaf_words.specs.declared.query.Query.{Query}
 use Rattle.sheaf_words.specs.declared.query.Query.TheVariants as queries
 use Rattle.sheaf_words.specs.declared.edit.Cause.{Cause}
 use Rattle.sheaf_words.specs.declared.edit.Cause.TheVariants.{NoCell, NoFace, StalkLimit, Shape, Entry, TotalLimit}
@@ -14,20 +13,16 @@ use Rattle.sheaf_words.specs.declared.event.Event.{Event}
 use Rattle.sheaf_words.specs.declared.event.Event.TheVariants as events
 use Rattle.sheaf_words.specs.declared.reply.Reply.TheVariants as replies
 
--- the first word of a query
-abbrev pub query_word : Query → List ℕ
-query_word queries.Betti = codes "betti"
-query_word queries.Reduce = codes "reduce"
-query_word queries.Equiv = codes "equiv"
-query_word (queries.Basis k) = codes "basis"
-query_word (queries.Class k z) = codes "class"
-query_word queries.Sections = codes "sections"
-query_word (queries.Extend s v) = codes "extend"
-
 -- the first word of a command
 abbrev pub command_word : Command → List ℕ
 command_word (Change edit) = codes "edit"
-command_word (Ask query) = query_word query
+command_word (Ask queries.Betti) = codes "betti"
+command_word (Ask queries.Reduce) = codes "reduce"
+command_word (Ask queries.Equiv) = codes "equiv"
+command_word (Ask (queries.Basis k)) = codes "basis"
+command_word (Ask (queries.Class k z)) = codes "class"
+command_word (Ask queries.Sections) = codes "sections"
+command_word (Ask (queries.Extend s v)) = codes "extend"
 
 abbrev pub cause_words : Cause → List (List ℕ)
 cause_words (NoCell i) = codes "cell" ∷ decimal i ∷ []
@@ -42,27 +37,13 @@ abbrev pub verdict_words : Verdict → List (List ℕ)
 verdict_words Accepted = codes "accepted" ∷ []
 verdict_words (Refused cause) = codes "refused" ∷ cause_words cause
 
--- the event answers the command: an edit with its verdict, a query with a reply of its kind
-abbrev pub IsAnswerTo : Command → Event → Type 0
-IsAnswerTo (Change edit) (events.Edit c verdict) = Unit {0}
-IsAnswerTo (Ask queries.Betti) (events.Reply c (replies.Betti numbers)) = Unit {0}
-IsAnswerTo command event = ⊥
-
--- what the first line says after the word of the command
+-- what the line says after the word of the command
 abbrev pub answer_words : Event → List (List ℕ)
 answer_words (events.Edit c verdict) = verdict_words verdict
 answer_words (events.Reply c (replies.Betti numbers)) = map decimal numbers
 answer_words event = []
 
--- the first of the lines that answer the command of this number on version v
-abbrev pub first_line : ℕ → ℕ → Command → Event → List (List ℕ)
-first_line number v command event =
-    decimal number ∷ (codes "v" ++ decimal v) ∷ command_word command ∷ answer_words event
-
--- the lines that follow the first: none yet
-abbrev pub following_lines : Event → List (List (List ℕ))
-following_lines event = []
-
--- the lines that answer the command of this number on version v
+-- the lines that answer the command of this number on version v: for now there is one
 abbrev pub reply_lines : ℕ → ℕ → Command → Event → List (List (List ℕ))
-reply_lines number v command event = first_line number v command event ∷ following_lines event
+reply_lines number v command event =
+    (decimal number ∷ (codes "v" ++ decimal v) ∷ command_word command ∷ answer_words event) ∷ []

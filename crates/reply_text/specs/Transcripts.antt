@@ -1,13 +1,15 @@
 -- The transcript of a list of events.
-use Rattle.std.specs.Prelude.{◌≡◌, ℕ, ◌+◌, ◌<◌, Bool, true, false, List, [], ◌∷◌, ◌++◌, Option, Some, None, length}
-use Rattle.std.specs.Prelude.{take, count_by, slice_get, option_and_then, if◌then◌else◌, ◌==◌, codes}
+use Rattle.std.specs.Prelude.{ℕ, ◌+◌, Bool, true, false, List, [], ◌∷◌, ◌++◌, count_by, slice_get, if◌then◌else◌, ◌==◌}
+use Rattle.std.specs.Prelude.{codes}
+use Rattle.std.specs.List.{flat_map}
+use Rattle.std.specs.Option.{option_map_or}
 use Rattle.std.specs.Fmt.{decimal}
 use Rattle.sheaf_words.specs.declared.query.Command.{Command}
 use Rattle.sheaf_words.specs.declared.edit.Verdict.TheVariants.{Accepted, Refused}
 use Rattle.sheaf_words.specs.declared.event.Event.{Event}
 use Rattle.sheaf_words.specs.declared.event.Event.TheVariants.{Edit, Ask, Pair, Reply}
-use Rattle.reply_text.specs.Lines.{lines_text}
-use Rattle.reply_text.specs.Replies.{IsAnswerTo, reply_lines}
+use Rattle.reply_text.specs.Lines.{line_text}
+use Rattle.reply_text.specs.Replies.{reply_lines}
 use Rattle.reply_text.specs.Events.{event_words}
 
 -- whether the event ends a command of client c: an edit is judged, a query is answered
@@ -61,45 +63,21 @@ command_number earlier (Ask c) = ended_count c earlier + 1
 command_number earlier (Pair v x y) = 0
 command_number earlier (Reply c r) = ended_count c earlier + 1
 
--- the lines of an event that ends the command
-abbrev pub answer_lines : List Event → Event → Option Command → List (List (List ℕ))
-answer_lines earlier event None = []
-answer_lines earlier event (Some command) = reply_lines (command_number earlier event) (version_named earlier event)
-    command event
-
--- the lines that an event after the earlier ones gives client c with this script
-abbrev pub event_lines : ℕ → List Command → List Event → Event → List (List (List ℕ))
-event_lines c script earlier event = if ends_for c event then
-    answer_lines earlier event (slice_get script (ended_count c earlier)) else []
-
--- the replies to client c with this script, in order
+-- the replies to client c with this script, in order: each event that ends a command of its script gives the lines that
+-- answer it
 abbrev pub client_lines : ℕ → List Command → List Event → List Event → List (List (List ℕ))
 client_lines c script earlier [] = []
-client_lines c script earlier (event ∷ events) = event_lines c script earlier event ++ client_lines c script
-    (earlier ++ event ∷ []) events
+client_lines c script earlier (event ∷ events) =
+    (if ends_for c event then option_map_or
+    (λ command. reply_lines (command_number earlier event) (version_named earlier event) command event)
+    (slice_get script (ended_count c earlier)) []
+    else []) ++ client_lines c script (earlier ++ event ∷ []) events
 
--- the line `client C`, and then the replies to client c
-abbrev pub client_part : ℕ → List Command → List Event → List (List (List ℕ))
-client_part c script events = (codes "client" ∷ decimal c ∷ []) ∷ client_lines c script [] events
-
--- this for each client from c on
+-- for each client from c on the line `client C`, and then the replies to it
 abbrev pub clients_lines : ℕ → List (List Command) → List Event → List (List (List ℕ))
 clients_lines c [] events = []
-clients_lines c (script ∷ scripts) events = client_part c script events ++ clients_lines (c + 1) scripts events
-
--- the client whose command an event is about, if it is about one
-abbrev pub client_of : Event → Option ℕ
-client_of (Edit c verdict) = Some c
-client_of (Ask c) = Some c
-client_of (Pair v x y) = None
-client_of (Reply c r) = Some c
-
--- the client whose command an event ends, if it ends one
-abbrev pub ender_of : Event → Option ℕ
-ender_of (Edit c verdict) = Some c
-ender_of (Ask c) = None
-ender_of (Pair v x y) = None
-ender_of (Reply c r) = Some c
+clients_lines c (script ∷ scripts) events =
+    (codes "client" ∷ decimal c ∷ []) ∷ (client_lines c script [] events ++ clients_lines (c + 1) scripts events)
 
 -- a line for each event
 abbrev pub order_lines : List Event → List Event → List (List (List ℕ))
@@ -110,32 +88,5 @@ order_lines earlier (event ∷ events) = event_words (command_number earlier eve
 -- the transcript of the events that clients with these scripts made: their replies, and then what happened in order
 abbrev pub transcript : List (List Command) → List Event → List ℕ
 transcript scripts events =
-    lines_text (clients_lines 0 scripts events
+    flat_map line_text (clients_lines 0 scripts events
     ++ ((codes "order" ∷ []) ∷ (order_lines [] events ++ (codes "end" ∷ []) ∷ [])))
-
--- there is a value, and it meets P
-abbrev pub IfPresent : {X : Type 0} → Option X → (X → Type 0) → Type 0
-IfPresent None P = ⊥
-IfPresent (Some x) P = P x
-
--- client c has a command that no earlier event ended, and the event answers it
-abbrev pub IsAnswered : List (List Command) → List Event → ℕ → Event → Type 0
-IsAnswered scripts earlier c event =
-    IfPresent (option_and_then (λ script. slice_get script (ended_count c earlier)) (slice_get scripts c))
-    (λ command. IsAnswerTo command event)
-
--- the event after the earlier ones is one of these clients, and what ends a command answers it
-abbrev pub IsOf : List (List Command) → List Event → Event → Type 0
-IsOf scripts earlier (Edit c verdict) = IsAnswered scripts earlier c (Edit c verdict)
-IsOf scripts earlier (Ask c) = c < length scripts
-IsOf scripts earlier (Pair v x y) = Unit {0}
-IsOf scripts earlier (Reply c r) = IsAnswered scripts earlier c (Reply c r)
-
--- each event is one of these clients, and what ends a command answers it
-abbrev pub AreOf : List (List Command) → List Event → Type 0
-AreOf scripts events = (i : ℕ) (event : Event) → slice_get events i ≡ Some event → IsOf scripts (take i events) event
-
--- each event that ends a command of the client ends one of its script, in order, and answers it
-abbrev pub AreAnswered : ℕ → List Command → List Event → Type 0
-AreAnswered c script events = (i : ℕ) (event : Event) → slice_get events i ≡ Some event → ends_for c event ≡ true
-    → IfPresent (slice_get script (ended_count c (take i events))) (λ command. IsAnswerTo command event)

@@ -1,26 +1,11 @@
 ghost use Rattle.std.specs.Prelude.{◌≡◌, ◌∷◌, ◌++◌, IfOk, OnOk, OnErr};
-ghost use Rattle.reply_text.specs.Lines.{spaced_words, lines_text};
-ghost use Rattle.reply_text.specs.Replies.{query_word, command_word, cause_words, verdict_words, IsAnswerTo};
-ghost use Rattle.reply_text.specs.Replies.{answer_words, reply_lines};
+ghost use Rattle.reply_text.specs.Parts.{spaced_words, lines_text};
+ghost use Rattle.reply_text.specs.Replies.{command_word, cause_words, verdict_words, answer_words, reply_lines};
+ghost use Rattle.reply_text.specs.ClientEvents.{IsAnswerTo};
 
 use crate::words::{put_all, put_named, put_next, put_number};
 use sheaf_words::{Cause, Command, Event, Query, Reply, Verdict};
 use std::alloc::{AllocError as NoMemory, Global};
-
-/// The first word of a query.
-fn query_word(query: &Query) -> &'static [u8]
-    ensures { result.now ≡ query_word query.now }
-{
-    match query {
-        Query::Betti => b"betti",
-        Query::Reduce => b"reduce",
-        Query::Equiv => b"equiv",
-        Query::Basis { .. } => b"basis",
-        Query::Class { .. } => b"class",
-        Query::Sections => b"sections",
-        Query::Extend { .. } => b"extend",
-    }
-}
 
 /// The first word of a command.
 fn command_word(command: &Command) -> &'static [u8]
@@ -28,7 +13,13 @@ fn command_word(command: &Command) -> &'static [u8]
 {
     match command {
         Command::Change(_) => b"edit",
-        Command::Ask(query) => query_word(query),
+        Command::Ask(Query::Betti) => b"betti",
+        Command::Ask(Query::Reduce) => b"reduce",
+        Command::Ask(Query::Equiv) => b"equiv",
+        Command::Ask(Query::Basis { .. }) => b"basis",
+        Command::Ask(Query::Class { .. }) => b"class",
+        Command::Ask(Query::Sections) => b"sections",
+        Command::Ask(Query::Extend { .. }) => b"extend",
     }
 }
 

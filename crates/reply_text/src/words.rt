@@ -1,6 +1,6 @@
 ghost use Rattle.std.specs.Prelude.{◌≡◌, ◌∷◌, ◌++◌, map, OnOk};
 ghost use Rattle.std.specs.Fmt.{decimal};
-ghost use Rattle.reply_text.specs.Lines.{spaced_words};
+ghost use Rattle.reply_text.specs.Parts.{spaced_words};
 
 use itoa::Buffer;
 use std::alloc::AllocError as NoMemory;

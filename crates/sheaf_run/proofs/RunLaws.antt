@@ -9,9 +9,8 @@ use Rattle.field_table.specs.Table.{ops_of}
 use Rattle.sheaf_data.specs.declared.fault.SealFault.{SealFault}
 use Rattle.sheaf_data.specs.Sheaves.{SheafData}
 use Rattle.sheaf_data.specs.Refusals.{IsFault}
-use Rattle.sheaf_text.specs.Readings.{Reading, reading}
+use Rattle.sheaf_text.specs.Readings.{Reading, input_value, reading}
 use Rattle.sheaf_text.specs.Readings as readings
-use Rattle.sheaf_text.specs.Answers.{input_value}
 use Rattle.sheaf_text.specs.declared.input.Input.{Input}
 use Rattle.sheaf_text.specs.declared.fault.LineCause.{LineCause}
 use Rattle.sheaf_text.specs.declared.fault.Which.{Which}

@@ -16,9 +16,8 @@ use Rattle.sheaf_words.specs.declared.query.Command.{Command}
 use Rattle.sheaf_words.specs.declared.event.Event.{Event}
 use Rattle.reply_text.specs.Transcripts.{transcript}
 use Rattle.core_machine.specs.Machine.{IsLegalAndWhole}
-use Rattle.sheaf_text.specs.Readings.{Reading, reading}
+use Rattle.sheaf_text.specs.Readings.{Reading, input_value, reading}
 use Rattle.sheaf_text.specs.Readings as readings
-use Rattle.sheaf_text.specs.Answers.{input_value}
 use Rattle.sheaf_text.specs.declared.fault.LineCause.{LineCause}
 use Rattle.sheaf_text.specs.declared.fault.Which.{Which}
 use Rattle.sheaf_text.specs.declared.input.Input.{Input}

@@ -5,8 +5,7 @@ use Rattle.io_edge.specs.Faults.{Rose}
 use Rattle.io_edge.specs.Bytes.{Took, TookPrefix, IsFlushed}
 use Rattle.field_table.specs.Table.{ops_of}
 use Rattle.sheaf_data.specs.Sheaves.{IsSheaf}
-use Rattle.sheaf_text.specs.Readings.{Good, reading}
-use Rattle.sheaf_text.specs.Answers.{input_value}
+use Rattle.sheaf_text.specs.Readings.{Good, input_value, reading}
 use Rattle.sheaf_text.specs.declared.input.Input.{Input}
 use Rattle.sheaf_run.specs.declared.job.Job.{Job}
 use Rattle.sheaf_run.specs.declared.job.Job.TheVariants.{Solve, Check}

@@ -13,7 +13,8 @@ use Rattle.sheaf_words.specs.declared.edit.Verdict.{Verdict}
 use Rattle.sheaf_words.specs.declared.edit.Verdict.TheVariants.{Accepted, Refused}
 use Rattle.sheaf_words.specs.declared.event.Event.{Event}
 use Rattle.edit_versions.specs.Verdicts.{IsVerdict, IsEdited}
-use Rattle.core_machine.specs.Machine.{State, free_lane, IsLegal}
+use Rattle.core_machine.specs.Machine.{State, free_lane}
+use Rattle.core_machine.specs.Legal.{IsLegal}
 
 -- the current sheaf, and what has happened
 pub record Progress : Type 0 where

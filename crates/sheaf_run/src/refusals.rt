@@ -35,7 +35,6 @@ fn cause_end(cause: LineCause) -> &'static [u8]
         LineCause::Sign => b" sign\n",
         LineCause::Field => b" field\n",
         LineCause::Cell => b" cell\n",
-        LineCause::Vertex => b" vertex\n",
         LineCause::Dims => b" dims\n",
         LineCause::Twice => b" twice\n",
         LineCause::Shape => b" shape\n",
@@ -66,7 +65,6 @@ fn limit_words(which: Which) -> &'static [u8]
         Which::Faces => b"limit faces",
         Which::Clients => b"limit clients",
         Which::Commands => b"limit commands",
-        Which::Room => b"limit room",
     }
 }
 

@@ -7,11 +7,10 @@ use Rattle.std.proofs.lemmas.Map.Views.{Contains-from_any}
 use Rattle.cell_complex.specs.declared.fault.FaceFault.{FaceFault}
 use Rattle.cell_complex.specs.Verdicts.{face_fault}
 use Rattle.field_table.specs.Table.{orders}
-use Rattle.sheaf_text.specs.Cut.{are_below}
-use Rattle.sheaf_text.specs.Lines.{value, may_stand, count_fits, are_numerals, is_sign, word, face_in}
-use Rattle.sheaf_text.specs.Grammar.{Known, is_full, known_complex, field_refusal, face_refusal, entries_refusal}
-use Rattle.sheaf_text.specs.Grammar.{incidence_refusal, kind_refusal, placed_refusal}
-use Rattle.sheaf_text.specs.Readings.{is_set_kind}
+use Rattle.sheaf_text.specs.Lines.{value, may_stand, count_fits, word, face_in}
+use Rattle.sheaf_text.specs.Grammar.{Known, face_refusal, entries_refusal, kind_refusal, placed_refusal}
+use Rattle.sheaf_text.specs.Forms.{are_below, are_numerals, is_sign, is_full, field_refusal, incidence_refusal}
+use Rattle.sheaf_text.specs.Forms.{is_set_kind}
 use Rattle.sheaf_text.specs.Parts.{TakesFace}
 use Rattle.sheaf_text.specs.State.{known_by, IsAccepted}
 use Rattle.sheaf_text.specs.declared.fault.Refusal.{Refusal}
@@ -59,7 +58,7 @@ right k kind ws e =
     record { stands = holds _ a.0; counted = holds _ b.0; numerals = holds _ c.0; fits = c.1 }
 
 record FaceFits (k : Known) (ws : List (List ℕ)) : Type 0 where
-  pub no_fault : face_fault (known_complex k) (face_in ws) ≡ None
+  pub no_fault : face_fault (record { dims = k.dims; faces = k.faces }) (face_in ws) ≡ None
   pub full : is_full k.stalks (face_in ws) (length (drop 4 ws)) ≡ true
   pub below : are_below k.order (drop 4 ws) ≡ true
 
@@ -71,7 +70,7 @@ no_fault k ws None e = (refl, e)
 face_fits : (k : Known) (ws : List (List ℕ)) → face_refusal k ws ≡ None → FaceFits k ws
 face_fits k ws e =
     let a = passes (not (is_sign (word ws 3))) _ _ e in
-    let b = no_fault k ws (face_fault (known_complex k) (face_in ws)) a.1 in
+    let b = no_fault k ws (face_fault (record { dims = k.dims; faces = k.faces }) (face_in ws)) a.1 in
     let c = passes (not (is_full k.stalks (face_in ws) (length (drop 4 ws)))) _ _ b.1 in
     let d = passes (not (are_below k.order (drop 4 ws))) _ _ c.1 in
     record { no_fault = b.0; full = holds _ c.0; below = holds _ d.0 }

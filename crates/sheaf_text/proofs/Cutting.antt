@@ -8,7 +8,8 @@ use Rattle.std.proofs.lemmas.List.Splits.{slice_split_first, length-slice_split}
 use Rattle.std.proofs.lemmas.Grind.{common_steps}
 use Rattle.std.proofs.lemmas.List.{drop_all, length-drop}
 use Rattle.std.proofs.lemmas.Bool.{ltb-true, ltb-false}
-use Rattle.sheaf_text.specs.Cut.{is_blank, has_bytes, words}
+use Rattle.sheaf_text.specs.Cut.{words}
+use Rattle.sheaf_text.specs.Forms.{is_blank, has_bytes}
 
 found : (b : Bool) (n i : ℕ) → cond b (Some n) None ≡ Some i → (b ≡ true) × (n ≡ i)
 found true n i e = (refl, cc)

@@ -13,8 +13,9 @@ use Rattle.dense_blocks.specs.Vectors.{AllScalars}
 use Rattle.field_table.specs.Table.{order_of, ops_of}
 use Rattle.square_check.specs.Squares.{HaveShapes}
 use Rattle.sheaf_data.specs.Sheaves.{AreBlocks}
-use Rattle.sheaf_text.specs.Cut.{value_of, are_below}
+use Rattle.sheaf_text.specs.Cut.{value_of}
 use Rattle.sheaf_text.specs.Lines.{face_in}
+use Rattle.sheaf_text.specs.Forms.{are_below}
 use Rattle.sheaf_text.specs.Parts.{AreDraftParts, IsClosed, TakesFace, AddsFace, entries_of}
 use Rattle.sheaf_text.specs.declared.parts.Parts.{Parts}
 

@@ -14,13 +14,13 @@ use Rattle.sheaf_words.specs.declared.query.Command.TheVariants.{Change, Ask}
 use Rattle.sheaf_words.specs.declared.query.Query.TheVariants.{Betti}
 use Rattle.sheaf_words.specs.declared.edit.Set.{Set}
 use Rattle.sheaf_text.specs.Cut.{words}
-use Rattle.sheaf_text.specs.Lines.{is_skipped, kind_of}
-use Rattle.sheaf_text.specs.Grammar.{Known, refusal, content_refusal, kind_refusal, is_ended}
-use Rattle.sheaf_text.specs.Readings.{InputValue, Reading, Good, BadLine, contents, item_of, item_of_kind, set_of}
-use Rattle.sheaf_text.specs.Readings.{reading_at_end, go_on, onto_last, into_last, into_script, command_with_set}
-use Rattle.sheaf_text.specs.Readings.{input_of}
-use Rattle.sheaf_text.specs.KnownLines.{advance, nothing_known, run}
-use Rattle.sheaf_text.specs.Answers.{Gives, IsServable, AreServable, input_value}
+use Rattle.sheaf_text.specs.Lines.{word, is_skipped, kind_of}
+use Rattle.sheaf_text.specs.Grammar.{Known, refusal, kind_refusal, is_ended}
+use Rattle.sheaf_text.specs.Readings.{InputValue, Reading, Good, BadLine, input_value, command_with_set, advance}
+use Rattle.sheaf_text.specs.Readings.{nothing_known, reading_at_end, go_on, run}
+use Rattle.sheaf_text.specs.Forms.{content_refusal, known_after, set_of, onto_last, into_script, into_last, input_of}
+use Rattle.sheaf_text.specs.Forms.{contents}
+use Rattle.sheaf_text.specs.Answers.{Gives, IsServable, AreServable}
 use Rattle.sheaf_text.specs.declared.fault.LineCause.TheVariants as causes
 use Rattle.sheaf_text.specs.declared.fault.Which.TheVariants as limits
 use Rattle.sheaf_text.specs.declared.fault.Refusal.{Refusal}
@@ -30,6 +30,7 @@ use Rattle.sheaf_text.specs.declared.input.Input.{Input}
 use Rattle.sheaf_text.specs.declared.line.Kind.{Kind}
 use Rattle.sheaf_text.specs.declared.line.Kind.TheVariants as kinds
 use Rattle.sheaf_text.proofs.Accepted.{passes, right}
+use Rattle.sheaf_text.proofs.Steps.{refusal-content, known_after-skipped}
 
 -- ---- a command more, and a change more
 
@@ -88,7 +89,7 @@ all_more_changes : (dims : List ℕ) (m n : ℕ) → m ≤ n → (script : List 
 all_more_changes dims m n le = All-weaker (IsServable dims m) (IsServable dims n) (more_changes dims m n le)
 
 with_set-changes : (dims : List ℕ) (n : ℕ) (c : Command) (change : Set) → IsServable dims n c
-    → IsServable dims (n + 1) (command_with_set c change)
+    → IsServable dims (n + 1) (command_with_set change c)
 with_set-changes dims n (Change e) change h = omega (arith, length-append e.sets (change ∷ []))
 with_set-changes dims n (Ask q) change h = h
 
@@ -96,7 +97,7 @@ into_script-changes : (dims : List ℕ) (n : ℕ) (script : List Command) (chang
     → All (IsServable dims (n + 1)) (into_script script change)
 into_script-changes dims n [] change h = All-nil (IsServable dims (n + 1))
 into_script-changes dims n (c ∷ []) change h =
-    All-cons (IsServable dims (n + 1)) (command_with_set c change) []
+    All-cons (IsServable dims (n + 1)) (command_with_set change c) []
     (with_set-changes dims n c change (All-head (IsServable dims n) c [] h)) (All-nil (IsServable dims (n + 1)))
 into_script-changes dims n (c ∷ d ∷ more) change h =
     All-cons (IsServable dims (n + 1)) c (into_script (d ∷ more) change)
@@ -186,7 +187,7 @@ abbrev AreFewKnown : List ℕ → Known → ℕ → Type 0
 AreFewKnown dims k line = AreFewAt dims k.scripts k.commands line
 
 kind_keeps : (dims : List ℕ) (k : Known) (line : ℕ) (kind : Kind) (ws : List (List ℕ)) → kind_refusal k kind ws ≡ None
-    → AreFewKnown dims k line → AreFewKnown dims (advance k (item_of_kind (Some kind) ws)) (line + 1)
+    → AreFewKnown dims k line → AreFewKnown dims (advance k (Some kind) ws) (line + 1)
 kind_keeps dims k line kinds.Client ws e few =
     client_more dims k.scripts k.commands (line + 1)
     (leb-false _ _ (passes (nat_le 8 (length k.scripts)) (Over limits.Clients) None e).0)
@@ -206,7 +207,7 @@ kind_keeps dims k line kind ws e few = line_more dims k.scripts k.commands line 
 
 content_keeps : (dims : List ℕ) (k : Known) (line : ℕ) (kind : Option Kind) (ws : List (List ℕ))
     → content_refusal k kind ws ≡ None
-    → AreFewKnown dims k line → AreFewKnown dims (advance k (item_of_kind kind ws)) (line + 1)
+    → AreFewKnown dims k line → AreFewKnown dims (advance k kind ws) (line + 1)
 content_keeps dims k line None ws e few = let none =
     (passes (is_ended k.stage) (Bad causes.After) (Some (Bad causes.Word)) e).1 in absurd cc
 content_keeps dims k line (Some kind) ws e few =
@@ -214,10 +215,13 @@ content_keeps dims k line (Some kind) ws e few =
 
 line_keeps : (dims : List ℕ) (k : Known) (line : ℕ) (ws : List (List ℕ)) (b : Bool) → is_skipped ws ≡ b
     → refusal k ws ≡ None
-    → AreFewKnown dims k line → AreFewKnown dims (advance k (item_of ws)) (line + 1)
-unfolding refusal item_of
-line_keeps dims k line ws true is e few = rw is (line_more dims k.scripts k.commands line few)
-line_keeps dims k line ws false is e few = rw is (content_keeps dims k line (kind_of ws) ws (rw is at e) few)
+    → AreFewKnown dims k line → AreFewKnown dims (known_after k ws) (line + 1)
+unfolding known_after
+line_keeps dims k line ws true is e few =
+    subst (λ (j : Known). AreFewKnown dims j (line + 1)) (sym (known_after-skipped k ws is))
+    (line_more dims k.scripts k.commands line few)
+line_keeps dims k line ws false is e few =
+    content_keeps dims k line (kind_of (word ws 0)) ws (sym (refusal-content k ws is) ∙ e) few
 
 -- ---- all lines
 
@@ -237,7 +241,7 @@ not_refused (Some (Over which)) line later v e = absurd cc
 few-run : (dims : List ℕ) (k : Known) (line : ℕ) (more : List (List (List ℕ))) (v : InputValue)
     → line + length more ≤ 1000000000
     → AreFewKnown dims k line → run k line more ≡ Good v → AreServable dims v.scripts
-unfolding run
+unfolding run known_after
 few-run dims k line [] v short few e =
     subst (AreServable dims) (sym (scripts-ending k line v (is_ended k.stage) refl e))
     (record {
@@ -247,7 +251,7 @@ few-run dims k line [] v short few e =
           (all_more_changes dims line 1000000000 (omega arith)) k.scripts few.changes;
     })
 few-run dims k line (ws ∷ more) v short few e =
-    let next = advance k (item_of ws) in
+    let next = known_after k ws in
     let accepted = not_refused (refusal k ws) (line + 1) (run next (line + 1) more) v e in
     few-run dims next (line + 1) more v (omega arith)
     (line_keeps dims k line ws (is_skipped ws) refl accepted.0 few) accepted.1

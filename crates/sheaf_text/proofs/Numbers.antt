@@ -1,8 +1,7 @@
 -- The number that a word is, digit by digit.
 use Rattle.std.proofs.Common.{◌≡◌, ℕ, zero, suc, cond, ◌+◌, ◌-◌, ◌*◌, ◌^◌, ◌≤◌, ◌<◌, Bool, true, false, List, [], ◌∷◌}
 use Rattle.std.proofs.Common.{length, take, get_or, refl, ap, ◌∙◌, arith, Some, None}
-use Rattle.std.specs.Prelude.{nat_le, unwrap_or, ◌&&◌}
-use Rattle.std.proofs.lemmas.Bool.{and_parts, leb-true}
+use Rattle.std.specs.Prelude.{nat_le, ◌&&◌}
 use Rattle.std.specs.Char.{is_ascii_digit}
 use Rattle.std.specs.Int.{IsInRange}
 use Rattle.std.specs.Str.{all_ascii_digits}
@@ -12,7 +11,8 @@ use Rattle.std.proofs.lemmas.Int.Digits.{digits_value_more}
 use Rattle.std.proofs.lemmas.List.{length-take}
 use Rattle.std.proofs.lemmas.Str.{digit_value_digit}
 use Rattle.std.proofs.lemmas.Str.Parse.{IsNumeralModel, numerals_by_value, tells_all_ascii_digits, digits_value_short}
-use Rattle.sheaf_text.specs.Cut.{word_number, value_of, has_bytes}
+use Rattle.sheaf_text.specs.Cut.{word_number}
+use Rattle.sheaf_text.specs.Forms.{has_bytes}
 
 decimal : IsNumeralModel (λ ds. all_ascii_digits ds ≡ true) (digits_value 10)
 decimal = numerals_by_value _ tells_all_ascii_digits
@@ -46,16 +46,3 @@ a_number w some short digits =
     let short' : nat_le (length w) 9 ≡ true = grind (arith, nat_tests) in
     let digits' : all_ascii_digits w ≡ true = decimal.from w digits in
     rw (some', short', digits') refl
-
--- a number of nine digits
-pub value_of-below : (w : List ℕ) → value_of w < 10 ^ 9
-value_of-below w =
-    by (has_bytes w && nat_le (length w) 9 && all_ascii_digits w) (λ e.
-    let p = and_parts (has_bytes w && nat_le (length w) 9) (all_ascii_digits w) e in
-    let q = and_parts (has_bytes w) (nat_le (length w) 9) p.0 in
-    digits_value_short decimal w 9 p.1 (leb-true _ _ q.1))
-  where
-    by : (b : Bool) → (b ≡ true → digits_value 10 w < 10 ^ 9) → unwrap_or (cond b (Some (digits_value 10 w)) None) 0
-        < 10 ^ 9
-    by true h = h refl
-    by false h = omega arith

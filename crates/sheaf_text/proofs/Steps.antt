@@ -1,22 +1,24 @@
 -- One line of the reading, and its end.
 use Rattle.std.proofs.Common.{◌≡◌, ℕ, suc, true, false, List, [], ◌∷◌, map, refl, sym, ap, subst, ◌∙◌, arith, Option}
-use Rattle.std.proofs.Common.{Some, None}
+use Rattle.std.proofs.Common.{Some, None, length}
+use Rattle.std.specs.Prelude.{◌==◌, ◌||◌, slice_index}
+use Rattle.std.proofs.lemmas.Bool.{eqb-true}
 use Rattle.dense_blocks.specs.declared.block.Block.{Block}
 use Rattle.cell_complex.specs.declared.face.Face.{Face}
 use Rattle.field_table.specs.declared.field.Field.{Field}
 use Rattle.square_check.specs.Squares.{HaveShapes}
 use Rattle.sheaf_data.specs.Sheaves.{SheafData}
 use Rattle.sheaf_words.specs.declared.query.Command.{Command}
-use Rattle.sheaf_text.specs.Lines.{is_skipped, kind_of}
-use Rattle.sheaf_text.specs.Grammar.{Known, refusal, content_refusal, is_ended}
-use Rattle.sheaf_text.specs.Readings.{Good, Skipped, item_of, item_of_kind, refused_reading, go_on, reading_at_end}
-use Rattle.sheaf_text.specs.Readings.{blocks_of}
-use Rattle.sheaf_text.specs.KnownLines.{advance}
-use Rattle.sheaf_text.specs.Answers.{GivesFault, plain_matrix, input_value}
+use Rattle.sheaf_text.specs.Lines.{word, is_skipped, kind_of}
+use Rattle.sheaf_text.specs.Grammar.{Known, refusal, is_ended}
+use Rattle.sheaf_text.specs.Readings.{Reading, Good, go_on, advance, input_value, reading_at_end}
+use Rattle.sheaf_text.specs.Forms.{content_refusal, refused_reading, known_after, blocks_of, plain_matrix}
+use Rattle.sheaf_text.specs.Answers.{GivesFault}
 use Rattle.sheaf_text.specs.Parts.{IsClosed, IsDraftOf}
-use Rattle.sheaf_text.specs.State.{known_by, AreAtStage, IsSoundState, IsReady, IsFound, TakesItem, TakesLine}
+use Rattle.sheaf_text.specs.State.{known_by, AreAtStage, IsSoundState, IsReady, IsFound, TakesKind, TakesLine}
 use Rattle.sheaf_text.specs.State.{RefusesLine}
 use Rattle.sheaf_text.specs.declared.fault.Refusal.{Refusal}
+use Rattle.sheaf_text.specs.declared.fault.Refusal.TheVariants.{Bad, Over}
 use Rattle.sheaf_text.specs.declared.fault.TextFault.{TextFault}
 use Rattle.sheaf_text.specs.declared.line.Kind.{Kind}
 use Rattle.sheaf_text.specs.declared.line.Stage.{Stage}
@@ -29,48 +31,56 @@ refusal-skipped : (k : Known) (ws : List (List ℕ)) → is_skipped ws ≡ true 
 unfolding refusal
 refusal-skipped k ws e = rw e refl
 
-refusal-content : (k : Known) (ws : List (List ℕ)) → is_skipped ws ≡ false
-    → refusal k ws ≡ content_refusal k (kind_of ws) ws
+pub refusal-content : (k : Known) (ws : List (List ℕ)) → is_skipped ws ≡ false
+    → refusal k ws ≡ content_refusal k (kind_of (word ws 0)) ws
 unfolding refusal
 refusal-content k ws e = rw e refl
 
-item_of-skipped : (ws : List (List ℕ)) → is_skipped ws ≡ true → item_of ws ≡ Skipped
-unfolding item_of
-item_of-skipped ws e = rw e refl
+-- the first word of a line that is skipped names no kind
+kind_of-skipped : (w : List ℕ) → ((length w == 0) || (slice_index w 0 == 35)) ≡ true → kind_of w ≡ None
+kind_of-skipped [] e = refl
+kind_of-skipped (b ∷ w) e = let is : b ≡ 35 = eqb-true b 35 e in rw is refl
 
-item_of-content : (ws : List (List ℕ)) → is_skipped ws ≡ false → item_of ws ≡ item_of_kind (kind_of ws) ws
-unfolding item_of
-item_of-content ws e = rw e refl
+pub known_after-skipped : (k : Known) (ws : List (List ℕ)) → is_skipped ws ≡ true → known_after k ws ≡ k
+unfolding known_after
+known_after-skipped k ws e = ap (λ o. advance k o ws) (kind_of-skipped (word ws 0) e)
+
+known_after-content : (k : Known) (ws : List (List ℕ)) → known_after k ws ≡ advance k (kind_of (word ws 0)) ws
+unfolding known_after
+known_after-content k ws = refl
 
 pub takes_skipped : (s : State) (ws : List (List ℕ)) → IsSoundState s → is_skipped ws ≡ true → TakesLine s s ws
 takes_skipped s ws sound e = record {
   accepted = refusal-skipped (known_by s) ws e;
   sound = sound;
-  known = ap (advance (known_by s)) (sym (item_of-skipped ws e));
+  known = sym (known_after-skipped (known_by s) ws e);
 }
 
+refused : (r : Refusal) (line : ℕ) (later : Reading) → go_on (Some r) line later ≡ refused_reading line r
+refused (Bad cause) line later = refl
+refused (Over which) line later = refl
+
 module _ (old ready : State) (ws : List (List ℕ)) (kind : Option Kind) (content : is_skipped ws ≡ false)
-    (is : kind ≡ kind_of ws) (same : IsReady old ready kind) where
+    (is : kind ≡ kind_of (word ws 0)) (same : IsReady old ready kind) where
   refusal-ready : refusal (known_by old) ws ≡ content_refusal (known_by ready) kind ws
   refusal-ready =
       refusal-content (known_by old) ws content ∙ ap (λ o. content_refusal (known_by old) o ws) (sym is)
       ∙ ap (λ k. content_refusal k kind ws) (sym same.known)
 
   pub takes_content : (new : State) (found : Kind) → IsFound (known_by ready) kind ws found
-      → TakesItem ready new (item_of_kind (Some found) ws) → TakesLine old new ws
+      → TakesKind ready new found ws → TakesLine old new ws
   takes_content new found f takes = record {
     accepted = refusal-ready ∙ f.not_refused;
     sound = takes.sound;
     known =
-        takes.known ∙ ap (λ k. advance k (item_of_kind (Some found) ws)) same.known
-        ∙ ap (advance (known_by old)) (ap (λ o. item_of_kind o ws) (sym f.kind_is ∙ is)
-        ∙ sym (item_of-content ws content));
+        takes.known ∙ ap (λ k. advance k (Some found) ws) same.known
+        ∙ ap (λ o. advance (known_by old) o ws) (sym f.kind_is ∙ is) ∙ sym (known_after-content (known_by old) ws);
   }
 
   pub refuses_content : (line : ℕ) (r : Refusal) (fault : TextFault) → content_refusal (known_by ready) kind ws ≡ Some r
       → GivesFault fault (refused_reading line r) → RefusesLine old line ws fault
   refuses_content line r fault e gives later = subst (λ reading. GivesFault fault reading)
-      (sym (ap (λ o. go_on o line later) (refusal-ready ∙ e))) gives
+      (sym (ap (λ o. go_on o line later) (refusal-ready ∙ e) ∙ refused r line later)) gives
 
 -- ---- the end
 

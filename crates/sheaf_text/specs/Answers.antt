@@ -1,30 +1,14 @@
 -- What a call of the reader answers, beside the reading of its bytes.
-use Rattle.std.specs.Prelude.{◌≡◌, ◌≤◌, ℕ, List, map, length, sum_by, All, Result, Ok, Err}
-use Rattle.dense_blocks.specs.declared.block.Block.{Block}
-use Rattle.field_table.specs.Table.{order_of}
+use Rattle.std.specs.Prelude.{◌≡◌, ◌≤◌, ℕ, List, length, sum_by, All, Result, Ok, Err}
 use Rattle.sheaf_words.specs.declared.query.Command.{Command}
 use Rattle.sheaf_words.specs.declared.query.Command.TheVariants.{Change, Ask}
 use Rattle.sheaf_words.specs.declared.query.Query.{Query}
 use Rattle.sheaf_words.specs.declared.query.Query.TheVariants.{Betti, Reduce, Equiv, Basis, Class}
 use Rattle.sheaf_words.specs.declared.query.Query.TheVariants.{Sections, Extend}
-use Rattle.sheaf_text.specs.Readings.{Reading, Good, BadLine, Limit, InputValue, Matrix}
+use Rattle.sheaf_text.specs.Readings.{Reading, Good, BadLine, Limit, input_value}
 use Rattle.sheaf_text.specs.declared.input.Input.{Input}
 use Rattle.sheaf_text.specs.declared.fault.TextFault.{TextFault}
 use Rattle.sheaf_text.specs.declared.fault.TextFault.TheVariants as faults
-
-abbrev pub plain_matrix : Block → Matrix
-plain_matrix b = record { rows = b.rows; cols = b.cols; entries = b.entries }
-
--- an input as a plain value
-abbrev pub input_value : Input → InputValue
-input_value i = record {
-  order = order_of i.draft.field;
-  dims = i.draft.complex.dims;
-  faces = i.draft.complex.faces;
-  stalks = i.draft.stalks;
-  blocks = map plain_matrix i.draft.blocks;
-  scripts = i.scripts;
-}
 
 -- want of memory says nothing of the bytes
 abbrev pub GivesFault : TextFault → Reading → Type 0

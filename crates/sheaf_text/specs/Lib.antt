@@ -2,7 +2,7 @@ pub mod Cut
 pub mod Lines
 pub mod Grammar
 pub mod Readings
-pub mod KnownLines
+pub mod Forms
 pub mod Answers
 pub mod Parts
 pub mod Scripts

@@ -1,12 +1,10 @@
 -- What a line is, and whether its words have the right form.
-use Rattle.std.specs.Prelude.{ℕ, Bool, true, false, List, [], drop, Option, Some, None, length, ◌==◌, ◌||◌, ◌&&◌}
+use Rattle.std.specs.Prelude.{ℕ, Bool, true, false, List, [], ◌∷◌, drop, Option, Some, None, length, ◌==◌, ◌||◌}
 use Rattle.std.specs.Prelude.{nat_le, slice_index, slice_index_or, if◌then◌else◌, codes}
-use Rattle.std.specs.List.{list_all}
 use Rattle.std.specs.Str.{bytes_eq}
 use Rattle.cell_complex.specs.declared.face.Face.{Face}
-use Rattle.cell_complex.specs.declared.face.Sign.{Sign}
 use Rattle.cell_complex.specs.declared.face.Sign.TheVariants.{Plus, Minus}
-use Rattle.sheaf_text.specs.Cut.{is_number, value_of}
+use Rattle.sheaf_text.specs.Cut.{value_of}
 use Rattle.sheaf_text.specs.declared.line.Kind.{Kind}
 use Rattle.sheaf_text.specs.declared.line.Kind.TheVariants as kinds
 use Rattle.sheaf_text.specs.declared.line.Stage.{Stage}
@@ -23,8 +21,9 @@ value ws i = value_of (word ws i)
 abbrev pub is_skipped : List (List ℕ) → Bool
 is_skipped ws = (length (word ws 0) == 0) || (slice_index (word ws 0) 0 == 35)
 
-abbrev pub kind_of_word : List ℕ → Option Kind
-kind_of_word w =
+-- the kind of a line, by its first word
+abbrev pub kind_of : List ℕ → Option Kind
+kind_of w =
     if bytes_eq w (codes "field") then Some kinds.Field
     else if bytes_eq w (codes "cell") then Some kinds.Cell
     else if bytes_eq w (codes "face") then Some kinds.Face
@@ -36,10 +35,6 @@ kind_of_word w =
     else if bytes_eq w (codes "commit") then Some kinds.Commit
     else if bytes_eq w (codes "done") then Some kinds.Done
     else None
-
--- the kind of a line, by its first word
-abbrev pub kind_of : List (List ℕ) → Option Kind
-kind_of ws = kind_of_word (word ws 0)
 
 -- which lines may stand where
 abbrev pub may_stand : Stage → Kind → Bool
@@ -69,17 +64,15 @@ count_fits kinds.Face n = nat_le 4 n
 count_fits kinds.Restrict n = nat_le 3 n
 count_fits kind n = n == 1
 
--- all words after the first are numbers, but the sign of a face
-abbrev pub are_numerals : Kind → List (List ℕ) → Bool
-are_numerals kinds.Face ws = is_number (word ws 1) && is_number (word ws 2) && list_all is_number (drop 4 ws)
-are_numerals kind ws = list_all is_number (drop 1 ws)
+-- the words that have to be numbers: all after the first, but the sign of a face
+abbrev pub numerals : Kind → List (List ℕ) → List (List ℕ)
+numerals kinds.Face ws = word ws 1 ∷ word ws 2 ∷ drop 4 ws
+numerals kind ws = drop 1 ws
 
-abbrev pub is_sign : List ℕ → Bool
-is_sign w = bytes_eq w (codes "+") || bytes_eq w (codes "-")
-
-abbrev pub sign_of : List ℕ → Sign
-sign_of w = if bytes_eq w (codes "+") then Plus else Minus
-
--- the face of a line, and its entries
+-- the face of a line, without its entries
 abbrev pub face_in : List (List ℕ) → Face
-face_in ws = record { s = value ws 1; t = value ws 2; sign = sign_of (word ws 3) }
+face_in ws = record {
+  s = value ws 1;
+  t = value ws 2;
+  sign = if bytes_eq (word ws 3) (codes "+") then Plus else Minus;
+}

@@ -6,9 +6,9 @@ use Rattle.dense_blocks.specs.declared.block.Block.{Block}
 use Rattle.field_table.specs.Table.{order_of, ops_of}
 use Rattle.field_table.specs.declared.field.Field.{Field}
 use Rattle.sheaf_data.specs.Sheaves.{SheafData, AreStalks, AreBlocks}
-use Rattle.sheaf_text.specs.Cut.{value_of, are_below}
+use Rattle.sheaf_text.specs.Cut.{value_of}
 use Rattle.sheaf_text.specs.Lines.{face_in}
-use Rattle.sheaf_text.specs.Grammar.{is_full}
+use Rattle.sheaf_text.specs.Forms.{are_below, is_full}
 use Rattle.sheaf_text.specs.declared.parts.Parts.{Parts}
 
 -- cells with stalks, and a block of scalars for each face of the complex, from stalk to stalk

@@ -3,9 +3,9 @@ use Rattle.std.specs.Prelude.{◌≡◌, ℕ, List, [], ◌∷◌, ◌++◌, Opt
 use Rattle.field_table.specs.Table.{order_of}
 use Rattle.sheaf_words.specs.declared.query.Command.{Command}
 use Rattle.sheaf_words.specs.declared.query.Command.TheVariants.{Change}
-use Rattle.sheaf_text.specs.Grammar.{Known, refusal, placed_refusal, content_refusal}
-use Rattle.sheaf_text.specs.Readings.{Item, Reading, item_of, go_on}
-use Rattle.sheaf_text.specs.KnownLines.{advance, nothing_known}
+use Rattle.sheaf_text.specs.Grammar.{Known, refusal, placed_refusal}
+use Rattle.sheaf_text.specs.Readings.{Reading, go_on, advance, nothing_known}
+use Rattle.sheaf_text.specs.Forms.{content_refusal, known_after}
 use Rattle.sheaf_text.specs.Answers.{GivesFault}
 use Rattle.sheaf_text.specs.Parts.{AreDraftParts, IsOpen, IsClosed, entries_of}
 use Rattle.sheaf_text.specs.declared.fault.TextFault.{TextFault}
@@ -34,8 +34,6 @@ known_by s = record {
   entries = entries_of s.parts;
   scripts = scripts_at s.stage s.scripts;
   commands = s.scripts.count;
-  heavy = s.scripts.heavy;
-  growth = s.scripts.growth;
 }
 
 -- before the first face there are no faces, and after the last cell the complex has all cells
@@ -76,16 +74,16 @@ pub record IsFound (k : Known) (kind : Option Kind) (ws : List (List ℕ)) (foun
   pub accepted : placed_refusal k found ws ≡ None
   pub not_refused : content_refusal k kind ws ≡ None
 
--- the item is taken
-pub record TakesItem (old new : State) (i : Item) : Type 0 where
+-- the line of this kind is taken
+pub record TakesKind (old new : State) (kind : Kind) (ws : List (List ℕ)) : Type 0 where
   pub sound : IsSoundState new
-  pub known : known_by new ≡ advance (known_by old) i
+  pub known : known_by new ≡ advance (known_by old) (Some kind) ws
 
 -- a line that is not refused is taken; else, whatever comes later, this is the answer
 pub record TakesLine (old new : State) (ws : List (List ℕ)) : Type 0 where
   pub accepted : refusal (known_by old) ws ≡ None
   pub sound : IsSoundState new
-  pub known : known_by new ≡ advance (known_by old) (item_of ws)
+  pub known : known_by new ≡ known_after (known_by old) ws
 
 abbrev pub RefusesLine : State → ℕ → List (List ℕ) → TextFault → Type 0
 RefusesLine old line ws fault = (later : Reading) → GivesFault fault (go_on (refusal (known_by old) ws) line later)

@@ -1,6 +1,7 @@
 ghost use Rattle.std.specs.Prelude.{◌≡◌, ◌<◌, ◌∷◌, ◌==◌, [], position, length, MatchOption, if◌then◌else◌};
 ghost use Rattle.std.specs.Str.Lines.{lines, strip_carriage_return};
-ghost use Rattle.sheaf_text.specs.Cut.{is_blank, has_bytes, words, IsFirstWord};
+ghost use Rattle.sheaf_text.specs.Cut.{words};
+ghost use Rattle.sheaf_text.specs.Forms.{is_blank, has_bytes, IsFirstWord};
 
 fn newline(bytes: &[u8]) -> Option<usize>
     ensures { result ≡ position (λ b. b == 10) bytes.now }

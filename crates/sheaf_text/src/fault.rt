@@ -22,8 +22,6 @@ pub enum LineCause {
     Field,
     /// A number names no cell.
     Cell,
-    /// A number names a cell that is no vertex.
-    Vertex,
     /// The second cell of a face is not one dimension above the first.
     Dims,
     /// The face was given already.
@@ -53,8 +51,6 @@ pub enum Which {
     Clients,
     /// The commands of all clients.
     Commands,
-    /// The room that the replies may need.
-    Room,
 }
 
 /// Why a line is refused.

@@ -1,9 +1,8 @@
 ghost use Rattle.std.specs.Prelude.{◌≡◌, length, IfOk, IfErr};
 ghost use Rattle.sheaf_text.specs.Cut.{words};
 ghost use Rattle.sheaf_text.specs.Parts.{AreDraftParts, IsClosed};
-ghost use Rattle.sheaf_text.specs.Grammar.{is_ended, is_full, cause_of, field_refusal, cell_refusal, entries_refusal};
-ghost use Rattle.sheaf_text.specs.Grammar.{face_refusal, client_refusal, command_refusal, done_refusal, reach};
-ghost use Rattle.sheaf_text.specs.Grammar.{kind_refusal, placed_refusal, content_refusal};
+ghost use Rattle.sheaf_text.specs.Grammar.{is_ended, cause_of, cell_refusal, entries_refusal, face_refusal, kind_refusal, placed_refusal};
+ghost use Rattle.sheaf_text.specs.Forms.{is_full, field_refusal, client_refusal, command_refusal, content_refusal};
 ghost use Rattle.sheaf_text.specs.State.{known_by, scripts_at, IsSoundState, IsReadyFor, IsFound};
 
 use crate::fault::{LineCause, Refusal, Which};
@@ -28,8 +27,6 @@ const MOST_FACES: u32 = 32_768;
 const MOST_CLIENTS: usize = 8;
 
 const MOST_COMMANDS: u32 = 4096;
-
-const MOST_ROOM: u64 = 1_073_741_824;
 
 fn field_refusal(text: &[u8]) -> Option<Refusal>
     ensures { result ≡ field_refusal (words text.now) }
@@ -132,26 +129,6 @@ fn command_refusal(state: &State) -> Option<Refusal>
     }
 }
 
-/// The most coordinates that the sheaf may come to have.
-fn reach(state: &State) -> u32
-    requires { AreDraftParts state.now.parts }
-    ensures { result ≡ reach (known_by state.now) }
-{
-    MOST_OF_ALL.min(state.parts.total + state.scripts.growth)
-}
-
-fn done_refusal(state: &State) -> Option<Refusal>
-    requires { AreDraftParts state.now.parts }
-    ensures { result ≡ done_refusal (known_by state.now) }
-{
-    let reach = u64::from(reach(state));
-    if u64::from(state.scripts.heavy) * reach * reach > MOST_ROOM {
-        Some(Refusal::Over(Which::Room))
-    } else {
-        None
-    }
-}
-
 fn kind_refusal(state: &State, kind: Kind, text: &[u8]) -> Option<Refusal>
     requires sound { IsSoundState state.now }
     requires ready { IsReadyFor (Some kind) state.now.parts }
@@ -163,8 +140,7 @@ fn kind_refusal(state: &State, kind: Kind, text: &[u8]) -> Option<Refusal>
         Kind::Face => face_refusal(state, text),
         Kind::Client => client_refusal(state),
         Kind::Betti | Kind::Edit => command_refusal(state),
-        Kind::Stalk | Kind::Restrict | Kind::Commit => None,
-        Kind::Done => done_refusal(state),
+        Kind::Stalk | Kind::Restrict | Kind::Commit | Kind::Done => None,
     }
 }
 

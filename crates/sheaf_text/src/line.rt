@@ -1,7 +1,7 @@
 ghost use Rattle.std.specs.Prelude.{◌≡◌, [], slice_get};
 ghost use Rattle.sheaf_text.specs.Cut.{words};
-ghost use Rattle.sheaf_text.specs.Lines.{is_skipped, kind_of_word, kind_of, may_stand, count_fits, are_numerals};
-ghost use Rattle.sheaf_text.specs.Lines.{is_sign, sign_of, face_in};
+ghost use Rattle.sheaf_text.specs.Lines.{word, is_skipped, kind_of, may_stand, count_fits, face_in};
+ghost use Rattle.sheaf_text.specs.Forms.{are_numerals, is_sign, sign_of};
 
 use crate::words::{after_words, are_numbers, number, value_at, word_at};
 use cell_complex::{Face, Sign};
@@ -40,7 +40,7 @@ pub(crate) fn is_skipped(text: &[u8]) -> bool
 }
 
 fn kind_of_word(word: &[u8]) -> Option<Kind>
-    ensures { result ≡ kind_of_word word.now }
+    ensures { result ≡ kind_of word.now }
 {
     if word == b"field".as_slice() {
         Some(Kind::Field)
@@ -69,7 +69,7 @@ fn kind_of_word(word: &[u8]) -> Option<Kind>
 
 /// What a line is.
 pub(crate) fn kind_of(text: &[u8]) -> Option<Kind>
-    ensures { result ≡ kind_of (words text.now) }
+    ensures { result ≡ kind_of (word (words text.now) 0) }
 {
     kind_of_word(word_at(text, 0))
 }

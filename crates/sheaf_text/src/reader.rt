@@ -1,7 +1,7 @@
 ghost use Rattle.std.specs.Prelude.{◌≤◌, length, IfOk};
 ghost use Rattle.sheaf_text.specs.Answers.{Gives, AreServable};
-ghost use Rattle.sheaf_text.specs.Readings.{reading, contents};
-ghost use Rattle.sheaf_text.specs.KnownLines.{nothing_known, run};
+ghost use Rattle.sheaf_text.specs.Readings.{nothing_known, run, reading};
+ghost use Rattle.sheaf_text.specs.Forms.{contents};
 
 use crate::cut::next_line;
 use crate::fault::{TextFault, Which};

@@ -1,5 +1,4 @@
-ghost use Rattle.std.specs.Prelude.{◌≡◌, ◌+◌, ◌^◌, ◌<◌, ◌≤◌, OnOk, if◌then◌else◌};
-ghost use Rattle.sheaf_text.specs.Readings.{is_heavy_query, set_size};
+ghost use Rattle.std.specs.Prelude.{◌<◌, ◌≤◌, OnOk};
 
 use dense_blocks::Listed;
 use sheaf_words::{Command, Edit, Query, Set};
@@ -17,16 +16,8 @@ pub(crate) struct Scripts {
     pub sets: Vec<Set>,
     /// How many commands there are in all.
     pub count: u32,
-    /// How many of them are questions whose replies may take room.
-    pub heavy: u32,
-    /// The sum of the dimensions that stalks are set to, and 4,096 where it is more.
-    pub growth: u32,
     ghost few: { count ≤ 4096 },
-    ghost fewer: { heavy ≤ count },
-    ghost low: { growth ≤ 4096 },
 }
-
-const MOST: u32 = 4096;
 
 impl Scripts {
     ghost use Rattle.sheaf_text.specs.Scripts.{AreNone, EndsScript, AddsQuery, OpensEdit, AddsSet, ClosesEdit};
@@ -40,8 +31,6 @@ impl Scripts {
             commands: Vec::new(alloc),
             sets: Vec::new(alloc),
             count: 0,
-            heavy: 0,
-            growth: 0,
         }
     }
 
@@ -61,10 +50,8 @@ impl Scripts {
         requires { self.old.count < 4096 }
         ensures { OnOk result (AddsQuery self.old self.new query) }
     {
-        let weight = weight(&query);
         self.commands.push(Command::Ask(query))?;
         self.count += 1;
-        self.heavy += weight;
         Ok(())
     }
 
@@ -79,12 +66,9 @@ impl Scripts {
 
     /// Adds a change to the open edit.
     pub fn add_set(&mut self, set: Set) -> Result<(), NoMemory>
-        requires { set_size set < 2 ^ 31 }
         ensures { OnOk result (AddsSet self.old self.new set) }
     {
-        let growth = self.growth + size(&set);
         self.sets.push(set)?;
-        self.growth = growth.min(MOST);
         Ok(())
     }
 
@@ -98,25 +82,5 @@ impl Scripts {
         };
         self.commands.push(Command::Change(edit))?;
         Ok(())
-    }
-}
-
-/// 1 where the reply may take room, else 0.
-fn weight(query: &Query) -> u32
-    ensures { result ≡ (if is_heavy_query query.now then 1 else 0) }
-{
-    match query {
-        Query::Betti => 0,
-        _ => 1,
-    }
-}
-
-/// The dimension that a stalk is set to.
-fn size(set: &Set) -> u32
-    ensures { result ≡ set_size set.now }
-{
-    match set {
-        Set::Stalk { s: _, n } => *n,
-        Set::Restrict { .. } => 0,
     }
 }

@@ -1,9 +1,9 @@
 ghost use Rattle.std.specs.Prelude.{◌≡◌, ◌-◌, ◌^◌, ◌<◌, true, IfOk, IfErr, OnOk};
 ghost use Rattle.sheaf_text.specs.Cut.{words};
 ghost use Rattle.sheaf_text.specs.Answers.{Gives, GivesFault};
-ghost use Rattle.sheaf_text.specs.Readings.{item_of_kind, set_of, is_set_kind, reading_at_end, refused_reading};
-ghost use Rattle.sheaf_text.specs.State.{known_by, IsSoundState, IsReady, IsAccepted, IsUntouched, TakesItem};
-ghost use Rattle.sheaf_text.specs.State.{TakesLine, RefusesLine};
+ghost use Rattle.sheaf_text.specs.Readings.{reading_at_end};
+ghost use Rattle.sheaf_text.specs.Forms.{set_of, is_set_kind, refused_reading};
+ghost use Rattle.sheaf_text.specs.State.{known_by, IsSoundState, IsReady, IsAccepted, IsUntouched, TakesKind, TakesLine, RefusesLine};
 
 use crate::fault::{LineCause, Refusal, TextFault};
 use crate::input::Input;
@@ -71,7 +71,7 @@ impl State {
 
     fn take_field(&mut self, text: &[u8])
         requires { IsAccepted self.old Kind.Field (words text.now) }
-        ensures { TakesItem self.old self.new (item_of_kind (Some Kind.Field) (words text.now)) }
+        ensures { TakesKind self.old self.new Kind.Field (words text.now) }
     {
         self.parts.set_field(value_at(text, 1));
         self.stage = Stage::Cells;
@@ -79,7 +79,7 @@ impl State {
 
     fn take_cell(&mut self, text: &[u8]) -> Result<(), NoMemory>
         requires { IsAccepted self.old Kind.Cell (words text.now) }
-        ensures { OnOk result (TakesItem self.old self.new (item_of_kind (Some Kind.Cell) (words text.now))) }
+        ensures { OnOk result (TakesKind self.old self.new Kind.Cell (words text.now)) }
     {
         self.parts.add_cell(value_at(text, 1), value_at(text, 2))?;
         self.stage = Stage::Cells;
@@ -88,7 +88,7 @@ impl State {
 
     fn take_face(&mut self, alloc: Global, text: &[u8]) -> Result<(), NoMemory>
         requires { IsAccepted self.old Kind.Face (words text.now) }
-        ensures { OnOk result (TakesItem self.old self.new (item_of_kind (Some Kind.Face) (words text.now))) }
+        ensures { OnOk result (TakesKind self.old self.new Kind.Face (words text.now)) }
     {
         self.parts.add_face(alloc, text)?;
         self.stage = Stage::Faces;
@@ -97,7 +97,7 @@ impl State {
 
     fn take_client(&mut self, alloc: Global, text: &[u8]) -> Result<(), NoMemory>
         requires { IsAccepted self.old Kind.Client (words text.now) }
-        ensures { OnOk result (TakesItem self.old self.new (item_of_kind (Some Kind.Client) (words text.now))) }
+        ensures { OnOk result (TakesKind self.old self.new Kind.Client (words text.now)) }
     {
         let is_open = self.stage == Stage::InClient;
         self.scripts.end_script(alloc, is_open)?;
@@ -107,7 +107,7 @@ impl State {
 
     fn take_betti(&mut self, text: &[u8]) -> Result<(), NoMemory>
         requires { IsAccepted self.old Kind.Betti (words text.now) }
-        ensures { OnOk result (TakesItem self.old self.new (item_of_kind (Some Kind.Betti) (words text.now))) }
+        ensures { OnOk result (TakesKind self.old self.new Kind.Betti (words text.now)) }
     {
         self.scripts.add_query(Query::Betti)?;
         Ok(())
@@ -115,7 +115,7 @@ impl State {
 
     fn take_edit(&mut self, alloc: Global, text: &[u8])
         requires { IsAccepted self.old Kind.Edit (words text.now) }
-        ensures { TakesItem self.old self.new (item_of_kind (Some Kind.Edit) (words text.now)) }
+        ensures { TakesKind self.old self.new Kind.Edit (words text.now) }
     {
         self.scripts.open_edit(alloc);
         self.stage = Stage::InEdit;
@@ -124,7 +124,7 @@ impl State {
     fn take_set(&mut self, alloc: Global, kind: Kind, text: &[u8]) -> Result<(), NoMemory>
         requires accepted { IsAccepted self.old kind (words text.now) }
         requires set { is_set_kind kind ≡ true }
-        ensures { OnOk result (TakesItem self.old self.new (item_of_kind (Some kind) (words text.now))) }
+        ensures { OnOk result (TakesKind self.old self.new kind (words text.now)) }
     {
         let set = set_of(alloc, kind, text)?;
         self.scripts.add_set(set)?;
@@ -133,7 +133,7 @@ impl State {
 
     fn take_commit(&mut self, alloc: Global, text: &[u8]) -> Result<(), NoMemory>
         requires { IsAccepted self.old Kind.Commit (words text.now) }
-        ensures { OnOk result (TakesItem self.old self.new (item_of_kind (Some Kind.Commit) (words text.now))) }
+        ensures { OnOk result (TakesKind self.old self.new Kind.Commit (words text.now)) }
     {
         self.scripts.close_edit(alloc)?;
         self.stage = Stage::InClient;
@@ -142,7 +142,7 @@ impl State {
 
     fn take_done(&mut self, alloc: Global, text: &[u8]) -> Result<(), NoMemory>
         requires { IsAccepted self.old Kind.Done (words text.now) }
-        ensures { OnOk result (TakesItem self.old self.new (item_of_kind (Some Kind.Done) (words text.now))) }
+        ensures { OnOk result (TakesKind self.old self.new Kind.Done (words text.now)) }
     {
         let is_open = self.stage == Stage::InClient;
         self.scripts.end_script(alloc, is_open)?;
@@ -153,7 +153,7 @@ impl State {
     /// Takes a line that is not refused.
     fn take_kind(&mut self, alloc: Global, kind: Kind, text: &[u8]) -> Result<(), NoMemory>
         requires { IsAccepted self.old kind (words text.now) }
-        ensures { OnOk result (TakesItem self.old self.new (item_of_kind (Some kind) (words text.now))) }
+        ensures { OnOk result (TakesKind self.old self.new kind (words text.now)) }
     {
         match kind {
             Kind::Field => {

@@ -1,6 +1,7 @@
 ghost use Rattle.std.specs.Prelude.{◌≡◌, ◌≤◌, true, [], length, drop, map, slice_index_or, IfOk};
 ghost use Rattle.std.specs.List.{list_all};
-ghost use Rattle.sheaf_text.specs.Cut.{words, word_number, is_number, value_of, are_below};
+ghost use Rattle.sheaf_text.specs.Cut.{words, word_number, value_of};
+ghost use Rattle.sheaf_text.specs.Forms.{is_number, are_below};
 
 use crate::cut::next_word;
 use std::alloc::{AllocError as NoMemory, Global};

@@ -1,5 +1,5 @@
 use Rattle.std.proofs.Common.{◌≡◌, ◌++◌, [], take, length}
-use Rattle.reply_text.specs.Lines.{lines_text}
+use Rattle.reply_text.specs.Parts.{lines_text}
 use Rattle.reply_text.specs.Transcripts.{order_lines}
 use Rattle.reply_text.specs.Counts.{AreCounted}
 use Rattle.reply_text.proofs.order.put_order.Given as goal

@@ -1,6 +1,6 @@
 use Rattle.std.proofs.Common.{◌≡◌, [], ◌∷◌, ◌++◌, ◌∙◌, rules, append_assoc}
 use Rattle.std.specs.Fmt.{decimal}
-use Rattle.reply_text.specs.Lines.{spaced_words}
+use Rattle.reply_text.specs.Parts.{spaced_words}
 use Rattle.reply_text.specs.Replies.{command_word, answer_words}
 use Rattle.reply_text.proofs.Writing.{one_line}
 use Rattle.reply_text.proofs.replies.reply.Goals as goal

@@ -1,5 +1,5 @@
 use Rattle.std.proofs.Common.{rules, ◌≡◌, ◌++◌, OnOk, Some, slice_get, sym, subst}
-use Rattle.reply_text.specs.Lines.{lines_text}
+use Rattle.reply_text.specs.Parts.{lines_text}
 use Rattle.reply_text.proofs.Naming.{answer-is}
 use Rattle.reply_text.proofs.transcripts.put_answer.Goals as goal
 

@@ -1,7 +1,6 @@
 use Rattle.std.proofs.Common.{◌≡◌, ◌+◌, ◌∷◌, ◌++◌, [], length, take, slice_get, refl, sym, subst, append-nil}
 use Rattle.std.proofs.lemmas.Option.{slice_get_read}
-use Rattle.reply_text.specs.Replies.{IsAnswerTo}
-use Rattle.reply_text.specs.Transcripts.{IfPresent}
+use Rattle.reply_text.specs.ClientEvents.{IsAnswerTo, IfPresent}
 use Rattle.reply_text.specs.Counts.{IsCountOf}
 use Rattle.reply_text.proofs.Counting.{take_next}
 use Rattle.reply_text.proofs.Naming.{written-more}

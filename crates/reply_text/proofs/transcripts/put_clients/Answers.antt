@@ -1,7 +1,7 @@
 use Rattle.std.proofs.Common.{◌≡◌, ◌+◌, ◌∷◌, ◌++◌, [], Some, length, take, slice_get, refl, sym, ap, ◌∙◌, subst, arith}
 use Rattle.std.proofs.lemmas.Option.{slice_get_read}
-use Rattle.reply_text.specs.Lines.{lines_text}
-use Rattle.reply_text.specs.Transcripts.{AreAnswered, client_part}
+use Rattle.reply_text.specs.Parts.{lines_text, client_part}
+use Rattle.reply_text.specs.ClientEvents.{AreAnswered}
 use Rattle.reply_text.proofs.Counting.{take_next}
 use Rattle.reply_text.proofs.Naming.{parts-more, answered-of}
 use Rattle.reply_text.proofs.Bounds.{script-short, versions-short}

@@ -1,5 +1,5 @@
 use Rattle.std.proofs.Common.{◌≡◌, ◌++◌, take}
-use Rattle.reply_text.specs.Lines.{lines_text}
+use Rattle.reply_text.specs.Parts.{lines_text}
 use Rattle.reply_text.specs.Transcripts.{clients_lines}
 use Rattle.reply_text.proofs.transcripts.put_clients.Given as goal
 

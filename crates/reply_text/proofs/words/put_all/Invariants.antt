@@ -1,6 +1,6 @@
 use Rattle.std.proofs.Common.{◌≡◌, ◌++◌, map, take}
 use Rattle.std.specs.Fmt.{decimal}
-use Rattle.reply_text.specs.Lines.{spaced_words}
+use Rattle.reply_text.specs.Parts.{spaced_words}
 use Rattle.reply_text.proofs.words.put_all.Given as goal
 
 abbrev pub invariant-loop-number : goal.invariant-loop-number

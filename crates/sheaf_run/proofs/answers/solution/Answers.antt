@@ -1,6 +1,6 @@
 use Rattle.std.proofs.Common.{sym, subst}
 use Rattle.field_table.specs.Table.{ops_of}
-use Rattle.reply_text.specs.Transcripts.{AreOf}
+use Rattle.reply_text.specs.ClientEvents.{AreOf}
 use Rattle.core_machine.proofs.CountLaws.{events_are_answers}
 use Rattle.sheaf_run.proofs.ServingLaws.{session_commands}
 use Rattle.sheaf_run.proofs.answers.solution.Goals as goal

@@ -2,8 +2,8 @@ use Rattle.std.proofs.Common.{◌∙◌, ◌+◌, sym, ap, subst, arith}
 use Rattle.std.proofs.lemmas.Bool.{eqb-true}
 use Rattle.sheaf_text.specs.Cut.{words}
 use Rattle.sheaf_text.specs.Grammar.{Known}
-use Rattle.sheaf_text.specs.Readings.{Reading, item_of, contents}
-use Rattle.sheaf_text.specs.KnownLines.{advance, run}
+use Rattle.sheaf_text.specs.Readings.{Reading, run}
+use Rattle.sheaf_text.specs.Forms.{contents, known_after}
 use Rattle.sheaf_text.specs.Answers.{Gives, GivesFault}
 use Rattle.sheaf_text.specs.State.{known_by}
 use Rattle.sheaf_text.proofs.Kept.{run-line, run-taken, run-ends}
@@ -16,7 +16,7 @@ returns-in-Err c =
     let line = run-line k c.loop-rest.line c.loop-rest.rest.now text c.next_line.result.1.now c.next_line.ensures.line
     in
     subst (λ (r : Reading). GivesFault c.in-Err.fault r) (sym line ∙ c.loop-rest.invariant.same)
-    (c.in-Err.ensures.err (run (advance k (item_of (words text))) (c.loop-rest.line + 1)
+    (c.in-Err.ensures.err (run (known_after k (words text)) (c.loop-rest.line + 1)
     (contents c.next_line.result.1.now)))
 
 pub loop-rest-preserved : goal.loop-rest-preserved

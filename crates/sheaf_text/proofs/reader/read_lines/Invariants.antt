@@ -1,6 +1,6 @@
 use Rattle.std.proofs.Common.{◌≡◌, ◌≤◌, ◌+◌, length}
-use Rattle.sheaf_text.specs.Readings.{contents}
-use Rattle.sheaf_text.specs.KnownLines.{nothing_known, run}
+use Rattle.sheaf_text.specs.Readings.{nothing_known, run}
+use Rattle.sheaf_text.specs.Forms.{contents}
 use Rattle.sheaf_text.specs.State.{known_by, IsSoundState}
 use Rattle.sheaf_text.proofs.reader.read_lines.Given as goal
 

@@ -1,5 +1,6 @@
 use Rattle.std.proofs.Common.{◌≡◌, length}
-use Rattle.sheaf_text.specs.Cut.{words, are_below}
+use Rattle.sheaf_text.specs.Cut.{words}
+use Rattle.sheaf_text.specs.Forms.{are_below}
 use Rattle.sheaf_text.proofs.words.are_below.Given as goal
 
 abbrev pub invariant-loop-word : goal.invariant-loop-word

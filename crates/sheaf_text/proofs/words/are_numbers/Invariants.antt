@@ -1,6 +1,7 @@
 use Rattle.std.proofs.Common.{◌≡◌, length}
 use Rattle.std.specs.List.{list_all}
-use Rattle.sheaf_text.specs.Cut.{words, is_number}
+use Rattle.sheaf_text.specs.Cut.{words}
+use Rattle.sheaf_text.specs.Forms.{is_number}
 use Rattle.sheaf_text.proofs.words.are_numbers.Given as goal
 
 abbrev pub invariant-loop-word : goal.invariant-loop-word

@@ -1,5 +1,6 @@
 use Rattle.std.proofs.Common.{◌≡◌, ◌++◌, true, length, map}
-use Rattle.sheaf_text.specs.Cut.{words, value_of, are_below}
+use Rattle.sheaf_text.specs.Cut.{words, value_of}
+use Rattle.sheaf_text.specs.Forms.{are_below}
 use Rattle.sheaf_text.proofs.words.scalars.Given as goal
 
 abbrev pub invariant-loop-word : goal.invariant-loop-word

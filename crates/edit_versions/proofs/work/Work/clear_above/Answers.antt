@@ -2,8 +2,7 @@ use Rattle.std.proofs.Common.{◌≡◌, ◌<◌, true, [], length, get_or, refl
 use Rattle.std.proofs.lemmas.List.Elements.{filter_passes}
 use Rattle.cell_complex.specs.Complexes.{all_cells, is_face, joins}
 use Rattle.cell_complex.specs.Invariants.{cofaces_of}
-use Rattle.edit_versions.specs.Edits.{zero_at}
-use Rattle.edit_versions.specs.Works.{Puts, is_to}
+use Rattle.edit_versions.specs.Works.{Puts, is_to, zero_at}
 use Rattle.edit_versions.proofs.Putting.{puts-none, puts-count, puts-to-more}
 use Rattle.edit_versions.proofs.work.Work.clear_above.Goals as goal
 

@@ -1,6 +1,5 @@
 use Rattle.std.proofs.Common.{take}
-use Rattle.edit_versions.specs.Edits.{zero_at}
-use Rattle.edit_versions.specs.Works.{Puts, is_to}
+use Rattle.edit_versions.specs.Works.{Puts, is_to, zero_at}
 use Rattle.edit_versions.proofs.work.Work.clear_above.Given as goal
 
 abbrev pub invariant-loop-t : goal.invariant-loop-t

@@ -1,8 +1,7 @@
 use Rattle.std.proofs.Common.{subst}
 use Rattle.cell_complex.specs.Complexes.{faces_of}
 use Rattle.cell_complex.specs.Invariants.{cofaces_of}
-use Rattle.edit_versions.specs.Edits.{zero_at, is_end}
-use Rattle.edit_versions.specs.Works.{Puts, is_from, is_to}
+use Rattle.edit_versions.specs.Works.{Puts, is_from, is_to, zero_at, is_end}
 use Rattle.edit_versions.proofs.Ends.{ends-at}
 use Rattle.edit_versions.proofs.Putting.{on_ok, puts-count, puts-puts, puts-same}
 use Rattle.edit_versions.proofs.work.Work.clear_at.Goals as goal

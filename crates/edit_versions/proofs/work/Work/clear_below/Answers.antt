@@ -1,8 +1,7 @@
 use Rattle.std.proofs.Common.{◌≡◌, ◌<◌, true, [], length, get_or, refl, sym, ap, subst, arith}
 use Rattle.std.proofs.lemmas.List.Elements.{filter_passes}
 use Rattle.cell_complex.specs.Complexes.{all_cells, is_face, joins, faces_of}
-use Rattle.edit_versions.specs.Edits.{zero_at}
-use Rattle.edit_versions.specs.Works.{Puts, is_from}
+use Rattle.edit_versions.specs.Works.{Puts, is_from, zero_at}
 use Rattle.edit_versions.proofs.Putting.{puts-none, puts-count, puts-from-more}
 use Rattle.edit_versions.proofs.work.Work.clear_below.Goals as goal
 

@@ -1,6 +1,5 @@
 use Rattle.std.proofs.Common.{take}
-use Rattle.edit_versions.specs.Edits.{zero_at}
-use Rattle.edit_versions.specs.Works.{Puts, is_from}
+use Rattle.edit_versions.specs.Works.{Puts, is_from, zero_at}
 use Rattle.edit_versions.proofs.work.Work.clear_below.Given as goal
 
 abbrev pub invariant-loop-s : goal.invariant-loop-s

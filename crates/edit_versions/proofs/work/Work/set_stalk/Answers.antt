@@ -1,7 +1,6 @@
 use Rattle.std.proofs.Common.{set, ap₂}
 use Rattle.sheaf_words.specs.declared.edit.Set.TheVariants.{Stalk}
-use Rattle.edit_versions.specs.Edits.{zero_at, is_end}
-use Rattle.edit_versions.specs.Works.{Puts, TakesSet}
+use Rattle.edit_versions.specs.Works.{Puts, TakesSet, zero_at, is_end}
 use Rattle.edit_versions.proofs.Putting.{on_ok}
 use Rattle.edit_versions.proofs.work.Work.set_stalk.Goals as goal
 

@@ -1,0 +1,11 @@
+-- Legal events.
+use Rattle.std.specs.Prelude.{List}
+use Rattle.dense_blocks.specs.Field.{Ops}
+use Rattle.sheaf_data.specs.Sheaves.{SheafData}
+use Rattle.sheaf_words.specs.declared.query.Command.{Command}
+use Rattle.sheaf_words.specs.declared.event.Event.{Event}
+use Rattle.core_machine.specs.Machine.{State, Leads, first_state}
+
+-- legal: the events lead from the first state to this one
+abbrev pub IsLegal : {F : Type 0} → Ops → List (List Command) → SheafData F → List Event → State F → Type 0
+IsLegal K scripts sheaf events t = Leads K scripts events (first_state sheaf) t
