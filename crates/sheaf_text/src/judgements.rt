@@ -1,7 +1,8 @@
 ghost use Rattle.std.specs.Prelude.{◌≡◌, length, IfOk, IfErr};
 ghost use Rattle.sheaf_text.specs.Cut.{words};
 ghost use Rattle.sheaf_text.specs.Parts.{AreDraftParts, IsClosed};
-ghost use Rattle.sheaf_text.specs.Grammar.{is_ended, cause_of, cell_refusal, entries_refusal, face_refusal, kind_refusal, placed_refusal};
+ghost use Rattle.sheaf_text.specs.Grammar.{is_ended, cause_of, cell_refusal, entries_refusal, face_refusal};
+ghost use Rattle.sheaf_text.specs.Grammar.{kind_refusal, placed_refusal};
 ghost use Rattle.sheaf_text.specs.Forms.{is_full, field_refusal, client_refusal, command_refusal, content_refusal};
 ghost use Rattle.sheaf_text.specs.State.{known_by, scripts_at, IsSoundState, IsReadyFor, IsFound};
 

@@ -4,7 +4,8 @@ ghost use Rattle.cell_complex.specs.Verdicts.{face_fault};
 ghost use Rattle.field_table.specs.Table.{orders};
 ghost use Rattle.sheaf_text.specs.Cut.{words};
 ghost use Rattle.sheaf_text.specs.Lines.{face_in};
-ghost use Rattle.sheaf_text.specs.Parts.{AreDraftParts, IsOpen, IsClosed, AreNew, IsOrdered, AddsCell, IsShut, TakesFace, AddsFace, IsDraftOf};
+ghost use Rattle.sheaf_text.specs.Parts.{AreDraftParts, IsOpen, IsClosed, AreNew, IsOrdered, AddsCell, IsShut};
+ghost use Rattle.sheaf_text.specs.Parts.{TakesFace, AddsFace, IsDraftOf};
 
 use crate::line::face_of;
 use crate::words::{after_words, scalars};

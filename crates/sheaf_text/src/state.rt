@@ -3,7 +3,8 @@ ghost use Rattle.sheaf_text.specs.Cut.{words};
 ghost use Rattle.sheaf_text.specs.Answers.{Gives, GivesFault};
 ghost use Rattle.sheaf_text.specs.Readings.{reading_at_end};
 ghost use Rattle.sheaf_text.specs.Forms.{set_of, is_set_kind, refused_reading};
-ghost use Rattle.sheaf_text.specs.State.{known_by, IsSoundState, IsReady, IsAccepted, IsUntouched, TakesKind, TakesLine, RefusesLine};
+ghost use Rattle.sheaf_text.specs.State.{known_by, IsSoundState, IsReady, IsAccepted, IsUntouched, TakesKind};
+ghost use Rattle.sheaf_text.specs.State.{TakesLine, RefusesLine};
 
 use crate::fault::{LineCause, Refusal, TextFault};
 use crate::input::Input;
