@@ -1,8 +1,9 @@
 -- Parts of the grammar and of the reading, as the reader's functions and the proofs name them.
 use Rattle.std.specs.Prelude.{◌≡◌, ◌<◌, ◌*◌, ℕ, Bool, true, false, List, [], ◌∷◌, ◌++◌, drop, length, map, zip, not}
-use Rattle.std.specs.Prelude.{Option, Some, None, is_some, option_map, unwrap_or, ◌==◌, ◌||◌, nat_le, nat_lt}
+use Rattle.std.specs.Prelude.{Option, Some, None, is_some, ◌==◌, ◌||◌, nat_le, nat_lt}
 use Rattle.std.specs.Prelude.{slice_index, if◌then◌else◌, codes}
 use Rattle.std.specs.List.{list_all, list_any}
+use Rattle.std.specs.Option.{option_map_or}
 use Rattle.std.specs.Str.{bytes_eq}
 use Rattle.std.specs.Str.Lines.{lines}
 use Rattle.cell_complex.specs.declared.face.Face.{Face}
@@ -68,7 +69,7 @@ is_full stalks f n = n == slice_index stalks f.t * slice_index stalks f.s
 
 -- what is refused of a face, by its incidence
 abbrev pub incidence_refusal : Known → List (List ℕ) → Option FaceFault → Option Refusal
-incidence_refusal k ws fault = unwrap_or (option_map (λ f. Some (Bad (cause_of f))) fault) (entries_refusal k ws)
+incidence_refusal k ws fault = option_map_or (λ f. Some (Bad (cause_of f))) fault (entries_refusal k ws)
 
 abbrev pub client_refusal : Known → Option Refusal
 client_refusal k = if nat_le 8 (length k.scripts) then Some (Over limits.Clients) else None
@@ -80,7 +81,7 @@ command_refusal k = if nat_le 4096 k.commands then Some (Over limits.Commands) e
 abbrev pub content_refusal : Known → Option Kind → List (List ℕ) → Option Refusal
 content_refusal k kind ws =
     if is_ended k.stage then Some (Bad causes.After)
-    else unwrap_or (option_map (λ found. placed_refusal k found ws) kind) (Some (Bad causes.Word))
+    else option_map_or (λ found. placed_refusal k found ws) kind (Some (Bad causes.Word))
 
 -- ---- readings
 

@@ -1,7 +1,8 @@
 -- Which lines are refused, by what the earlier lines say.
 use Rattle.std.specs.Prelude.{ℕ, ◌+◌, ◌*◌, Bool, true, false, List, drop, length, sum, not, Option, Some, None, is_some}
-use Rattle.std.specs.Prelude.{◌==◌, ◌||◌, nat_le, nat_lt, slice_index, option_map, unwrap_or, if◌then◌else◌, codes}
+use Rattle.std.specs.Prelude.{◌==◌, ◌||◌, nat_le, nat_lt, slice_index, if◌then◌else◌, codes}
 use Rattle.std.specs.List.{list_all, list_any}
+use Rattle.std.specs.Option.{option_map_or}
 use Rattle.std.specs.Str.{bytes_eq}
 use Rattle.cell_complex.specs.declared.face.Face.{Face}
 use Rattle.cell_complex.specs.declared.fault.FaceFault.{FaceFault}
@@ -60,8 +61,8 @@ entries_refusal k ws =
 abbrev pub face_refusal : Known → List (List ℕ) → Option Refusal
 face_refusal k ws =
     if not (bytes_eq (word ws 3) (codes "+") || bytes_eq (word ws 3) (codes "-")) then Some (Bad causes.Sign)
-    else unwrap_or (option_map (λ fault. Some (Bad (cause_of fault)))
-    (face_fault (record { dims = k.dims; faces = k.faces }) (face_in ws))) (entries_refusal k ws)
+    else option_map_or (λ fault. Some (Bad (cause_of fault)))
+    (face_fault (record { dims = k.dims; faces = k.faces }) (face_in ws)) (entries_refusal k ws)
 
 abbrev pub kind_refusal : Known → Kind → List (List ℕ) → Option Refusal
 kind_refusal k kinds.Field ws = if list_any (λ q. value ws 1 == q) orders then None else Some (Bad causes.Field)
@@ -90,4 +91,4 @@ unfoldable pub refusal : Known → List (List ℕ) → Option Refusal
 refusal k ws =
     if is_skipped ws then None
     else if is_ended k.stage then Some (Bad causes.After)
-    else unwrap_or (option_map (λ kind. placed_refusal k kind ws) (kind_of (word ws 0))) (Some (Bad causes.Word))
+    else option_map_or (λ kind. placed_refusal k kind ws) (kind_of (word ws 0)) (Some (Bad causes.Word))
