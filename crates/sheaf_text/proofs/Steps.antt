@@ -1,8 +1,8 @@
 -- One line of the reading, and its end.
 use Rattle.std.proofs.Common.{◌≡◌, ℕ, suc, true, false, List, [], ◌∷◌, map, refl, sym, ap, subst, ◌∙◌, arith, Option}
-use Rattle.std.proofs.Common.{Some, None, length}
+use Rattle.std.proofs.Common.{Some, None, length, inl, inr}
 use Rattle.std.specs.Prelude.{◌==◌, ◌||◌, slice_index}
-use Rattle.std.proofs.lemmas.Bool.{eqb-true}
+use Rattle.std.proofs.lemmas.Bool.{eqb-true, or_cases}
 use Rattle.dense_blocks.specs.declared.block.Block.{Block}
 use Rattle.cell_complex.specs.declared.face.Face.{Face}
 use Rattle.field_table.specs.declared.field.Field.{Field}
@@ -39,7 +39,11 @@ refusal-content k ws e = rw e refl
 -- the first word of a line that is skipped names no kind
 kind_of-skipped : (w : List ℕ) → ((length w == 0) || (slice_index w 0 == 35)) ≡ true → kind_of w ≡ None
 kind_of-skipped [] e = refl
-kind_of-skipped (b ∷ w) e = let is : b ≡ 35 = eqb-true b 35 e in rw is refl
+kind_of-skipped (b ∷ w) e =
+    elim (or_cases (length (b ∷ w) == 0) (b == 35) e) [
+      | inl empty ↦ let none = eqb-true (length (b ∷ w)) 0 empty in absurd (omega arith)
+      | inr mark ↦ ap (λ c. kind_of (c ∷ w)) (eqb-true b 35 mark)
+    ]
 
 pub known_after-skipped : (k : Known) (ws : List (List ℕ)) → is_skipped ws ≡ true → known_after k ws ≡ k
 unfolding known_after
