@@ -1,8 +1,8 @@
 ghost use Rattle.std.specs.Prelude.{◌≡◌, ℕ, ◌+◌, ◌<◌, ◌^◌, ◌∷◌, [], ◌++◌, List, length, sum_by, All, IfSome, OnOk};
 ghost use Rattle.sheaf_words.specs.declared.event.Event.{Event};
-ghost use Rattle.reply_text.specs.Parts.{lines_text};
+ghost use Rattle.reply_text.specs.Parts.{lines_text, command_number};
 ghost use Rattle.reply_text.specs.ClientEvents.{AreOf, client_of, ender_of};
-ghost use Rattle.reply_text.specs.Transcripts.{command_number, order_lines};
+ghost use Rattle.reply_text.specs.Transcripts.{order_lines};
 ghost use Rattle.reply_text.specs.Counts.{AreCounted};
 
 use crate::events::event_line;
