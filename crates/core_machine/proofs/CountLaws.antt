@@ -46,7 +46,8 @@ position-same : (lanes : ℕ → Lane) (c d p v : ℕ) → lane_position (lanes 
     → lane_position (with_lane lanes c (waiting_lane p v) d) ≡ lane_position (lanes d) + 0
 position-same lanes c d p v is = go (c == d) refl
   where
-    go : (b : Bool) → (c == d) ≡ b → lane_position (if b then waiting_lane p v else lanes d) ≡ lane_position (lanes d) + 0
+    go : (b : Bool) → (c == d) ≡ b → lane_position (if b then waiting_lane p v else lanes d) ≡ lane_position (lanes d)
+        + 0
     go true e = sym (subst (λ k. lane_position (lanes k) ≡ p) (eqb-true c d e) is) ∙ omega arith
     go false e = omega arith
 
@@ -93,8 +94,8 @@ counted-ask : {F : Type 0} (scripts : List (List Command)) (events : List Event)
 counted-ask scripts events c s t step h = record {
   current = ap length step.versions ∙ h.current
       ∙ ap (λ n. n + 1) (omega arith ∙ sym (count-more is_accepted events (Ask c)));
-  positions = λ d. ap (λ lanes. lane_position (lanes d)) step.lanes ∙ position-same s.lanes c d step.position step.version
-      (ap lane_position step.is_free)
+  positions = λ d. ap (λ lanes. lane_position (lanes d)) step.lanes
+      ∙ position-same s.lanes c d step.position step.version (ap lane_position step.is_free)
       ∙ ap (λ n. n + 0) (h.positions d) ∙ sym (count-more (ends_for d) events (Ask c));
   pendings = λ d v is. pending-asked s.lanes c d step.position step.version v (asked_version d events) (h.pendings d v)
       (sym (ap (λ lanes. lane_pending (lanes d)) step.lanes) ∙ is)

@@ -110,8 +110,8 @@ abbrev pub Leads : {F : Type 0} → Ops → List (List Command) → List Event �
 Leads K scripts [] s t = s ≡ t
 Leads {F} K scripts (event ∷ events) s t = (m : State F) × Step K scripts event s m × Leads K scripts events m t
 
--- the events are one legal order of all commands of these scripts on this sheaf, whole: they lead from one version,
--- nothing done, nothing pending and nothing asked to where each client's script is done, and nothing is pending
+-- the events are one legal order of all commands of these scripts on this sheaf, whole: they lead from the state that
+-- has this one version, with nothing done, pending or asked, to one with each script done and nothing pending
 pub record IsLegalAndWhole {F : Type 0} (K : Ops) (scripts : List (List Command)) (sheaf : SheafData F)
     (events : List Event) : Type 0 where
   pub last : State F

@@ -27,7 +27,7 @@ abbrev pub IsVerdict : {F : Type 0} → Ops → SheafData F → Edit → Verdict
 IsVerdict K sheaf edit v =
     MatchResult (sets_made K sheaf.complex (sheaf_lists sheaf.stalks sheaf.blocks) 0 edit.sets)
     (λ l. MatchBool (nat_lt 4096 (sum l.stalks)) (v ≡ Refused TotalLimit)
-        (IsSquareVerdict K sheaf.complex l.matrices v))
+    (IsSquareVerdict K sheaf.complex l.matrices v))
     (λ cause. v ≡ Refused cause)
 
 -- the edited sheaf: what all sets make, over the same complex and field

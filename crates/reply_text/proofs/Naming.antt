@@ -1,11 +1,13 @@
 -- The number and the version that a reply names.
 use Rattle.std.proofs.Common.{◌≡◌, ℕ, ◌+◌, ◌<◌, ◌≤◌, ◌^◌, true, false, List, [], ◌∷◌, ◌++◌, Some, None, Option}
-use Rattle.std.proofs.Common.{slice_get, get_or, length, take, if◌then◌else◌, refl, sym, ap, ap₂, subst, ◌∙◌, arith}
-use Rattle.std.proofs.Common.{append-nil, append_assoc}
+use Rattle.std.proofs.Common.{slice_get, get_or, length, take, map, if◌then◌else◌, refl, sym, ap, ap₂, subst, ◌∙◌, arith}
+use Rattle.std.proofs.Common.{append-nil, append_assoc, length-append}
+use Rattle.std.specs.List.{enumerate_from}
+use Rattle.std.proofs.Math.Seq.{take-append_seam}
 use Rattle.std.specs.Prelude.{All, IfSome, option_and_then}
 use Rattle.std.proofs.lemmas.Option.{slice_get_within, slice_get-get_or}
 use Rattle.std.proofs.lemmas.List.Elements.{All-from_get_or}
-use Rattle.std.proofs.lemmas.List.{length-take-le}
+use Rattle.std.proofs.lemmas.List.{length-take-le, take_all}
 use Rattle.std.proofs.lemmas.List.Concat.{flat_map-append}
 use Rattle.std.proofs.lemmas.Bool.{eqb-true}
 use Rattle.sheaf_words.specs.declared.query.Command.{Command}
@@ -13,8 +15,8 @@ use Rattle.sheaf_words.specs.declared.event.Event.{Event}
 use Rattle.sheaf_words.specs.declared.event.Event.TheVariants.{Edit, Ask, Pair, Reply}
 use Rattle.reply_text.specs.Lines.{line_text}
 use Rattle.reply_text.specs.Parts.{lines_text, answer_lines, event_lines, client_part, clients_lines, command_number}
-use Rattle.reply_text.specs.Parts.{numbered_words}
-use Rattle.reply_text.specs.Transcripts.{ends_for, ended_count, version_named, client_lines, event_words, order_lines}
+use Rattle.reply_text.specs.Parts.{numbered_words, order_lines, placed_lines}
+use Rattle.reply_text.specs.Transcripts.{ends_for, ended_count, version_named, client_lines, event_words}
 use Rattle.reply_text.specs.ClientEvents.{client_of, IfPresent, IsAnswered, IsOf, AreOf, AreAnswered, IsAnswerTo}
 use Rattle.reply_text.specs.Replies.{reply_lines}
 use Rattle.reply_text.specs.Counts.{IsCountOf}
@@ -70,6 +72,24 @@ order_lines-more earlier (x ∷ events) event =
     ap (λ rest. event_words earlier x ∷ rest) (order_lines-more (earlier ++ x ∷ []) events event
     ∙ ap (λ es. order_lines (earlier ++ x ∷ []) events ++ event_words es event ∷ [])
     (append_assoc earlier (x ∷ []) events))
+
+-- the lines of the events after the earlier ones, by their places among all
+pub placed-from : (earlier events all : List Event) → earlier ++ events ≡ all
+    → map (λ (p : ℕ × Event). event_words (take p.0 all) p.1) (enumerate_from (length earlier) events)
+    ≡ order_lines earlier events
+placed-from earlier [] all e = refl
+placed-from earlier (x ∷ events) all e =
+    let next : length earlier + 1 ≡ length (earlier ++ x ∷ []) = sym (length-append earlier (x ∷ [])) in
+    let before : take (length earlier) all ≡ earlier =
+    ap (take (length earlier)) (sym e) ∙ take-append_seam earlier (x ∷ events) in
+    ap₂ (λ words rest. words ∷ rest) (ap (λ es. event_words es x) before)
+    (ap (λ n. map (λ (p : ℕ × Event). event_words (take p.0 all) p.1) (enumerate_from n events)) next
+    ∙ placed-from (earlier ++ x ∷ []) events all (append_assoc earlier (x ∷ []) events ∙ e))
+
+-- all of them
+pub all-placed : (events : List Event) (n : ℕ) → length events ≤ n → order_lines [] (take n events)
+    ≡ placed_lines events
+all-placed events n whole = ap (order_lines []) (take_all n events whole) ∙ sym (placed-from [] events events refl)
 
 -- the words of an event, with the number of its command
 words-numbered : (earlier : List Event) (event : Event)

@@ -1,6 +1,6 @@
 -- Parts of a transcript.
 use Rattle.std.specs.Prelude.{ℕ, ◌+◌, Bool, false, ◌==◌, List, [], ◌∷◌, ◌++◌, Option, slice_get, count_by}
-use Rattle.std.specs.Prelude.{if◌then◌else◌, codes}
+use Rattle.std.specs.Prelude.{if◌then◌else◌, map, take, codes}
 use Rattle.std.specs.Fmt.{decimal}
 use Rattle.std.specs.List.{flat_map, enumerate_from}
 use Rattle.std.specs.Option.{option_map_or}
@@ -10,6 +10,7 @@ use Rattle.sheaf_words.specs.declared.event.Event.TheVariants.{Edit, Ask, Pair, 
 use Rattle.reply_text.specs.Lines.{line_text}
 use Rattle.reply_text.specs.Replies.{reply_lines}
 use Rattle.reply_text.specs.Transcripts.{ends_for, ended_count, is_accepted, asked_from, version_named, client_lines}
+use Rattle.reply_text.specs.Transcripts.{event_words}
 
 abbrev pub lines_text : List (List (List ℕ)) → List ℕ
 lines_text lines = flat_map line_text lines
@@ -36,6 +37,15 @@ client_part c script events = (codes "client" ∷ decimal c ∷ []) ∷ client_l
 abbrev pub clients_lines : ℕ → List (List Command) → List Event → List (List (List ℕ))
 clients_lines c scripts events =
     flat_map (λ (p : ℕ × List Command). client_part p.0 p.1 events) (enumerate_from c scripts)
+
+-- a line for each event
+abbrev pub order_lines : List Event → List Event → List (List (List ℕ))
+order_lines earlier [] = []
+order_lines earlier (event ∷ events) = event_words earlier event ∷ order_lines (earlier ++ event ∷ []) events
+
+-- these, each by its place among all events
+abbrev pub placed_lines : List Event → List (List (List ℕ))
+placed_lines events = map (λ (p : ℕ × Event). event_words (take p.0 events) p.1) (enumerate_from 0 events)
 
 -- ---- counts
 

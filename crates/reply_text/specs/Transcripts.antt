@@ -1,6 +1,6 @@
 -- The transcript of a list of events.
 use Rattle.std.specs.Prelude.{ℕ, ◌+◌, Bool, true, false, List, [], ◌∷◌, ◌++◌, count_by, slice_get, if◌then◌else◌, ◌==◌}
-use Rattle.std.specs.Prelude.{codes}
+use Rattle.std.specs.Prelude.{map, take, codes}
 use Rattle.std.specs.List.{flat_map, enumerate_from}
 use Rattle.std.specs.Option.{option_map_or}
 use Rattle.std.specs.Fmt.{decimal}
@@ -57,15 +57,11 @@ event_words earlier (Ask c) = codes "ask" ∷ decimal c ∷ decimal (ended_count
 event_words earlier (Pair v x y) = codes "pair" ∷ decimal v ∷ decimal x ∷ decimal y ∷ []
 event_words earlier (Reply c r) = codes "reply" ∷ decimal c ∷ decimal (ended_count c earlier + 1) ∷ []
 
--- a line for each event
-abbrev pub order_lines : List Event → List Event → List (List (List ℕ))
-order_lines earlier [] = []
-order_lines earlier (event ∷ events) = event_words earlier event ∷ order_lines (earlier ++ event ∷ []) events
-
 -- the transcript of the events that clients with these scripts made: for each client, from 0 on, a line and the replies
--- to it; and then what happened in order
+-- to it; and then a line for each event, in order
 abbrev pub transcript : List (List Command) → List Event → List ℕ
 transcript scripts events =
     flat_map line_text (flat_map (λ (p : ℕ × List Command). (codes "client" ∷ decimal p.0 ∷ [])
     ∷ client_lines p.0 p.1 [] events) (enumerate_from 0 scripts)
-    ++ ((codes "order" ∷ []) ∷ (order_lines [] events ++ (codes "end" ∷ []) ∷ [])))
+    ++ ((codes "order" ∷ []) ∷ (map (λ (p : ℕ × Event). event_words (take p.0 events) p.1) (enumerate_from 0 events)
+    ++ (codes "end" ∷ []) ∷ [])))

@@ -16,14 +16,17 @@ abbrev pub signed_matrix : Ops → Sign → List (List ℕ) → List (List ℕ)
 signed_matrix K Plus A = A
 signed_matrix K Minus A = matrix_negative K A
 
--- the whole complex: every cell, with its dimension as its degree and its stalk as its size; and for every face the sign
--- times the matrix of its block, from the coordinates of s to those of t
+-- the whole complex: every cell, with its dimension as its degree and its stalk as its size; and for every face the
+-- sign times the matrix of its block, from the coordinates of s to those of t
 abbrev pub cochain_complex_of : Ops → CellComplex → List ℕ → List Block → CellularComplex
 cochain_complex_of K c stalks blocks = record {
   cells = map (λ (p : ℕ × (ℕ × ℕ)). record { cell = p.0; degree = p.1.0; size = p.1.1 })
       (enumerate_from 0 (zip c.dims stalks));
-  arrows = map (λ (p : Face × Block). record { from = p.0.s; to = p.0.t; matrix = signed_matrix K p.0.sign
-      (matrix_of p.1) }) (zip c.faces blocks);
+  arrows = map (λ (p : Face × Block). record {
+    from = p.0.s;
+    to = p.0.t;
+    matrix = signed_matrix K p.0.sign (matrix_of p.1);
+  }) (zip c.faces blocks);
 }
 
 -- one more than the largest dimension of a cell, and 0 where there are no cells
