@@ -4,7 +4,7 @@ ghost use Rattle.sheaf_words.specs.declared.event.Event.{Event};
 ghost use Rattle.reply_text.specs.Parts.{lines_text, client_part, clients_lines, event_lines};
 ghost use Rattle.reply_text.specs.Parts.{asks_for, current_version};
 ghost use Rattle.reply_text.specs.ClientEvents.{IsAnswerTo, AreOf, IfPresent, AreAnswered};
-ghost use Rattle.reply_text.specs.Transcripts.{ends_for, is_accepted, ended_count, version_named, client_lines};
+ghost use Rattle.reply_text.specs.Transcripts.{ends_for, is_accepted, version_named, client_lines};
 ghost use Rattle.reply_text.specs.Transcripts.{transcript};
 ghost use Rattle.reply_text.specs.Counts.{IsCountOf};
 
