@@ -2,7 +2,7 @@
 -- cancel.
 use Rattle.std.proofs.Common.{◌≡◌, ℕ, zero, suc, ◌+◌, ◌<◌, ◌≤◌, Bool, true, false, cond, ◌&&◌, ◌⊎◌, ⊎_elim, eqb, List}
 use Rattle.std.proofs.Common.{[], ◌∷◌, length, filter, get_or, slice_index, Some, All, refl, sym, ap, ap₂, ◌∙◌, subst}
-use Rattle.std.proofs.Common.{arith}
+use Rattle.std.proofs.Common.{IsTrue, arith}
 use Rattle.std.specs.Prelude.{◌==◌}
 use Rattle.std.specs.List.{range_with_len}
 use Rattle.std.specs.Option.{option_map, option_and_then}
@@ -13,7 +13,9 @@ use Rattle.cell_complex.specs.declared.face.Sign.{Sign}
 use Rattle.cell_complex.specs.Complexes.{CellComplex, all_cells, is_face, middles}
 use Rattle.cell_complex.specs.Invariants.{IsComplex}
 use Rattle.cell_complex.proofs.Callers.{incident_from_face}
-use Rattle.incidence_check.specs.Incidences.{HasOppositeMiddles, are_opposite, times}
+use Rattle.incidence_check.specs.Incidences.{are_opposite, are_opposite_pair, times}
+use Rattle.incidence_check.specs.Answers.{HasOppositeMiddles}
+use Rattle.incidence_check.proofs.Faults.{opposite_middles}
 use Rattle.incidence_check.specs.Incidences as incidences
 use Rattle.dense_blocks.specs.Field.{Ops}
 use Rattle.dense_blocks.specs.FieldLaws.{IsField}
@@ -269,7 +271,9 @@ module _ (K : Ops) (F : IsField K) (c : CellComplex) (stalks : List ℕ) (blocks
             let h = between-head c s u t ts e in
             let low = incident_from_face c complex s t h.lower in
             let up = incident_from_face c complex t u h.upper in
-            ⊎_elim (λ (none : middles c s u ≡ []). ap (sum_over K (size u) at) none) both
+            ⊎_elim (λ (none : middles c s u ≡ []). ap (sum_over K (size u) at) none)
+            (λ (m : IsTrue (are_opposite_pair (λ t. incidences.sign_product c s t u) (middles c s u))).
+            both (opposite_middles c s u (middles c s u) refl m))
             (sheaf.regular.squares s u low.s_is_cell up.t_is_cell (omega (arith, low.one_up, up.one_up)))
 
 pub dd_zero : CoboundaryOfCoboundaryIsZero

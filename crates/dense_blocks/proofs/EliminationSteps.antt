@@ -13,7 +13,7 @@ use Rattle.dense_blocks.specs.Field.{Ops}
 use Rattle.dense_blocks.specs.FieldLaws.{IsField}
 use Rattle.dense_blocks.specs.Vectors.{IsVector, zeros, plus, negative, multiple, dot, combination}
 use Rattle.dense_blocks.specs.MatrixFacts.{IsMatrix}
-use Rattle.dense_blocks.specs.Elimination.{IsPivot, rows, pivot_multiple, pivot_remainder, reduced, parts, PullsBack}
+use Rattle.dense_blocks.specs.Elimination.{IsPivot, rows, pivot_multiple, pivot_remainder, remainder, parts, PullsBack}
 use Rattle.dense_blocks.specs.Elimination.{Eliminates, ComesFrom}
 use Rattle.dense_blocks.specs.Solutions.{lists, IsDependent, IsDependentCoordinate, IsLeading}
 use Rattle.dense_blocks.specs.declared.solution.Pivot.{Pivot}
@@ -24,22 +24,22 @@ use Rattle.dense_blocks.proofs.VectorLaws.{zeros-size, zeros-vector, zeros-dot, 
 use Rattle.dense_blocks.proofs.VectorLaws.{plus-assoc, plus-comm, plus-cross, plus-negative, multiple-vector}
 use Rattle.dense_blocks.proofs.VectorLaws.{multiple-plus, multiple-neg, dot-plus, dot-multiple, combination-vector}
 use Rattle.dense_blocks.proofs.VectorLaws.{combination-plus, combination-multiple, combination-zeros}
-use Rattle.dense_blocks.proofs.Leading.{Given, reduced-combination, given-reduced, given-not_first}
-use Rattle.dense_blocks.proofs.Reductions.{reduced-vector, reduced-push, reduced-parts, parts-vector, zeros-at}
+use Rattle.dense_blocks.proofs.Leading.{Given, remainder-combination, given-remainder, given-not_first}
+use Rattle.dense_blocks.proofs.Reductions.{remainder-vector, remainder-push, remainder-parts, parts-vector, zeros-at}
 use Rattle.dense_blocks.proofs.Reductions.{cleared-zeros, cleared-row, dot-set, set-vector, combination-take}
 use Rattle.dense_blocks.proofs.Reductions.{combination-set, combination-last}
 
 -- u and what was taken off so far, with i pivots used
 pub record Reducing (K : Ops) (n : ℕ) (ps : List Pivot) (start : List ℕ) (i : ℕ) (u taken : List ℕ) : Type 0 where
   pub vector : IsVector K n u
-  pub rest : reduced K (drop i ps) u ≡ reduced K ps start
+  pub rest : remainder K (drop i ps) u ≡ remainder K ps start
   pub all_taken : taken ++ parts K (drop i ps) u ≡ parts K ps start
 
 pub reducing-next : (K : Ops) (h : IsField K) (n : ℕ) (ps : List Pivot) (start : List ℕ) (i : ℕ) (u taken : List ℕ)
     (p : Pivot) (x : ℕ)
     → i < length ps → p ≡ get_or ps i p → IsPivot K n p → x ≡ pivot_multiple K p u → Reducing K n ps start i u taken
     → Reducing K n ps start (i + 1) (plus K u (multiple K (K.neg x) p.row.items)) (taken ++ x ∷ [])
-unfolding reduced parts
+unfolding remainder parts
 reducing-next K h n ps start i u taken p x l is fit is_x now =
     let u' : List ℕ = plus K u (multiple K (K.neg x) p.row.items) in
     let next : pivot_remainder K p u ≡ u' = ap (λ t. plus K u (multiple K (K.neg t) p.row.items)) (sym is_x) in
@@ -49,16 +49,16 @@ reducing-next K h n ps start i u taken p x l is fit is_x now =
       vector = from_vector K n u'
           (plus-vector K h n u (multiple K (K.neg x) p.row.items) (to_vector K n u now.vector)
           (multiple-vector K h n (K.neg x) p.row.items (to_vector K n p.row.items fit.row)));
-      rest = ap (reduced K (drop (i + 1) ps)) (sym next) ∙ ap (λ t. reduced K t u) (sym cut) ∙ now.rest;
+      rest = ap (remainder K (drop (i + 1) ps)) (sym next) ∙ ap (λ t. remainder K t u) (sym cut) ∙ now.rest;
       all_taken = append_assoc taken (x ∷ []) (parts K (drop (i + 1) ps) u')
           ∙ ap₂ (λ a b. taken ++ a ∷ parts K (drop (i + 1) ps) b) is_x (sym next)
           ∙ ap (λ t. taken ++ parts K t u) (sym cut) ∙ now.all_taken;
     }
 
 pub reducing-rest : (K : Ops) (n : ℕ) (ps : List Pivot) (start : List ℕ) (i : ℕ) (u taken : List ℕ) → length ps ≤ i
-    → Reducing K n ps start i u taken → u ≡ reduced K ps start
-unfolding reduced
-reducing-rest K n ps start i u taken l now = ap (λ t. reduced K t u) (sym (drop_all i ps l)) ∙ now.rest
+    → Reducing K n ps start i u taken → u ≡ remainder K ps start
+unfolding remainder
+reducing-rest K n ps start i u taken l now = ap (λ t. remainder K t u) (sym (drop_all i ps l)) ∙ now.rest
 
 pub reducing-parts : (K : Ops) (n : ℕ) (ps : List Pivot) (start : List ℕ) (i : ℕ) (u taken : List ℕ) → length ps ≤ i
     → Reducing K n ps start i u taken → taken ≡ parts K ps start
@@ -96,8 +96,8 @@ last_all P xs x all =
 -- p at what the first i pivots leave of a vector, where all of them are to be used
 pub record Pulling (K : Ops) (n : ℕ) (ps : List Pivot) (place k i : ℕ) (p : List ℕ) : Type 0 where
   pub functional : IsVector K n p
-  pub gives : (u : List ℕ) → IsVector K n u → dot K p (reduced K (take i ps) u)
-      ≡ K.mul k (get_or (reduced K ps u) place 0)
+  pub gives : (u : List ℕ) → IsVector K n u → dot K p (remainder K (take i ps) u)
+      ≡ K.mul k (get_or (remainder K ps u) place 0)
   pub elsewhere : (j : ℕ) → j ≢ place → ((a : ℕ) (d : Pivot) → a < length ps → (get_or ps a d).place ≢ j)
       → get_or p j 0 ≡ 0
 
@@ -130,8 +130,8 @@ module _ (K : Ops) (h : IsField K) where
         functional = from_vector K n (set (zeros n) place k)
             (set-vector K h n place k (zeros n) low (zeros-vector K h n));
         gives = λ u hu.
-            ap (λ t. dot K (set (zeros n) place k) (reduced K t u)) (take_all i ps (omega arith))
-            ∙ dot-unit n place k (reduced K ps u) l low (reduced-vector K h n ps u fit (to_vector K n u hu));
+            ap (λ t. dot K (set (zeros n) place k) (remainder K t u)) (take_all i ps (omega arith))
+            ∙ dot-unit n place k (remainder K ps u) l low (remainder-vector K h n ps u fit (to_vector K n u hu));
         elsewhere = λ j other none. get_or-set_other (zeros n) place j k 0 other ∙ zeros-at K h n j;
       })
 
@@ -165,13 +165,13 @@ module _ (K : Ops) (h : IsField K) where
         (set-vector K h n q.place (K.add (get_or p q.place 0) less) p (h.add_below (get_or p q.place 0) less)
         (to_vector K n p now.functional));
     gives = λ u hu.
-        let w : List ℕ = reduced K (take i ps) u in
+        let w : List ℕ = remainder K (take i ps) u in
         dot-cleared n q p w less fit (to_vector K n p now.functional)
-        (reduced-vector K h n (take i ps) u (All-take (IsPivot K n) i ps all) (to_vector K n u hu)) is_less
+        (remainder-vector K h n (take i ps) u (All-take (IsPivot K n) i ps all) (to_vector K n u hu)) is_less
         ∙ ap (dot K p)
-        (sym (reduced-push K h (take i ps) q u)
-        ∙ ap (λ t. reduced K (take i ps ++ t ∷ []) u) is
-        ∙ ap (λ t. reduced K t u) (sym (take_more ps i q l)))
+        (sym (remainder-push K h (take i ps) q u)
+        ∙ ap (λ t. remainder K (take i ps ++ t ∷ []) u) is
+        ∙ ap (λ t. remainder K t u) (sym (take_more ps i q l)))
         ∙ now.gives u hu;
     elsewhere = λ j other none.
         get_or-set_other p q.place j (K.add (get_or p q.place 0) less) 0
@@ -180,10 +180,10 @@ module _ (K : Ops) (h : IsField K) where
 
   pub pulling-end : (n : ℕ) (ps : List Pivot) (place k i : ℕ) (p : List ℕ) → i ≡ 0 → Pulling K n ps place k i p
       → PullsBack K n ps place k p
-  unfolding reduced
+  unfolding remainder
   pulling-end n ps place k i p e now = record {
     functional = now.functional;
-    gives = λ u hu. ap (λ t. dot K p (reduced K (take t ps) u)) (sym e) ∙ now.gives u hu;
+    gives = λ u hu. ap (λ t. dot K p (remainder K (take t ps) u)) (sym e) ∙ now.gives u hu;
     elsewhere = now.elsewhere;
   }
 
@@ -237,7 +237,7 @@ module _ (K : Ops) (h : IsField K) where
       (sym (combination-take K n k q.parts.items (rows ps) (omega arith))
       ∙ ap (combination K n q.parts.items) (take-map (λ (p : Pivot). p.row.items) k ps))
       ∙ ap₂ (λ a b. plus K a (combination K n b (rows (take k ps)))) from.row_is from.parts_are
-      ∙ reduced-parts K h n (take k ps) w (All-take (IsPivot K n) k ps fit)
+      ∙ remainder-parts K h n (take k ps) w (All-take (IsPivot K n) k ps fit)
       (row-vector K (length vectors) n vectors q.source hv from.source)
 
   exchange : (n : ℕ) (C P R S : List ℕ) → Vector K n P → Vector K n R → Vector K n S
@@ -319,7 +319,7 @@ module _ (K : Ops) (h : IsField K) where
 
   -- one more vector, which the pivots reduce to zero
   pub eliminates-zero : (n : ℕ) (vectors : List (List ℕ)) (j : ℕ) (ps : List Pivot) → Eliminates K n vectors j ps
-      → reduced K ps (get_or vectors j []) ≡ zeros n → Eliminates K n vectors (j + 1) ps
+      → remainder K ps (get_or vectors j []) ≡ zeros n → Eliminates K n vectors (j + 1) ps
   eliminates-zero n vectors j ps all e = record {
     fit = all.fit;
     come_from = all.come_from;
@@ -333,8 +333,8 @@ module _ (K : Ops) (h : IsField K) where
       → IsPivot K n q → ComesFrom K vectors ps q → IsDependent K n vectors q.source → ⊥
   source-not_earlier n vectors ps q hv all fit from earlier =
       let none : q.row.items ≡ zeros n =
-      from.row_is ∙ ap (reduced K ps) (sym earlier.is)
-      ∙ reduced-combination K h (length vectors) n q.source ps earlier.by vectors all.fit hv all.zero
+      from.row_is ∙ ap (remainder K ps) (sym earlier.is)
+      ∙ remainder-combination K h (length vectors) n q.source ps earlier.by vectors all.fit hv all.zero
       (omega (arith, from.source)) in
       fit.not_zero (ap (λ t. get_or t q.place 0) none ∙ zeros-at K h n q.place)
 
@@ -361,9 +361,9 @@ module _ (K : Ops) (h : IsField K) where
     not_earlier = one-more (λ before p. IsDependent K n vectors p.source → ⊥) ps q all.not_earlier
         (source-not_earlier n vectors ps q hv all fit from);
     zero = below_more _ _
-        (λ j l. reduced-push K h ps q (get_or vectors j []) ∙ ap (pivot_remainder K q) (all.zero j l)
+        (λ j l. remainder-push K h ps q (get_or vectors j []) ∙ ap (pivot_remainder K q) (all.zero j l)
         ∙ cleared-zeros K h n q fit)
-        (reduced-push K h ps q (get_or vectors q.source []) ∙ ap (pivot_remainder K q) (sym from.row_is)
+        (remainder-push K h ps q (get_or vectors q.source []) ∙ ap (pivot_remainder K q) (sym from.row_is)
         ∙ cleared-row K h n q fit);
   }
 
@@ -383,7 +383,7 @@ module _ (K : Ops) (h : IsField K) where
       let w : List ℕ = get_or vectors q.source [] in
       let last : Given K h by i q.row.items =
       subst (Given K h by i) (sym from.row_is)
-      (given-reduced K h n i by (take k all_ps) w l (All-take (IsPivot K n) k all_ps all.fit) before
+      (given-remainder K h n i by (take k all_ps) w l (All-take (IsPivot K n) k all_ps all.fit) before
       (row-vector K (length vectors) n vectors q.source hv from.source)
       (record { is = All-get_or (λ v. dot K by (take i v) ≡ get_or v i 0) vectors q.source [] from.source given })) in
       subst (All (λ p. Given K h by i p.row.items)) (sym (take_more all_ps k p (omega arith))
@@ -393,17 +393,17 @@ module _ (K : Ops) (h : IsField K) where
   -- a functional that is pulled back leaves out coordinates that earlier ones give
   pub pulls_back-leading : (n : ℕ) (columns : List (List ℕ)) (count : ℕ) (ps : List Pivot) (v p : List ℕ)
       (place k i : ℕ) → Matrix K (length columns) n columns → Vector K n v
-      → Eliminates K n columns count ps → take place (reduced K ps v) ≡ zeros place → get_or (reduced K ps v) place 0
+      → Eliminates K n columns count ps → take place (remainder K ps v) ≡ zeros place → get_or (remainder K ps v) place 0
       ≢ 0 → PullsBack K n ps place k p
       → i < n → IsDependentCoordinate K columns v i → get_or p i 0 ≡ 0
   pulls_back-leading n columns count ps v p place k i hc hv all first not_zero pulls l earlier =
       let rows_given : All (λ q. Given K h earlier.by i q.row.items) ps =
       subst (All (λ q. Given K h earlier.by i q.row.items)) (take_all (length ps) ps (omega arith))
       (rows-given n i earlier.by columns count ps l hc all earlier.of_columns (length ps) (omega arith)) in
-      let rest_given : Given K h earlier.by i (reduced K ps v) =
-      given-reduced K h n i earlier.by ps v l all.fit rows_given hv (record { is = earlier.of_v }) in
+      let rest_given : Given K h earlier.by i (remainder K ps v) =
+      given-remainder K h n i earlier.by ps v l all.fit rows_given hv (record { is = earlier.of_v }) in
       pulls.elsewhere i
-      (λ e. given-not_first K h i place earlier.by (reduced K ps v) first not_zero rest_given (sym e))
+      (λ e. given-not_first K h i place earlier.by (remainder K ps v) first not_zero rest_given (sym e))
       (λ j d low.
       let q : Pivot = get_or ps j d in
       let fit : IsPivot K n q = All-get_or (IsPivot K n) ps j d low all.fit in

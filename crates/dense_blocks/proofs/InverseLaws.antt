@@ -10,7 +10,7 @@ use Rattle.dense_blocks.specs.FieldLaws.{IsField}
 use Rattle.dense_blocks.specs.Vectors.{zeros, plus, negative, dot}
 use Rattle.dense_blocks.specs.Matrices.{image_of, product}
 use Rattle.dense_blocks.specs.MatrixFacts.{identity, IsInverse}
-use Rattle.dense_blocks.specs.Columns.{Annihilate, unit, StartUnits, HasUnitColumns, HasNoPivot, beside, undoing}
+use Rattle.dense_blocks.specs.Columns.{Annihilate, unit, StartUnits, HasUnitColumns, HasNoPivot, beside, kernel_vector}
 use Rattle.dense_blocks.specs.Inverses.{InKernel}
 use Rattle.dense_blocks.proofs.ScalarLaws.{zero_below, one_below, zero_add, zero_mul, one_mul, neg_add}
 use Rattle.dense_blocks.proofs.Shapes.{Vector, Matrix, to_vector, from_vector, vector_of, vector-size, vector-scalars}
@@ -303,7 +303,7 @@ module _ (K : Ops) (h : IsField K) where
           none
           ∙ h.add_zero 0 (zero_below K h)
 
-      pub stuck-kernel : InKernel K n A (undoing K n j M)
+      pub stuck-kernel : InKernel K n A (kernel_vector K n j M)
       unfolding above
       stuck-kernel =
           let v : List ℕ = above ++ 1 ∷ zeros (n - 1 - j) in

@@ -12,7 +12,7 @@ use Rattle.dense_blocks.specs.Matrices.{cut}
 use Rattle.dense_blocks.specs.MatrixFacts.{identity, IsInverse}
 use Rattle.dense_blocks.specs.Blocks.{matrix_of}
 use Rattle.dense_blocks.specs.BlockFacts.{IsBlock}
-use Rattle.dense_blocks.specs.Columns.{beside, undoing, HasUnitColumns, HasNoPivot}
+use Rattle.dense_blocks.specs.Columns.{beside, kernel_vector, HasUnitColumns, HasNoPivot}
 use Rattle.dense_blocks.specs.Inverses.{IsInverseBlock, InKernel}
 use Rattle.dense_blocks.specs.declared.block.Block.{Block}
 use Rattle.dense_blocks.proofs.ScalarLaws.{one_below, zero_mul}
@@ -111,11 +111,11 @@ half-next n i rows xs more l now is_more =
     ∙ sym (first_rows-next i (map (drop n) M) (omega (arith, in_M, length-map M (drop {A = ℕ} n))))
 
 -- one more entry of the vector in the kernel
-pub undoing-next : (K : Ops) (n j i : ℕ) (rows v more : List ℕ) (x : ℕ) → i < n → j < 2 * n
+pub kernel_vector-next : (K : Ops) (n j i : ℕ) (rows v more : List ℕ) (x : ℕ) → i < n → j < 2 * n
     → v ≡ map (λ row. K.neg (get_or row j 0)) (take i (cut n (2 * n) rows))
     → x ≡ K.neg (get_or rows (i * (2 * n) + j) 0) → more ≡ v ++ x ∷ []
     → more ≡ map (λ row. K.neg (get_or row j 0)) (take (i + 1) (cut n (2 * n) rows))
-undoing-next K n j i rows v more x li lj now is_x is_more =
+kernel_vector-next K n j i rows v more x li lj now is_x is_more =
     is_more
     ∙ ap₂ (λ t y. t ++ y ∷ []) now (is_x ∙ ap K.neg (sym (cut-at n (2 * n) i j rows li lj)))
     ∙ sym (map_more (λ row. K.neg (get_or row j 0)) (cut n (2 * n) rows) i []
@@ -156,12 +156,12 @@ module _ (K : Ops) (h : IsField K) (a : Block) (square : a.rows ≡ a.cols) (sca
   pub block-kernel : (j : ℕ) (start rows shown v : List ℕ) → cut a.rows (2 * a.rows) start ≡ beside (matrix_of a)
       (identity a.rows)
       → HasNoPivot K a.rows j (cut a.rows (2 * a.rows) start) (cut a.rows (2 * a.rows) rows) → shown ≡ rows
-      → v ≡ undoing K a.rows j (cut a.rows (2 * a.rows) shown)
+      → v ≡ kernel_vector K a.rows j (cut a.rows (2 * a.rows) shown)
       → InKernel K a.rows (matrix_of a) v × ((B : List (List ℕ)) → IsInverse K a.rows (matrix_of a) B → ⊥)
   block-kernel j start rows shown v is stuck is_shown is_v =
       let n : ℕ = a.rows in
       let kernel : InKernel K n (matrix_of a) v =
-      subst (InKernel K n (matrix_of a)) (sym (is_v ∙ ap (λ t. undoing K n j (cut n (2 * n) t)) is_shown))
+      subst (InKernel K n (matrix_of a)) (sym (is_v ∙ ap (λ t. kernel_vector K n j (cut n (2 * n) t)) is_shown))
       (stuck-kernel K h n (matrix_of a) own j (cut n (2 * n) rows)
       (subst (λ J. HasNoPivot K n j J (cut n (2 * n) rows)) is stuck)) in
       (kernel, λ B inverse. kernel-no_inverse K h n (matrix_of a) own v B kernel inverse)

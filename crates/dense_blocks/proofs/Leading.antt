@@ -6,7 +6,7 @@ use Rattle.std.proofs.lemmas.List.Elements.{All-head, All-tail}
 use Rattle.dense_blocks.specs.Field.{Ops}
 use Rattle.dense_blocks.specs.FieldLaws.{IsField}
 use Rattle.dense_blocks.specs.Vectors.{zeros, plus, multiple, dot, combination}
-use Rattle.dense_blocks.specs.Elimination.{IsPivot, pivot_multiple, pivot_remainder, reduced}
+use Rattle.dense_blocks.specs.Elimination.{IsPivot, pivot_multiple, pivot_remainder, remainder}
 use Rattle.dense_blocks.specs.declared.solution.Pivot.{Pivot}
 use Rattle.dense_blocks.proofs.ScalarLaws.{add_mul, neg_of_sum, mul_neg}
 use Rattle.dense_blocks.proofs.Shapes.{Vector, Matrix, to_vector, vector-size}
@@ -70,48 +70,48 @@ module _ (K : Ops) (h : IsField K) where
       ∙ multiple-mul K h k (K.neg (pivot_multiple K p u)) row)
       ∙ sym (multiple-plus K h k u (multiple K (K.neg (pivot_multiple K p u)) row))
 
-  reduced-plus : (n : ℕ) (ps : List Pivot) (u v : List ℕ) → All (IsPivot K n) ps → Vector K n u → Vector K n v
-      → reduced K ps (plus K u v) ≡ plus K (reduced K ps u) (reduced K ps v)
-  unfolding reduced
-  reduced-plus n [] u v fit hu hv = refl
-  reduced-plus n (p ∷ ps) u v fit hu hv =
+  remainder-plus : (n : ℕ) (ps : List Pivot) (u v : List ℕ) → All (IsPivot K n) ps → Vector K n u → Vector K n v
+      → remainder K ps (plus K u v) ≡ plus K (remainder K ps u) (remainder K ps v)
+  unfolding remainder
+  remainder-plus n [] u v fit hu hv = refl
+  remainder-plus n (p ∷ ps) u v fit hu hv =
       let first : IsPivot K n p = All-head (IsPivot K n) p ps fit in
-      ap (reduced K ps) (cleared-plus n p u v first hu hv)
-      ∙ reduced-plus n ps (pivot_remainder K p u) (pivot_remainder K p v) (All-tail (IsPivot K n) p ps fit)
+      ap (remainder K ps) (cleared-plus n p u v first hu hv)
+      ∙ remainder-plus n ps (pivot_remainder K p u) (pivot_remainder K p v) (All-tail (IsPivot K n) p ps fit)
       (cleared-vector K h n p u first hu) (cleared-vector K h n p v first hv)
 
-  reduced-multiple : (n k : ℕ) (ps : List Pivot) (u : List ℕ) → All (IsPivot K n) ps → Vector K n u
-      → reduced K ps (multiple K k u) ≡ multiple K k (reduced K ps u)
-  unfolding reduced
-  reduced-multiple n k [] u fit hu = refl
-  reduced-multiple n k (p ∷ ps) u fit hu =
+  remainder-multiple : (n k : ℕ) (ps : List Pivot) (u : List ℕ) → All (IsPivot K n) ps → Vector K n u
+      → remainder K ps (multiple K k u) ≡ multiple K k (remainder K ps u)
+  unfolding remainder
+  remainder-multiple n k [] u fit hu = refl
+  remainder-multiple n k (p ∷ ps) u fit hu =
       let first : IsPivot K n p = All-head (IsPivot K n) p ps fit in
-      ap (reduced K ps) (cleared-multiple n k p u first hu)
-      ∙ reduced-multiple n k ps (pivot_remainder K p u) (All-tail (IsPivot K n) p ps fit)
+      ap (remainder K ps) (cleared-multiple n k p u first hu)
+      ∙ remainder-multiple n k ps (pivot_remainder K p u) (All-tail (IsPivot K n) p ps fit)
       (cleared-vector K h n p u first hu)
 
-  reduced-zeros : (n : ℕ) (ps : List Pivot) → All (IsPivot K n) ps → reduced K ps (zeros n) ≡ zeros n
-  unfolding reduced
-  reduced-zeros n [] fit = refl
-  reduced-zeros n (p ∷ ps) fit =
-      ap (reduced K ps) (cleared-zeros K h n p (All-head (IsPivot K n) p ps fit))
-      ∙ reduced-zeros n ps (All-tail (IsPivot K n) p ps fit)
+  remainder-zeros : (n : ℕ) (ps : List Pivot) → All (IsPivot K n) ps → remainder K ps (zeros n) ≡ zeros n
+  unfolding remainder
+  remainder-zeros n [] fit = refl
+  remainder-zeros n (p ∷ ps) fit =
+      ap (remainder K ps) (cleared-zeros K h n p (All-head (IsPivot K n) p ps fit))
+      ∙ remainder-zeros n ps (All-tail (IsPivot K n) p ps fit)
 
   -- a combination of vectors that are reduced to zero is reduced to zero
-  pub reduced-combination : (m n k : ℕ) (ps : List Pivot) (by : List ℕ) (vs : List (List ℕ)) → All (IsPivot K n) ps
+  pub remainder-combination : (m n k : ℕ) (ps : List Pivot) (by : List ℕ) (vs : List (List ℕ)) → All (IsPivot K n) ps
       → Matrix K m n vs
-      → ((j : ℕ) → j < k → reduced K ps (get_or vs j []) ≡ zeros n) → k ≤ m
-      → reduced K ps (combination K n by (take k vs)) ≡ zeros n
-  reduced-combination m n k ps [] vs fit hv z l = reduced-zeros n ps fit
-  reduced-combination m n zero ps (c ∷ by) vs fit hv z l = reduced-zeros n ps fit
-  reduced-combination m n (suc k) ps (c ∷ by) [] fit hv z l = reduced-zeros n ps fit
-  reduced-combination zero n (suc k) ps (c ∷ by) (v ∷ vs) fit hv z l = absurd hv
-  reduced-combination (suc m) n (suc k) ps (c ∷ by) (v ∷ vs) fit hv z l =
-      reduced-plus n ps (multiple K c v) (combination K n by (take k vs)) fit (multiple-vector K h n c v hv.0)
+      → ((j : ℕ) → j < k → remainder K ps (get_or vs j []) ≡ zeros n) → k ≤ m
+      → remainder K ps (combination K n by (take k vs)) ≡ zeros n
+  remainder-combination m n k ps [] vs fit hv z l = remainder-zeros n ps fit
+  remainder-combination m n zero ps (c ∷ by) vs fit hv z l = remainder-zeros n ps fit
+  remainder-combination m n (suc k) ps (c ∷ by) [] fit hv z l = remainder-zeros n ps fit
+  remainder-combination zero n (suc k) ps (c ∷ by) (v ∷ vs) fit hv z l = absurd hv
+  remainder-combination (suc m) n (suc k) ps (c ∷ by) (v ∷ vs) fit hv z l =
+      remainder-plus n ps (multiple K c v) (combination K n by (take k vs)) fit (multiple-vector K h n c v hv.0)
       (combination-vector K h k n by (take k vs) (take-matrix m n k vs hv.1 (omega arith)))
       ∙ ap₂ (plus K)
-      (reduced-multiple n c ps v fit hv.0 ∙ ap (multiple K c) (z 0 (omega arith)) ∙ multiple-zeros K h c n)
-      (reduced-combination m n k ps by vs fit hv.1 (λ j low. z (suc j) (omega arith)) (omega arith))
+      (remainder-multiple n c ps v fit hv.0 ∙ ap (multiple K c) (z 0 (omega arith)) ∙ multiple-zeros K h c n)
+      (remainder-combination m n k ps by vs fit hv.1 (λ j low. z (suc j) (omega arith)) (omega arith))
       ∙ zeros-plus-zeros K h n
     where
       take-matrix : (m' n' k' : ℕ) (ws : List (List ℕ)) → Matrix K m' n' ws → k' ≤ m' → Matrix K k' n' (take k' ws)
@@ -142,17 +142,17 @@ module _ (K : Ops) (h : IsField K) where
         ∙ multiple-at K k i u (omega (arith, vector-size K n u hu));
   }
 
-  pub given-reduced : (n i : ℕ) (by : List ℕ) (ps : List Pivot) (u : List ℕ) → i < n → All (IsPivot K n) ps
+  pub given-remainder : (n i : ℕ) (by : List ℕ) (ps : List Pivot) (u : List ℕ) → i < n → All (IsPivot K n) ps
       → All (λ p. Given by i p.row.items) ps → Vector K n u
-      → Given by i u → Given by i (reduced K ps u)
-  unfolding reduced
-  given-reduced n i by [] u l fit rows hu gu = gu
-  given-reduced n i by (p ∷ ps) u l fit rows hu gu =
+      → Given by i u → Given by i (remainder K ps u)
+  unfolding remainder
+  given-remainder n i by [] u l fit rows hu gu = gu
+  given-remainder n i by (p ∷ ps) u l fit rows hu gu =
       let first : IsPivot K n p = All-head (IsPivot K n) p ps fit in
       let row : List ℕ = p.row.items in
       let k : ℕ = K.neg (pivot_multiple K p u) in
       let row_vector : Vector K n row = to_vector K n row first.row in
-      given-reduced n i by ps (pivot_remainder K p u) l (All-tail (IsPivot K n) p ps fit)
+      given-remainder n i by ps (pivot_remainder K p u) l (All-tail (IsPivot K n) p ps fit)
       (All-tail (λ q. Given by i q.row.items) p ps rows) (cleared-vector K h n p u first hu)
       (given-plus n i by u (multiple K k row) l hu (multiple-vector K h n k row row_vector) gu
       (given-multiple n i k by row l row_vector (All-head (λ q. Given by i q.row.items) p ps rows)))

@@ -5,7 +5,7 @@ use Rattle.std.proofs.lemmas.List.Elements.{All-head, All-tail, All-get_or}
 use Rattle.dense_blocks.specs.Field.{Ops}
 use Rattle.dense_blocks.specs.FieldLaws.{IsField}
 use Rattle.dense_blocks.specs.Vectors.{zeros, plus, negative, multiple, dot, combination}
-use Rattle.dense_blocks.specs.Elimination.{IsPivot, rows, pivot_multiple, pivot_remainder, reduced, parts}
+use Rattle.dense_blocks.specs.Elimination.{IsPivot, rows, pivot_multiple, pivot_remainder, remainder, parts}
 use Rattle.dense_blocks.specs.declared.solution.Pivot.{Pivot}
 use Rattle.dense_blocks.proofs.ScalarLaws.{neg_zero, zero_mul, add_mul}
 use Rattle.dense_blocks.proofs.Shapes.{Vector, Matrix, to_vector}
@@ -29,12 +29,12 @@ module _ (K : Ops) (h : IsField K) where
       plus-vector K h n u (multiple K (K.neg (pivot_multiple K p u)) p.row.items) hu
       (multiple-vector K h n (K.neg (pivot_multiple K p u)) p.row.items (to_vector K n p.row.items fit.row))
 
-  pub reduced-vector : (n : ℕ) (ps : List Pivot) (u : List ℕ) → All (IsPivot K n) ps → Vector K n u
-      → Vector K n (reduced K ps u)
-  unfolding reduced
-  reduced-vector n [] u fit hu = hu
-  reduced-vector n (p ∷ ps) u fit hu =
-      reduced-vector n ps (pivot_remainder K p u) (All-tail (IsPivot K n) p ps fit)
+  pub remainder-vector : (n : ℕ) (ps : List Pivot) (u : List ℕ) → All (IsPivot K n) ps → Vector K n u
+      → Vector K n (remainder K ps u)
+  unfolding remainder
+  remainder-vector n [] u fit hu = hu
+  remainder-vector n (p ∷ ps) u fit hu =
+      remainder-vector n ps (pivot_remainder K p u) (All-tail (IsPivot K n) p ps fit)
       (cleared-vector n p u (All-head (IsPivot K n) p ps fit) hu)
 
   pub parts-vector : (ps : List Pivot) (u : List ℕ) → Vector K (length ps) (parts K ps u)
@@ -42,26 +42,26 @@ module _ (K : Ops) (h : IsField K) where
   parts-vector [] u = tt
   parts-vector (p ∷ ps) u = (h.mul_below (get_or u p.place 0) p.inverse, parts-vector ps (pivot_remainder K p u))
 
-  pub reduced-push : (ps : List Pivot) (q : Pivot) (u : List ℕ) → reduced K (ps ++ q ∷ []) u ≡ pivot_remainder K q
-      (reduced K ps u)
-  unfolding reduced
-  reduced-push [] q u = refl
-  reduced-push (p ∷ ps) q u = reduced-push ps q (pivot_remainder K p u)
+  pub remainder-push : (ps : List Pivot) (q : Pivot) (u : List ℕ) → remainder K (ps ++ q ∷ []) u ≡ pivot_remainder K q
+      (remainder K ps u)
+  unfolding remainder
+  remainder-push [] q u = refl
+  remainder-push (p ∷ ps) q u = remainder-push ps q (pivot_remainder K p u)
 
   -- what was taken off and what is left make the vector
-  pub reduced-parts : (n : ℕ) (ps : List Pivot) (u : List ℕ) → All (IsPivot K n) ps → Vector K n u
-      → plus K (reduced K ps u) (combination K n (parts K ps u) (rows ps)) ≡ u
-  unfolding reduced parts
-  reduced-parts n [] u fit hu = plus-zeros K h n u hu
-  reduced-parts n (p ∷ ps) u fit hu =
+  pub remainder-parts : (n : ℕ) (ps : List Pivot) (u : List ℕ) → All (IsPivot K n) ps → Vector K n u
+      → plus K (remainder K ps u) (combination K n (parts K ps u) (rows ps)) ≡ u
+  unfolding remainder parts
+  remainder-parts n [] u fit hu = plus-zeros K h n u hu
+  remainder-parts n (p ∷ ps) u fit hu =
       let first : IsPivot K n p = All-head (IsPivot K n) p ps fit in
       let row : List ℕ = p.row.items in
       let k : ℕ = pivot_multiple K p u in
       let taken : List ℕ = multiple K k row in
       let left : List ℕ = pivot_remainder K p u in
       let taken_vector : Vector K n taken = multiple-vector K h n k row (to_vector K n row first.row) in
-      plus-left-comm K h (reduced K ps left) taken (combination K n (parts K ps left) (rows ps))
-      ∙ ap (plus K taken) (reduced-parts n ps left (All-tail (IsPivot K n) p ps fit) (cleared-vector n p u first hu))
+      plus-left-comm K h (remainder K ps left) taken (combination K n (parts K ps left) (rows ps))
+      ∙ ap (plus K taken) (remainder-parts n ps left (All-tail (IsPivot K n) p ps fit) (cleared-vector n p u first hu))
       ∙ ap (λ t. plus K taken (plus K u t)) (multiple-neg K h k row)
       ∙ plus-left-comm K h taken u (negative K taken)
       ∙ ap (plus K u) (plus-negative K h n taken taken_vector)

@@ -7,14 +7,14 @@ use Rattle.dense_blocks.specs.Field.{Ops}
 use Rattle.dense_blocks.specs.FieldLaws.{IsField}
 use Rattle.dense_blocks.specs.Vectors.{IsVector, zeros, plus, multiple, dot, combination}
 use Rattle.dense_blocks.specs.MatrixFacts.{IsMatrix}
-use Rattle.dense_blocks.specs.Elimination.{IsPivot, rows, reduced, parts, PullsBack, Eliminates}
+use Rattle.dense_blocks.specs.Elimination.{IsPivot, rows, remainder, parts, PullsBack, Eliminates}
 use Rattle.dense_blocks.specs.Solutions.{lists, Separates}
 use Rattle.dense_blocks.specs.declared.solution.Pivot.{Pivot}
 use Rattle.dense_blocks.proofs.ScalarLaws.{zero_below, zero_add, mul_zero, inv_mul}
 use Rattle.dense_blocks.proofs.Shapes.{Vector, Matrix, to_vector, matrix_of_rows, vector-size, vector-scalars}
 use Rattle.dense_blocks.proofs.VectorLaws.{zeros-plus, multiple-vector, combination-vector, dot-zeros, dot-plus}
 use Rattle.dense_blocks.proofs.VectorLaws.{dot-multiple}
-use Rattle.dense_blocks.proofs.Reductions.{reduced-parts, reduced-vector, zeros-at}
+use Rattle.dense_blocks.proofs.Reductions.{remainder-parts, remainder-vector, zeros-at}
 use Rattle.dense_blocks.proofs.EliminationSteps.{rows-matrix, pulls_back-leading}
 
 -- lists of one length, of scalars each, are the rows of a matrix
@@ -36,15 +36,15 @@ lists_matrix K n vs sizes scalars = record { size = length-map vs (λ v. v.items
 
 module _ (K : Ops) (h : IsField K) where
   -- a vector that is reduced to zero is the combination of its parts
-  pub reduced-none : (n : ℕ) (ps : List Pivot) (v : List ℕ) → All (IsPivot K n) ps → IsVector K n v
-      → reduced K ps v ≡ zeros n
+  pub remainder-none : (n : ℕ) (ps : List Pivot) (v : List ℕ) → All (IsPivot K n) ps → IsVector K n v
+      → remainder K ps v ≡ zeros n
       → combination K n (parts K ps v) (rows ps) ≡ v
-  reduced-none n ps v fit hv e =
+  remainder-none n ps v fit hv e =
       let taken : List ℕ = combination K n (parts K ps v) (rows ps) in
       sym (zeros-plus K h n taken (combination-vector K h (length ps) n (parts K ps v) (rows ps)
       (rows-matrix K h n ps fit)))
       ∙ ap (λ t. plus K t taken) (sym e)
-      ∙ reduced-parts K h n ps v fit (to_vector K n v hv)
+      ∙ remainder-parts K h n ps v fit (to_vector K n v hv)
 
   -- a functional that is 0 on the vectors is 0 on their combinations
   dot-combination-zero : (m n : ℕ) (p c : List ℕ) (vs : List (List ℕ)) → Matrix K m n vs → All (λ v. dot K p v ≡ 0) vs
@@ -71,21 +71,21 @@ module _ (K : Ops) (h : IsField K) where
   -- a functional that reads the first coordinate after reduction separates
   pub pulls_back-separates : (n : ℕ) (columns : List (List ℕ)) (ps : List Pivot) (v p : List ℕ) (place k : ℕ)
       → length v ≡ n → IsVector K n v → All (IsVector K n) columns
-      → Eliminates K n columns (length columns) ps → place < n → take place (reduced K ps v) ≡ zeros place
-      → get_or (reduced K ps v) place 0 ≢ 0
-      → k ≡ K.inv (get_or (reduced K ps v) place 0) → PullsBack K n ps place k p → Separates K columns v p
+      → Eliminates K n columns (length columns) ps → place < n → take place (remainder K ps v) ≡ zeros place
+      → get_or (remainder K ps v) place 0 ≢ 0
+      → k ≡ K.inv (get_or (remainder K ps v) place 0) → PullsBack K n ps place k p → Separates K columns v p
   pulls_back-separates n columns ps v p place k size hv hc all inside first not_zero is_k pulls =
-      let at : ℕ = get_or (reduced K ps v) place 0 in
+      let at : ℕ = get_or (remainder K ps v) place 0 in
       let vector : Vector K n v = to_vector K n v hv in
-      let rest : Vector K n (reduced K ps v) = reduced-vector K h n ps v all.fit vector in
+      let rest : Vector K n (remainder K ps v) = remainder-vector K h n ps v all.fit vector in
       let low : at < K.order =
-      All-get_or (λ a. a < K.order) (reduced K ps v) place 0 (omega (arith, vector-size K n (reduced K ps v) rest))
-      (vector-scalars K n (reduced K ps v) rest) in
+      All-get_or (λ a. a < K.order) (remainder K ps v) place 0 (omega (arith, vector-size K n (remainder K ps v) rest))
+      (vector-scalars K n (remainder K ps v) rest) in
       record {
         functional = subst (λ t. IsVector K t p) (sym size) pulls.functional;
         zero = λ j d l.
             pulls.gives (get_or columns j d) (hc j d l)
-            ∙ ap (λ t. K.mul k (get_or (reduced K ps t) place 0)) (get_or_default columns j d [] l)
+            ∙ ap (λ t. K.mul k (get_or (remainder K ps t) place 0)) (get_or_default columns j d [] l)
             ∙ ap (λ t. K.mul k (get_or t place 0)) (all.zero j l)
             ∙ ap (K.mul k) (zeros-at K h n place)
             ∙ mul_zero K h k;

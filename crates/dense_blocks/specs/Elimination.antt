@@ -26,10 +26,10 @@ pivot_multiple K p u = K.mul (slice_index u p.place) p.inverse
 abbrev pub pivot_remainder : Ops → Pivot → List ℕ → List ℕ
 pivot_remainder K p u = plus K u (multiple K (K.neg (pivot_multiple K p u)) p.row.items)
 
--- u reduced by each pivot in turn
-unfoldable pub reduced : Ops → List Pivot → List ℕ → List ℕ
-reduced K [] u = u
-reduced K (p ∷ ps) u = reduced K ps (pivot_remainder K p u)
+-- what is left of u once each pivot in turn has taken its multiple off
+unfoldable pub remainder : Ops → List Pivot → List ℕ → List ℕ
+remainder K [] u = u
+remainder K (p ∷ ps) u = remainder K ps (pivot_remainder K p u)
 
 -- how many times its row each pivot takes off in turn
 unfoldable pub parts : Ops → List Pivot → List ℕ → List ℕ
@@ -39,7 +39,7 @@ parts K (p ∷ ps) u = pivot_multiple K p u ∷ parts K ps (pivot_remainder K p 
 -- the pivot is one of the vectors, reduced by the pivots before it
 pub record ComesFrom (K : Ops) (vectors : List (List ℕ)) (before : List Pivot) (p : Pivot) : Type 0 where
   pub source : p.source < length vectors
-  pub row_is : p.row.items ≡ reduced K before (slice_index_or vectors p.source [])
+  pub row_is : p.row.items ≡ remainder K before (slice_index_or vectors p.source [])
   pub parts_are : p.parts.items ≡ parts K before (slice_index_or vectors p.source [])
 
 -- pivots that come from the vectors which earlier ones do not give, and reduce the first so many vectors to zero
@@ -47,12 +47,12 @@ pub record Eliminates (K : Ops) (n : ℕ) (vectors : List (List ℕ)) (count : �
   pub fit : All (IsPivot K n) ps
   pub come_from : (k : ℕ) (d : Pivot) → k < length ps → ComesFrom K vectors (take k ps) (slice_index_or ps k d)
   pub not_earlier : (k : ℕ) (d : Pivot) → k < length ps → IsDependent K n vectors (slice_index_or ps k d).source → ⊥
-  pub zero : (j : ℕ) → j < count → reduced K ps (slice_index_or vectors j []) ≡ zeros n
+  pub zero : (j : ℕ) → j < count → remainder K ps (slice_index_or vectors j []) ≡ zeros n
 
 -- the functional p gives k times one coordinate of each vector once that is reduced; other coordinates it reads only at
 -- places of pivots
 pub record PullsBack (K : Ops) (n : ℕ) (ps : List Pivot) (place k : ℕ) (p : List ℕ) : Type 0 where
   pub functional : IsVector K n p
-  pub gives : (u : List ℕ) → IsVector K n u → dot K p u ≡ K.mul k (slice_index (reduced K ps u) place)
+  pub gives : (u : List ℕ) → IsVector K n u → dot K p u ≡ K.mul k (slice_index (remainder K ps u) place)
   pub elsewhere : (i : ℕ) → i ≢ place → ((j : ℕ) (d : Pivot) → j < length ps → (slice_index_or ps j d).place ≢ i)
       → slice_index p i ≡ 0

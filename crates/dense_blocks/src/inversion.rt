@@ -4,7 +4,7 @@ ghost use Rattle.dense_blocks.specs.Matrices.{cut};
 ghost use Rattle.dense_blocks.specs.MatrixFacts.{identity};
 ghost use Rattle.dense_blocks.specs.Blocks.{matrix_of};
 ghost use Rattle.dense_blocks.specs.BlockFacts.{IsBlock};
-ghost use Rattle.dense_blocks.specs.Columns.{beside, undoing};
+ghost use Rattle.dense_blocks.specs.Columns.{beside, kernel_vector};
 ghost use Rattle.dense_blocks.specs.Inverses.{Inverts};
 
 use crate::block::Block;
@@ -108,7 +108,7 @@ fn kernel_vector<F: Scalars>(
     requires column { column < size }
     requires full { length rows.now ≡ size * (2 * size) }
     requires scalars { AllScalars (F.ops f.now) rows.now }
-    ensures { IfOk result (λ v. v.items ≡ undoing (F.ops f.now) size column (cut size (2 * size) rows.now)) }
+    ensures { IfOk result (λ v. v.items ≡ kernel_vector (F.ops f.now) size column (cut size (2 * size) rows.now)) }
 {
     let mut v = Vec::with_capacity(alloc, size)?;
     for i in 0..column {

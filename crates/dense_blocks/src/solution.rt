@@ -2,7 +2,7 @@ ghost use Rattle.std.specs.Prelude.{◌≡◌, ◌≢◌, ◌+◌, ◌<◌, leng
 ghost use Rattle.dense_blocks.specs.Vectors.{AllScalars, IsVector, combination};
 ghost use Rattle.dense_blocks.specs.MatrixFacts.{IsMatrix};
 ghost use Rattle.dense_blocks.specs.Solutions.{Combines, IsLeading, Solves, lists};
-ghost use Rattle.dense_blocks.specs.Elimination.{Eliminates, IsPivot, PullsBack, parts, reduced, rows};
+ghost use Rattle.dense_blocks.specs.Elimination.{Eliminates, IsPivot, PullsBack, parts, remainder, rows};
 
 use crate::rows::{first_nonzero, zeros};
 use crate::scalars::Scalars;
@@ -17,9 +17,9 @@ pub enum Solution {
     Apart(Vec<u8>),
 }
 
-/// A vector, reduced by pivots.
+/// What pivots leave of a vector.
 #[derive(Drop)]
-struct Reduced {
+struct Remainder {
     /// What is left of it.
     row: Vec<u8>,
     /// What was taken off, as coefficients of the rows of the pivots.
@@ -41,17 +41,17 @@ struct Pivot {
 
 impl Pivot {
     /// The pivot that the column at `source` gives.
-    fn of<F: Scalars>(f: &F, source: usize, place: usize, reduced: Reduced) -> Pivot
-        requires place { place < length reduced.row.items }
-        requires not_zero { slice_index reduced.row.items place ≢ 0 }
-        requires scalars { AllScalars (F.ops f.now) reduced.row.items }
+    fn of<F: Scalars>(f: &F, source: usize, place: usize, remainder: Remainder) -> Pivot
+        requires place { place < length remainder.row.items }
+        requires not_zero { slice_index remainder.row.items place ≢ 0 }
+        requires scalars { AllScalars (F.ops f.now) remainder.row.items }
         ensures source { result.source ≡ source }
         ensures place { result.place ≡ place }
-        ensures inverse { result.inverse ≡ (F.ops f.now).inv (slice_index reduced.row.items place) }
-        ensures row { result.row.items ≡ reduced.row.items }
-        ensures parts { result.parts.items ≡ reduced.parts.items }
+        ensures inverse { result.inverse ≡ (F.ops f.now).inv (slice_index remainder.row.items place) }
+        ensures row { result.row.items ≡ remainder.row.items }
+        ensures parts { result.parts.items ≡ remainder.parts.items }
     {
-        let Reduced { row, parts } = reduced;
+        let Remainder { row, parts } = remainder;
         let inverse = f.inv(row[place]);
         Pivot {
             source,
@@ -108,20 +108,20 @@ impl Elimination {
         ensures after { OnOk result
             (Eliminates (F.ops f.now) self.old.size (lists columns.now) (source + 1) self.new.pivots.items) }
     {
-        let reduced = self.reduce(alloc, f, columns[source].as_slice())?;
-        if let Some(place) = first_nonzero(reduced.row.as_slice()) {
-            let pivot = Pivot::of(f, source, place, reduced);
+        let remainder = self.reduce(alloc, f, columns[source].as_slice())?;
+        if let Some(place) = first_nonzero(remainder.row.as_slice()) {
+            let pivot = Pivot::of(f, source, place, remainder);
             self.pivots.push(pivot)?;
         }
         Ok(())
     }
 
     /// The vector, reduced by each pivot in turn.
-    fn reduce<F: Scalars>(&self, alloc: Global, f: &F, vector: &[u8]) -> Result<Reduced, NoMemory>
+    fn reduce<F: Scalars>(&self, alloc: Global, f: &F, vector: &[u8]) -> Result<Remainder, NoMemory>
         requires fit { All (IsPivot (F.ops f.now) self.now.size) self.now.pivots.items }
         requires vector { IsVector (F.ops f.now) self.now.size vector.now }
         ensures vector { IfOk result (λ r. IsVector (F.ops f.now) self.now.size r.row.items) }
-        ensures row { IfOk result (λ r. r.row.items ≡ reduced (F.ops f.now) self.now.pivots.items vector.now) }
+        ensures row { IfOk result (λ r. r.row.items ≡ remainder (F.ops f.now) self.now.pivots.items vector.now) }
         ensures parts { IfOk result (λ r. r.parts.items ≡ parts (F.ops f.now) self.now.pivots.items vector.now) }
     {
         let mut row = Vec::from_slice(alloc, vector)?;
@@ -131,7 +131,7 @@ impl Elimination {
             f.add_scaled(row.as_mut_slice(), f.neg(part), pivot.row.as_slice());
             parts.push(part)?;
         }
-        Ok(Reduced { row, parts })
+        Ok(Remainder { row, parts })
     }
 
     /// The coefficients of the columns in what the parts are of the rows.
@@ -202,7 +202,7 @@ pub fn solve<F: Scalars>(
     ensures { IfOk result (Solves (F.ops f.now) (lists columns.now) v.now) }
 {
     let elimination = Elimination::of(alloc, f, v.len(), columns)?;
-    let Reduced { row, parts } = elimination.reduce(alloc, f, v)?;
+    let Remainder { row, parts } = elimination.reduce(alloc, f, v)?;
     match first_nonzero(row.as_slice()) {
         None => Ok(Solution::Combination(elimination.combination(alloc, f, columns, parts)?)),
         Some(place) => Ok(Solution::Apart(elimination.functional(

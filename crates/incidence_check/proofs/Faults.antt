@@ -1,7 +1,7 @@
 -- Where there is no fault, and what that says.
 use Rattle.std.proofs.Common.{◌≡◌, ℕ, ◌+◌, ◌<◌, Bool, true, false, cond, not, ◌&&◌, ◌||◌, ◌⊎◌, ⊎_elim, inl, inr, nat_eq}
 use Rattle.std.proofs.Common.{List, [], ◌∷◌, ◌++◌, length, slice_index, slice_get, take, get_or, filter, None, Some}
-use Rattle.std.proofs.Common.{All, Result, Ok, Err, IsOk, ◌↔◌, refl, sym, ap, ap₂, ◌∙◌, subst, arith}
+use Rattle.std.proofs.Common.{All, IsTrue, Result, Ok, Err, IsOk, ◌↔◌, refl, sym, ap, ap₂, ◌∙◌, subst, arith}
 use Rattle.std.specs.List.{list_any, filter_map, flat_map}
 use Rattle.std.proofs.lemmas.Bool.{true≢false, cond-false, eq-eqb, eqb-true, and_parts, or_parts, or_cases}
 use Rattle.std.proofs.lemmas.List.Elements.{All-head, filter_passes}
@@ -12,70 +12,72 @@ use Rattle.cell_complex.specs.Complexes.{middles}
 use Rattle.cell_complex.proofs.Callers.{AreIncident, incident_from_face, middles_by_cofaces, list_any-cofaces_of}
 use Rattle.incidence_check.specs.declared.incidence.Incidence.{Incidence}
 use Rattle.incidence_check.specs.declared.incidence.Incidence.TheVariants.{EdgeEnds, Signs}
-use Rattle.incidence_check.specs.Incidences.{are_opposite, are_opposite_pair, sign_product, HasOppositeEnds}
-use Rattle.incidence_check.specs.Incidences.{HasOppositeMiddles, HasRegularIncidences, edge_fault, middles_fault}
-use Rattle.incidence_check.specs.Incidences.{pair_fault, pair_faults, faults}
+use Rattle.incidence_check.specs.Incidences.{are_opposite, are_opposite_pair, sign_product}
+use Rattle.incidence_check.specs.Incidences.{HasRegularIncidences, edge_fault, middles_fault}
+use Rattle.incidence_check.specs.Answers.{HasOppositeMiddles}
+use Rattle.incidence_check.specs.Incidences.{faults}
+use Rattle.incidence_check.specs.Answers.{pair_fault, pair_faults}
 use Rattle.incidence_check.specs.Answers.{AnswersFirst}
 use Rattle.incidence_check.specs.Reach.{reaches}
 use Rattle.incidence_check.proofs.Firsts.{filter_map-none, none_from_filter_map, flat_map-none, none_from_flat_map}
 use Rattle.incidence_check.proofs.Firsts.{none_from_append}
 
 -- the ends of an edge
-ends_from_pair : (c : CellComplex) (t : ℕ) (xs : List ℕ) → faces_of c t ≡ xs → are_opposite_pair (λ s. sign c s t) xs
-    ≡ true → HasOppositeEnds c t
-ends_from_pair c t [] is h = absurd (true≢false (sym h))
-ends_from_pair c t (a ∷ []) is h = absurd (true≢false (sym h))
-ends_from_pair c t (a ∷ b ∷ []) is h = record { first = a; second = b; ends = is; opposite = h }
-ends_from_pair c t (a ∷ b ∷ d ∷ xs) is h = absurd (true≢false (sym h))
-
-edge_from_none : (c : CellComplex) (t : ℕ) → edge_fault c t ≡ None → slice_index c.dims t ≡ 1 → HasOppositeEnds c t
+edge_from_none : (c : CellComplex) (t : ℕ) → edge_fault c t ≡ None → slice_index c.dims t ≡ 1
+    → IsTrue (are_opposite_pair (λ s. sign c s t) (faces_of c t))
 edge_from_none c t h one =
-    ends_from_pair c t (faces_of c t) refl
-    (by (nat_eq (slice_index c.dims t) 1) (are_opposite_pair (λ s. sign c s t) (faces_of c t)) h
-    (eq-eqb (slice_index c.dims t) 1 one))
+    by (nat_eq (slice_index c.dims t) 1) (are_opposite_pair (λ s. sign c s t) (faces_of c t)) h
+    (eq-eqb (slice_index c.dims t) 1 one)
   where
     by : (edge pair : Bool) → cond (edge && not pair) (Some (EdgeEnds t)) None ≡ None → edge ≡ true → pair ≡ true
     by true true h e = refl
     by true false h e = absurd (cc)
     by false pair h e = absurd (true≢false (sym e))
 
-none_from_edge : (c : CellComplex) (t : ℕ) → (slice_index c.dims t ≡ 1 → HasOppositeEnds c t) → edge_fault c t ≡ None
+none_from_edge : (c : CellComplex) (t : ℕ)
+    → (slice_index c.dims t ≡ 1 → IsTrue (are_opposite_pair (λ s. sign c s t) (faces_of c t))) → edge_fault c t ≡ None
 none_from_edge c t h =
     by (nat_eq (slice_index c.dims t) 1) (are_opposite_pair (λ s. sign c s t) (faces_of c t))
-    (λ e. let ends = h (eqb-true (slice_index c.dims t) 1 e) in ap (are_opposite_pair (λ s. sign c s t)) ends.ends
-    ∙ ends.opposite)
+    (λ e. h (eqb-true (slice_index c.dims t) 1 e))
   where
     by : (edge pair : Bool) → (edge ≡ true → pair ≡ true) → cond (edge && not pair) (Some (EdgeEnds t)) None ≡ None
     by true pair h = ap (λ b. cond (not b) (Some (EdgeEnds t)) None) (h refl)
     by false pair h = refl
 
 -- the cells between two cells
-middles_from_none : (c : CellComplex) (s u : ℕ) (xs : List ℕ) → middles c s u ≡ xs
-    → middles_fault s u (λ t. sign_product c s t u) xs ≡ None
-    → (middles c s u ≡ []) ⊎ HasOppositeMiddles c s u
-middles_from_none c s u [] is h = inl is
-middles_from_none c s u (a ∷ []) is h = absurd (cc)
-middles_from_none c s u (a ∷ b ∷ []) is h =
-    inr (record {
-      first = a;
-      second = b;
-      middles = is;
-      opposite =
-          by (are_opposite (sign_product c s a u) (sign_product c s b u)) h;
-    })
+middles_from_none : (c : CellComplex) (s u : ℕ) (xs : List ℕ) → middles_fault c s u xs ≡ None
+    → (xs ≡ []) ⊎ IsTrue (are_opposite_pair (λ t. sign_product c s t u) xs)
+middles_from_none c s u [] h = inl refl
+middles_from_none c s u (a ∷ []) h = absurd (cc)
+middles_from_none c s u (a ∷ b ∷ []) h = inr (by (are_opposite (sign_product c s a u) (sign_product c s b u)) h)
   where
     by : (o : Bool) → cond o None (Some (Signs s u)) ≡ None → o ≡ true
     by true h = refl
     by false h = absurd (cc)
-middles_from_none c s u (a ∷ b ∷ d ∷ xs) is h = absurd (cc)
+middles_from_none c s u (a ∷ b ∷ d ∷ xs) h = absurd (cc)
 
-none_from_middles : (c : CellComplex) (s u : ℕ) → (middles c s u ≡ []) ⊎ HasOppositeMiddles c s u
+none_from_pair : (c : CellComplex) (s u : ℕ) (xs : List ℕ)
+    → IsTrue (are_opposite_pair (λ t. sign_product c s t u) xs) → middles_fault c s u xs ≡ None
+none_from_pair c s u [] h = refl
+none_from_pair c s u (a ∷ []) h = absurd (true≢false (sym h))
+none_from_pair c s u (a ∷ b ∷ []) h = ap (λ o. cond o None (Some (Signs s u))) h
+none_from_pair c s u (a ∷ b ∷ d ∷ xs) h = absurd (true≢false (sym h))
+
+none_from_middles : (c : CellComplex) (s u : ℕ)
+    → (middles c s u ≡ []) ⊎ IsTrue (are_opposite_pair (λ t. sign_product c s t u) (middles c s u))
     → pair_fault c s u ≡ None
 none_from_middles c s u h =
-    ⊎_elim (λ (e : middles c s u ≡ []). ap (middles_fault s u (λ t. sign_product c s t u)) e)
-    (λ (m : HasOppositeMiddles c s u).
-    ap (middles_fault s u (λ t. sign_product c s t u)) m.middles ∙ ap (λ o. cond o None (Some (Signs s u))) m.opposite)
-    h
+    ⊎_elim (λ (e : middles c s u ≡ []). ap (middles_fault c s u) e)
+    (λ (m : IsTrue (are_opposite_pair (λ t. sign_product c s t u) (middles c s u))).
+    none_from_pair c s u (middles c s u) m) h
+
+-- two cells between s and u, where the incidences are regular and there is some
+pub opposite_middles : (c : CellComplex) (s u : ℕ) (xs : List ℕ) → middles c s u ≡ xs
+    → IsTrue (are_opposite_pair (λ t. sign_product c s t u) xs) → HasOppositeMiddles c s u
+opposite_middles c s u [] is h = absurd (true≢false (sym h))
+opposite_middles c s u (a ∷ []) is h = absurd (true≢false (sym h))
+opposite_middles c s u (a ∷ b ∷ []) is h = record { first = a; second = b; middles = is; opposite = h }
+opposite_middles c s u (a ∷ b ∷ d ∷ xs) is h = absurd (true≢false (sym h))
 
 -- a cell between s and u puts u two dimensions above s
 middle_dims : (c : CellComplex) → IsComplex c → (s u : ℕ) (t : ℕ) (ts : List ℕ) → middles c s u ≡ t ∷ ts
@@ -99,7 +101,7 @@ regular_from_none c h =
       edges = λ t l one. edge_from_none c t (none_from_filter_map (edge_fault c) 0 n parts.0 t (omega arith)
           (omega arith)) one;
       squares = λ s u l m two.
-          middles_from_none c s u (middles c s u) refl
+          middles_from_none c s u (middles c s u)
           (none_from_filter_map (pair_fault c s) 0 n (none_from_flat_map (pair_faults c) 0 n parts.1 s (omega arith)
           (omega arith)) u (omega arith) (omega arith));
     }

@@ -1,3 +1,3 @@
 mod Firsts
-mod Faults
+pub mod Faults
 mod Least

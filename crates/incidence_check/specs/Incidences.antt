@@ -24,31 +24,18 @@ times Minus Minus = Plus
 abbrev pub sign_product : CellComplex → ℕ → ℕ → ℕ → Option Sign
 sign_product c s t u = option_and_then (λ a. option_map (times a) (sign c t u)) (sign c s t)
 
--- the cell t has exactly two faces, of opposite sign
-pub record HasOppositeEnds (c : CellComplex) (t : ℕ) : Type 0 where
-  pub first : ℕ
-  pub second : ℕ
-  pub ends : faces_of c t ≡ first ∷ second ∷ []
-  pub opposite : IsTrue (are_opposite (sign c first t) (sign c second t))
-
--- between s and u are exactly two cells, with opposite products of signs
-pub record HasOppositeMiddles (c : CellComplex) (s u : ℕ) : Type 0 where
-  pub first : ℕ
-  pub second : ℕ
-  pub middles : middles c s u ≡ first ∷ second ∷ []
-  pub opposite : IsTrue (are_opposite (sign_product c s first u) (sign_product c s second u))
-
--- each edge has two ends of opposite sign; between two cells two dimensions apart are no cells, or two whose signs
--- cancel
-pub record HasRegularIncidences (c : CellComplex) : Type 0 where
-  pub edges : (t : ℕ) → t < length c.dims → slice_index c.dims t ≡ 1 → HasOppositeEnds c t
-  pub squares : (s u : ℕ) → s < length c.dims → u < length c.dims → slice_index c.dims u ≡ slice_index c.dims s + 2
-      → (middles c s u ≡ []) ⊎ HasOppositeMiddles c s u
-
 -- exactly two cells, with opposite signs
 abbrev pub are_opposite_pair : (ℕ → Option Sign) → List ℕ → Bool
 are_opposite_pair sign_at (a ∷ b ∷ []) = are_opposite (sign_at a) (sign_at b)
 are_opposite_pair sign_at _ = false
+
+-- each edge has exactly two ends, of opposite sign; between two cells two dimensions apart are no cells, or exactly two,
+-- with opposite products of signs
+pub record HasRegularIncidences (c : CellComplex) : Type 0 where
+  pub edges : (t : ℕ) → t < length c.dims → slice_index c.dims t ≡ 1
+      → IsTrue (are_opposite_pair (λ s. sign c s t) (faces_of c t))
+  pub squares : (s u : ℕ) → s < length c.dims → u < length c.dims → slice_index c.dims u ≡ slice_index c.dims s + 2
+      → (middles c s u ≡ []) ⊎ IsTrue (are_opposite_pair (λ t. sign_product c s t u) (middles c s u))
 
 -- what is wrong with the cell t, where it is an edge
 abbrev pub edge_fault : CellComplex → ℕ → Option Incidence
@@ -56,21 +43,14 @@ edge_fault c t =
     if (slice_index c.dims t == 1) && not (are_opposite_pair (λ s. sign c s t) (faces_of c t)) then
     Some (EdgeEnds t) else None
 
--- what is wrong with these cells between s and u, with these products of signs
-abbrev pub middles_fault : ℕ → ℕ → (ℕ → Option Sign) → List ℕ → Option Incidence
-middles_fault s u product_at [] = None
-middles_fault s u product_at (a ∷ b ∷ []) = if are_opposite (product_at a) (product_at b) then
-    None else Some (Signs s u)
-middles_fault s u product_at ts = Some (Middles s u (length ts))
-
--- what is wrong between s and u
-abbrev pub pair_fault : CellComplex → ℕ → ℕ → Option Incidence
-pair_fault c s u = middles_fault s u (λ t. sign_product c s t u) (middles c s u)
-
--- the faults of the pairs of s with each cell, in order
-abbrev pub pair_faults : CellComplex → ℕ → List Incidence
-pair_faults c s = filter_map (pair_fault c s) (all_cells c)
+-- what is wrong with these cells between s and u
+abbrev pub middles_fault : CellComplex → ℕ → ℕ → List ℕ → Option Incidence
+middles_fault c s u [] = None
+middles_fault c s u (a ∷ b ∷ []) =
+    if are_opposite (sign_product c s a u) (sign_product c s b u) then None else Some (Signs s u)
+middles_fault c s u ts = Some (Middles s u (length ts))
 
 -- all faults: those of the edges in order, then those of the pairs of cells in order
 abbrev pub faults : CellComplex → List Incidence
-faults c = filter_map (edge_fault c) (all_cells c) ++ flat_map (pair_faults c) (all_cells c)
+faults c = filter_map (edge_fault c) (all_cells c)
+    ++ flat_map (λ s. filter_map (λ u. middles_fault c s u (middles c s u)) (all_cells c)) (all_cells c)

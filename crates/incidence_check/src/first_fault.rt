@@ -1,6 +1,7 @@
 ghost use Rattle.std.specs.Prelude.{◌≡◌, ◌<◌, ◌↔◌, length, IsOk};
 ghost use Rattle.cell_complex.specs.Invariants.{IsComplex};
-ghost use Rattle.incidence_check.specs.Incidences.{edge_fault, pair_fault, pair_faults, faults, HasRegularIncidences};
+ghost use Rattle.incidence_check.specs.Incidences.{edge_fault, faults, HasRegularIncidences};
+ghost use Rattle.incidence_check.specs.Answers.{pair_fault, pair_faults};
 ghost use Rattle.incidence_check.specs.Answers.{AnswersFirst};
 
 use crate::incidence::Incidence;

@@ -20,7 +20,7 @@ use Rattle.block_sparse.proofs.Windows.{sized-cut}
 use Rattle.removals.specs.Removals.{IsRemoval}
 use Rattle.block_sparse.specs.Flags.{KeepsFlags}
 use Rattle.block_sparse.proofs.StoredLaws.{block_complex-full}
-use Rattle.reduce_step.proofs.JoinedCorners.{AreAround, part-reduced}
+use Rattle.reduce_step.proofs.JoinedCorners.{AreAround, part-schur_complement}
 use Rattle.reduce_step.proofs.AppliedLaws.{AreStages, IsApplied, image_of-removal, image_of-flags}
 use Rattle.reduce_step.specs.declared.footprint.Footprint.{Footprint}
 use Rattle.reduce_step.specs.Footprints.{IsFootprint}
@@ -85,7 +85,7 @@ module _ (K : Ops) (F : IsField K) (v : StoredBlocks) (sound : IsSound v.live v.
             (subst (λ n. IsInverse K n (matrix_of foot.pivot) a) (pivot-rows ∙ pivot-square) r.inverse_is.inverse);
         corners = λ s t hs ht.
             ap (λ N. part foot.left foot.below N s t) r.new_corners_are.matrix_is
-            ∙ part-reduced K v foot.left foot.below foot.x foot.y (size_of v.live foot.y) (size_of v.live foot.x)
+            ∙ part-schur_complement K v foot.left foot.below foot.x foot.y (size_of v.live foot.y) (size_of v.live foot.x)
             foot.corners foot.column foot.row a around s t hs ht;
         steps = steps;
       }

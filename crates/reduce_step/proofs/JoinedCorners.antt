@@ -30,7 +30,7 @@ sized-block : (b : Block) → Sized b.rows b.cols (matrix_of b)
 sized-block b = sized-cut b.rows b.cols b.entries (omega (arith, b.full))
 
 -- the part from s to t of C - c (a r) is M(s, t) - M(x, t) a M(s, y)
-pub part-reduced : (K : Ops) (v : StoredBlocks) (left below : List (ℕ × ℕ)) (x y m n : ℕ) (corners column row : Block)
+pub part-schur_complement : (K : Ops) (v : StoredBlocks) (left below : List (ℕ × ℕ)) (x y m n : ℕ) (corners column row : Block)
     (a : List (List ℕ))
     → AreAround v left below x y m n corners column row → (s t : ℕ) → has s (keys left) ≡ true → has t (keys below)
     ≡ true
@@ -38,7 +38,7 @@ pub part-reduced : (K : Ops) (v : StoredBlocks) (left below : List (ℕ × ℕ))
     (matrix_sum K (matrix_of corners)
     (matrix_negative K (product K corners.cols (matrix_of column) (product K corners.cols a (matrix_of row))))) s t
     ≡ corner K (complex_in v) x y a s t
-part-reduced K v left below x y m n corners column row a h s t hs ht =
+part-schur_complement K v left below x y m n corners column row a h s t hs ht =
     let C : List (List ℕ) = matrix_of corners in
     let c : List (List ℕ) = matrix_of column in
     let r : List (List ℕ) = matrix_of row in

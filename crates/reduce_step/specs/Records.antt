@@ -19,8 +19,8 @@ pub record RecordValue (F : Type 0) : Type 0 where
   pub new_corners : Block
 
 -- corners - column (a row)
-abbrev pub reduced : Ops → Footprint → List (List ℕ) → List (List ℕ)
-reduced K foot a =
+abbrev pub schur_complement : Ops → Footprint → List (List ℕ) → List (List ℕ)
+schur_complement K foot a =
     let n = foot.corners.cols in
     matrix_sum K (matrix_of foot.corners)
     (matrix_negative K (product K n (matrix_of foot.column) (product K n a (matrix_of foot.row))))
@@ -29,5 +29,5 @@ reduced K foot a =
 pub record IsRecord (K : Ops) (foot : Footprint) (inverse new_corners : Block) : Type 0 where
   pub over : IsOverField K foot
   pub inverse_is : IsInverseBlock K foot.pivot inverse
-  pub new_corners_are : IsBlock new_corners foot.corners.rows foot.corners.cols (reduced K foot (matrix_of inverse))
+  pub new_corners_are : IsBlock new_corners foot.corners.rows foot.corners.cols (schur_complement K foot (matrix_of inverse))
   pub scalars : AllScalars K new_corners.entries

@@ -4,7 +4,7 @@ ghost use Rattle.dense_blocks.specs.Blocks.{matrix_of};
 ghost use Rattle.dense_blocks.specs.BlockFacts.{IsBlock};
 ghost use Rattle.dense_blocks.specs.Inverses.{IsInverseBlock, Inverts};
 ghost use Rattle.reduce_step.specs.Footprints.{IsOverField};
-ghost use Rattle.reduce_step.specs.Records.{reduced};
+ghost use Rattle.reduce_step.specs.Records.{schur_complement};
 
 use crate::footprint::Footprint;
 use crate::record::Record;
@@ -134,7 +134,7 @@ fn new_corners<F: Scalars>(
     requires over { IsOverField (F.ops f.now) foot.now }
     requires inverse { IsInverseBlock (F.ops f.now) foot.now.pivot inverse.now }
     ensures block { IfOk result (λ c. IsBlock c foot.now.corners.rows foot.now.corners.cols
-        (reduced (F.ops f.now) foot.now (matrix_of inverse.now))) }
+        (schur_complement (F.ops f.now) foot.now (matrix_of inverse.now))) }
     ensures scalars { IfOk result (λ c. AllScalars (F.ops f.now) c.entries) }
 {
     let moved = product(alloc, f, inverse, &foot.row)?;

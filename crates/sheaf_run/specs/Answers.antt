@@ -14,6 +14,7 @@ use Rattle.sheaf_data.specs.Sheaves.{SheafData, IsSheaf}
 use Rattle.sheaf_data.specs.Refusals.{IsFault}
 use Rattle.sheaf_words.specs.declared.query.Command.{Command}
 use Rattle.sheaf_words.specs.declared.event.Event.{Event}
+use Rattle.reply_text.specs.Lines.{line_text}
 use Rattle.reply_text.specs.Transcripts.{transcript}
 use Rattle.core_machine.specs.Machine.{IsLegalAndWhole}
 use Rattle.sheaf_text.specs.Readings.{Reading, input_value, reading}
@@ -56,38 +57,28 @@ job_of words = None
 abbrev pub bad_words : Outcome
 bad_words = record { status = BadWords; text = codes "bad words\n" }
 
--- numbers, with a space before each
-abbrev pub spaced_numbers : List ℕ → List ℕ
-spaced_numbers numbers = flat_map (λ number. codes " " ++ decimal number) numbers
-
--- words, then numbers, and then the rest
-abbrev pub text_of_parts : List ℕ → List ℕ → List ℕ → List ℕ
-text_of_parts words numbers rest = (words ++ spaced_numbers numbers) ++ rest
-
--- a line of words and then numbers
-abbrev pub text_line : List ℕ → List ℕ → List ℕ
-text_line words numbers = text_of_parts words numbers (codes "\n")
-
 -- a line that is refused: its number, and the cause
 abbrev pub bad_line : ℕ → LineCause → Outcome
-bad_line line cause = record {
-  status = BadLine;
-  text = text_of_parts (codes "bad line") (line ∷ [])
-      (codes " " ++ (cause_word cause ++ codes "\n"));
-}
+bad_line line cause =
+    record { status = BadLine; text = line_text (codes "bad line" ∷ decimal line ∷ cause_word cause ∷ []) }
 
 -- a limit that is passed, and the number of the line
 abbrev pub over_limit : ℕ → Which → Outcome
-over_limit line which = record { status = Limit; text = text_line (codes "limit " ++ limit_word which) (line ∷ []) }
+over_limit line which =
+    record { status = Limit; text = line_text ((codes "limit " ++ limit_word which) ∷ decimal line ∷ []) }
 
 -- what is wrong with a draft that is no sheaf
 abbrev pub refusal : SealFault → Outcome
-refusal (Complex (EdgeEnds t)) = record { status = BadComplex; text = text_line (codes "bad complex edge") (t ∷ []) }
-refusal (Complex (Middles s u count)) =
-    record { status = BadComplex; text = text_line (codes "bad complex middles") (s ∷ u ∷ count ∷ []) }
+refusal (Complex (EdgeEnds t)) =
+    record { status = BadComplex; text = line_text (codes "bad complex edge" ∷ decimal t ∷ []) }
+refusal (Complex (Middles s u count)) = record {
+  status = BadComplex;
+  text = line_text (codes "bad complex middles" ∷ decimal s ∷ decimal u ∷ decimal count ∷ []);
+}
 refusal (Complex (Signs s u)) =
-    record { status = BadComplex; text = text_line (codes "bad complex signs") (s ∷ u ∷ []) }
-refusal (Noncommuting s u) = record { status = BadSheaf; text = text_line (codes "bad sheaf square") (s ∷ u ∷ []) }
+    record { status = BadComplex; text = line_text (codes "bad complex signs" ∷ decimal s ∷ decimal u ∷ []) }
+refusal (Noncommuting s u) =
+    record { status = BadSheaf; text = line_text (codes "bad sheaf square" ∷ decimal s ∷ decimal u ∷ []) }
 
 -- what is written of a sheaf and the scripts of its clients: under `solve` the transcript of one legal order of all
 -- commands, whole; under `check` how many cells and faces there are, how many clients, and how many commands
@@ -95,8 +86,8 @@ abbrev pub IsTextOf : Job → SheafData Field → List (List Command) → List �
 IsTextOf Solve d scripts text =
     (events : List Event) × IsLegalAndWhole (ops_of d.field) scripts d events × (text ≡ transcript scripts events)
 IsTextOf Check d scripts text =
-    text ≡ text_line (codes "good") (length d.complex.dims ∷ length d.complex.faces ∷ length scripts
-    ∷ sum_by length scripts ∷ [])
+    text ≡ line_text (codes "good" ∷ decimal (length d.complex.dims) ∷ decimal (length d.complex.faces)
+    ∷ decimal (length scripts) ∷ decimal (sum_by length scripts) ∷ [])
 
 -- a draft that is no sheaf is refused with its first fault; a sheaf is answered with such a text
 abbrev pub AnswersDraft : Job → SheafData Field → List (List Command) → Outcome → Type 0
@@ -131,7 +122,6 @@ ReadingIsDue (readings.Good v) status = (i : Input) × (v ≡ input_value i) × 
 ReadingIsDue (readings.BadLine line cause) status = status ≡ BadLine
 ReadingIsDue (readings.Limit line which) status = status ≡ Limit
 
--- the status that the bytes are due under a job
+-- the status that the bytes are due under a job: for now the same under each
 abbrev pub IsDue : Job → List ℕ → Status → Type 0
-IsDue Solve bytes status = ReadingIsDue (reading bytes) status
-IsDue Check bytes status = ReadingIsDue (reading bytes) status
+IsDue job bytes status = ReadingIsDue (reading bytes) status

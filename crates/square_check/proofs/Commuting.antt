@@ -12,7 +12,8 @@ use Rattle.cell_complex.specs.Complexes.{CellComplex, all_cells, is_face, faces_
 use Rattle.cell_complex.specs.Invariants.{IsComplex}
 use Rattle.cell_complex.proofs.Numbers.{range-below}
 use Rattle.cell_complex.proofs.Callers.{AreIncident, incident_from_face}
-use Rattle.incidence_check.specs.Incidences.{HasOppositeMiddles, HasRegularIncidences}
+use Rattle.incidence_check.specs.Incidences.{HasRegularIncidences, are_opposite_pair, sign_product}
+use Rattle.incidence_check.proofs.Faults.{opposite_middles}
 use Rattle.dense_blocks.specs.Field.{Ops}
 use Rattle.dense_blocks.specs.Matrices.{product}
 use Rattle.dense_blocks.specs.Blocks.{matrix_of}
@@ -46,7 +47,8 @@ middles-two c h r s u a b ts is =
     let high = incident_from_face c h a u t.upper in
     is ∙ ap (λ xs. a ∷ b ∷ xs) (none ts (⊎_elim
     (λ (e : middles c s u ≡ []). absurd (omega (arith, ap length is, ap length e)))
-    (λ (m : HasOppositeMiddles c s u). omega (arith, ap length is, ap length m.middles))
+    (λ (m : IsTrue (are_opposite_pair (λ t. sign_product c s t u) (middles c s u))).
+    omega (arith, ap length is, ap length (opposite_middles c s u (middles c s u) refl m).middles))
     (r.squares s u low.s_is_cell high.t_is_cell (omega (arith, low.one_up, high.one_up)))))
   where
     none : (xs : List ℕ) → length xs ≡ 0 → xs ≡ []

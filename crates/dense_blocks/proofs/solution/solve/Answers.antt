@@ -4,12 +4,12 @@ use Rattle.dense_blocks.specs.Field.{Ops}
 use Rattle.dense_blocks.specs.FieldLaws.{IsField}
 use Rattle.dense_blocks.specs.Vectors.{IsVector, combination, zeros}
 use Rattle.dense_blocks.specs.MatrixFacts.{IsMatrix}
-use Rattle.dense_blocks.specs.Elimination.{Eliminates, PullsBack, parts, reduced, rows}
+use Rattle.dense_blocks.specs.Elimination.{Eliminates, PullsBack, parts, remainder, rows}
 use Rattle.dense_blocks.specs.Solutions.{lists, IsLeading, Separates}
 use Rattle.dense_blocks.specs.declared.solution.Pivot.{Pivot}
 use Rattle.dense_blocks.proofs.Shapes.{to_matrix, from_vector}
 use Rattle.dense_blocks.proofs.Reductions.{parts-vector}
-use Rattle.dense_blocks.proofs.Solutions.{lists_matrix, reduced-none, separates-none, pulls_back-separates}
+use Rattle.dense_blocks.proofs.Solutions.{lists_matrix, remainder-none, separates-none, pulls_back-separates}
 use Rattle.dense_blocks.proofs.solution.solve.Goals as goal
 
 pub of-requires : goal.of-requires
@@ -44,7 +44,7 @@ returns-in-None g c =
     let size : c.in_ok-elimination.elimination.size ≡ n = c.in_ok-elimination.ensures.size in
     let columns : IsMatrix K (length c.args.columns.now) n vectors = lists_matrix K n c.args.columns.now
     c.requires.sizes c.requires.column_scalars in
-    let nothing_left : reduced K ps v ≡ zeros n =
+    let nothing_left : remainder K ps v ≡ zeros n =
     sym c.in_ok-row.ensures.row ∙ sym c.as_slice.ensures.value ∙ c.in-None.ensures.none
     ∙ ap zeros (ap length c.as_slice.ensures.value ∙ c.in_ok-row.ensures.vector.size ∙ size) in
     record {
@@ -54,7 +54,7 @@ returns-in-None g c =
           ∙ c.in_ok-combination-in-None.ensures.same
           ∙ ap (λ m. combination K m c.in_ok-row.field-0.parts.items (rows ps)) size
           ∙ ap (λ t. combination K n t (rows ps)) c.in_ok-row.ensures.parts
-          ∙ reduced-none K h n ps v c.in_ok-elimination.ensures.eliminates.fit
+          ∙ remainder-none K h n ps v c.in_ok-elimination.ensures.eliminates.fit
           (record { size = refl; scalars = c.requires.v_scalars }) nothing_left;
       leading = subst (λ m. IsLeading K m vectors coefficients) size c.in_ok-combination-in-None.ensures.leading;
     }
@@ -75,7 +75,7 @@ returns g c =
     let all : Eliminates K n vectors (length vectors) ps =
     subst (λ m. Eliminates K n vectors m ps) (sym columns.size) c.in_ok-elimination.ensures.eliminates in
     let inside : at < length row = omega (arith, c.in-Some.ensures.inside, ap length c.as_slice.ensures.value) in
-    let entry : get_or row at 0 ≡ get_or (reduced K ps v) at 0 = ap (λ t. get_or t at 0) c.in_ok-row.ensures.row in
+    let entry : get_or row at 0 ≡ get_or (remainder K ps v) at 0 = ap (λ t. get_or t at 0) c.in_ok-row.ensures.row in
     let is_v : IsVector K n v = record { size = refl; scalars = c.requires.v_scalars } in
     let pulls : PullsBack K n ps at c.inv.result p =
     subst (λ m. PullsBack K m ps at c.inv.result p) c.in_ok-elimination.ensures.size c.in_ok-functional-in-Some.ensures

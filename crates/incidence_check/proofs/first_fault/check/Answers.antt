@@ -2,7 +2,8 @@ use Rattle.std.proofs.Common.{◌≡◌, ◌++◌, [], Some, Ok, Err, length, sl
 use Rattle.std.specs.List.{filter_map, flat_map}
 use Rattle.std.proofs.lemmas.Result.{err_from_is_err_and}
 use Rattle.cell_complex.specs.Complexes.{CellComplex, all_cells}
-use Rattle.incidence_check.specs.Incidences.{edge_fault, pair_faults, faults}
+use Rattle.incidence_check.specs.Incidences.{edge_fault, faults}
+use Rattle.incidence_check.specs.Answers.{pair_faults}
 use Rattle.incidence_check.specs.Answers.{AnswersFirst}
 use Rattle.incidence_check.proofs.Firsts.{filter_map-none, filter_map-first, flat_map-none, flat_map-first}
 use Rattle.incidence_check.proofs.Firsts.{first-append}

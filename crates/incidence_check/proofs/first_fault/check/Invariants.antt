@@ -1,5 +1,6 @@
 use Rattle.std.proofs.Common.{◌≡◌, ℕ, ◌<◌, [], None}
-use Rattle.incidence_check.specs.Incidences.{edge_fault, pair_faults}
+use Rattle.incidence_check.specs.Incidences.{edge_fault}
+use Rattle.incidence_check.specs.Answers.{pair_faults}
 use Rattle.incidence_check.proofs.first_fault.check.Given as goal
 
 abbrev pub invariant-loop-t : goal.invariant-loop-t

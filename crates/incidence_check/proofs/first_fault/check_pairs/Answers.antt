@@ -2,7 +2,7 @@ use Rattle.std.proofs.Common.{◌≡◌, ℕ, ◌<◌, ◌≤◌, ⊎_elim, leng
 use Rattle.std.proofs.lemmas.Bool.{cases_lt}
 use Rattle.cell_complex.specs.Complexes.{CellComplex}
 use Rattle.cell_complex.specs.Invariants.{cofaces_of}
-use Rattle.incidence_check.specs.Incidences.{pair_fault}
+use Rattle.incidence_check.specs.Answers.{pair_fault}
 use Rattle.incidence_check.proofs.Firsts.{filter_map-none, filter_map-first}
 use Rattle.incidence_check.proofs.Faults.{none_unreached, reached-below}
 use Rattle.incidence_check.proofs.first_fault.check_pairs.Goals as goal

@@ -1,5 +1,5 @@
 use Rattle.std.proofs.Common.{◌≡◌, ℕ, ◌-◌, ◌<◌, ◌≤◌, length, None}
-use Rattle.incidence_check.specs.Incidences.{pair_fault}
+use Rattle.incidence_check.specs.Answers.{pair_fault}
 use Rattle.incidence_check.proofs.first_fault.check_pairs.Given as goal
 
 abbrev pub invariant-loop-u : goal.invariant-loop-u

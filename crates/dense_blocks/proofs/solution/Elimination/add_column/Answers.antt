@@ -3,7 +3,7 @@ use Rattle.std.proofs.lemmas.List.Elements.{All-get_or}
 use Rattle.dense_blocks.specs.Field.{Ops}
 use Rattle.dense_blocks.specs.FieldLaws.{IsField}
 use Rattle.dense_blocks.specs.Vectors.{IsVector, zeros}
-use Rattle.dense_blocks.specs.Elimination.{ComesFrom, Eliminates, IsPivot, parts, reduced}
+use Rattle.dense_blocks.specs.Elimination.{ComesFrom, Eliminates, IsPivot, parts, remainder}
 use Rattle.dense_blocks.specs.Solutions.{lists}
 use Rattle.dense_blocks.specs.declared.solution.Pivot.{Pivot}
 use Rattle.dense_blocks.proofs.EliminationSteps.{list_at, own_matrix, eliminates-zero, eliminates-pivot}
@@ -29,7 +29,7 @@ returns-in_ok-push-clause-after g c =
     let j : ℕ = c.args.source in
     let q : Pivot = c.of-pivot.result in
     let at : ℕ = c.in-Some.place in
-    let row : List ℕ = c.in_ok-reduced.reduced.row.items in
+    let row : List ℕ = c.in_ok-remainder.remainder.row.items in
     let is : c.as_slice.result.now ≡ get_or vectors q.source [] =
     c.as_slice.ensures.value ∙ list_at c.args.columns.now j c.index-columns-source.result c.requires.source
     c.index-columns-source.is
@@ -43,9 +43,9 @@ returns-in_ok-push-clause-after g c =
         c.of-pivot.ensures.place,
         c.in-Some.ensures.inside,
         ap length c.as_slice-2.ensures.value,
-        c.in_ok-reduced.ensures.vector.size,
+        c.in_ok-remainder.ensures.vector.size,
       );
-      row = subst (IsVector K n) (sym c.of-pivot.ensures.row) c.in_ok-reduced.ensures.vector;
+      row = subst (IsVector K n) (sym c.of-pivot.ensures.row) c.in_ok-remainder.ensures.vector;
       first = ap₂ take c.of-pivot.ensures.place (c.of-pivot.ensures.row ∙ sym c.as_slice-2.ensures.value)
           ∙ c.in-Some.ensures.first ∙ ap zeros (sym c.of-pivot.ensures.place);
       not_zero = λ e. c.in-Some.ensures.not_zero (ap (λ t. get_or t at 0) c.as_slice-2.ensures.value ∙ place_is ∙ e);
@@ -54,8 +54,8 @@ returns-in_ok-push-clause-after g c =
     } in
     let from : ComesFrom K vectors ps q = record {
       source = omega (arith, c.of-pivot.ensures.source, c.requires.source, c.requires.columns.size);
-      row_is = c.of-pivot.ensures.row ∙ c.in_ok-reduced.ensures.row ∙ ap (reduced K ps) is;
-      parts_are = c.of-pivot.ensures.parts ∙ c.in_ok-reduced.ensures.parts ∙ ap (parts K ps) is;
+      row_is = c.of-pivot.ensures.row ∙ c.in_ok-remainder.ensures.row ∙ ap (remainder K ps) is;
+      parts_are = c.of-pivot.ensures.parts ∙ c.in_ok-remainder.ensures.parts ∙ ap (parts K ps) is;
     } in
     subst₂ (Eliminates K n vectors) (ap (λ t. t + 1) c.of-pivot.ensures.source) (sym c.in_ok-push.ensures.items)
     (eliminates-pivot K h n vectors ps q (own_matrix K (length c.args.columns.now) n vectors c.requires.columns)
@@ -71,8 +71,8 @@ returns-in_default-clause-after g c =
     c.as_slice.ensures.value ∙ list_at c.args.columns.now j c.index-columns-source.result c.requires.source
     c.index-columns-source.is in
     eliminates-zero K h c.args.self.now.size vectors j c.args.self.now.pivots.items c.requires.before
-    (ap (reduced K c.args.self.now.pivots.items) (sym is)
-    ∙ sym c.in_ok-reduced.ensures.row
+    (ap (remainder K c.args.self.now.pivots.items) (sym is)
+    ∙ sym c.in_ok-remainder.ensures.row
     ∙ sym c.as_slice-2.ensures.value
     ∙ c.in_default.ensures.none
-    ∙ ap zeros (ap length c.as_slice-2.ensures.value ∙ c.in_ok-reduced.ensures.vector.size))
+    ∙ ap zeros (ap length c.as_slice-2.ensures.value ∙ c.in_ok-remainder.ensures.vector.size))
