@@ -135,7 +135,11 @@ module _ (K : Ops) (F : IsField K) where
           x.1))
 
 pub dimensions_agree : DimensionsAgree
-dimensions_agree K F m n k field fits (A, a_size, a) (B, b_size, b) =
-    let one : length B < length A → ⊥ = not_longer K field F fits k A B a b in
-    let two : length A < length B → ⊥ = not_longer K field F fits k B A b a in
-    omega (arith, a_size, b_size)
+dimensions_agree K C F fits k =
+    record { bases = same; dimensions = λ m n a b. sym a.1 ∙ same a.0 b.0 a.2 b.2 ∙ b.1 }
+  where
+    same : (A B : List (List ℕ)) → IsBasis K C k A → IsBasis K C k B → length A ≡ length B
+    same A B a b =
+        let one : length B < length A → ⊥ = not_longer K F C fits k A B a b in
+        let two : length A < length B → ⊥ = not_longer K F C fits k B A b a in
+        omega arith
