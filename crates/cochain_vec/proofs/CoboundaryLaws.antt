@@ -72,6 +72,14 @@ value-multiple K (c ∷ cs) k v s =
       | false ↦ ap (λ t. value_at cs t s) (drop-map (K.mul k) c.size v) ∙ value-multiple K cs k (drop c.size v) s
     ]
 
+-- parts that are the same at each cell are the same joined
+pub joined-same : (f g : Cell → List ℕ) (cs : List Cell) → All (λ (u : Cell). f u ≡ g u) cs
+    → flat_map f cs ≡ flat_map g cs
+joined-same f g [] h = refl
+joined-same f g (c ∷ cs) h =
+    ap₂ ◌++◌ (All-head (λ (u : Cell). f u ≡ g u) c cs h)
+    (joined-same f g cs (All-tail (λ (u : Cell). f u ≡ g u) c cs h))
+
 -- matrices into the cell t have n rows
 unfoldable pub RowsInto : List Arrow → ℕ → ℕ → Type 0
 RowsInto arrows n t = All (λ (a : Arrow). a.to ≡ t → length a.matrix ≡ n) arrows

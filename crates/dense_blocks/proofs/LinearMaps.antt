@@ -79,7 +79,7 @@ module _ (K : Ops) (F : IsField K) where
         ap f (sym (multiple-zero K F n (zeros n) hz)) ∙ l.multiples 0 (zeros n) hz
         ∙ multiple-zero K F m (f (zeros n)) (l.vector (zeros n) hz)
 
-    linear-combination : (k : ℕ) (cs : List ℕ) (vs : List (List ℕ)) → Matrix K k n vs → f (combination K n cs vs)
+    pub linear-combination : (k : ℕ) (cs : List ℕ) (vs : List (List ℕ)) → Matrix K k n vs → f (combination K n cs vs)
         ≡ combination K m cs (map f vs)
     linear-combination k [] vs h = linear-zeros
     linear-combination k (c ∷ cs) [] h = linear-zeros
