@@ -35,12 +35,13 @@ use Rattle.block_complexes.proofs.FullLaws.{IsFull, filled, filled-full, same-fi
 use Rattle.block_complexes.proofs.DifferentialLaws.{between-zero, zero-between}
 
 -- a cell of this degree among the live cells
-record IsOfDegree (live : List (ℕ × ℕ × ℕ)) (k : ℕ) (u : Cell) : Type 0 where
-  is_live : has u.cell (cells live) ≡ true
-  degree : degree_of live u.cell ≡ k
-  size : size_of live u.cell ≡ u.size
+pub record IsOfDegree (live : List (ℕ × ℕ × ℕ)) (k : ℕ) (u : Cell) : Type 0 where
+  pub is_live : has u.cell (cells live) ≡ true
+  pub degree : degree_of live u.cell ≡ k
+  pub size : size_of live u.cell ≡ u.size
 
-of_degree-are : (live : List (ℕ × ℕ × ℕ)) → IsRising (cells live) → (k : ℕ) → All (IsOfDegree live k) (of_degree k live)
+pub of_degree-are : (live : List (ℕ × ℕ × ℕ)) → IsRising (cells live) → (k : ℕ)
+    → All (IsOfDegree live k) (of_degree k live)
 of_degree-are live r k i d l =
     let u = get_or (of_degree k live) i d in
     let numbers = All-filter (λ (c : Cell). eqb c.degree k) IsCell (map cell_of live)
@@ -64,7 +65,7 @@ of_degree-are live r k i d l =
         )
 
 -- the size of a live cell among the cells of its degree
-size-of_degree : (live : List (ℕ × ℕ × ℕ)) (k c : ℕ) → has c (cells live) ≡ true → degree_of live c ≡ k
+pub size-of_degree : (live : List (ℕ × ℕ × ℕ)) (k c : ℕ) → has c (cells live) ≡ true → degree_of live c ≡ k
     → size_at (of_degree k live) c ≡ size_of live c
 unfolding size_at
 size-of_degree [] k c h e = cc
@@ -154,10 +155,10 @@ module _ (K : Ops) (F : IsField K) (v : BlockComplex) (full : IsFull K v) where
   M-shape = full.shape
 
   -- at t the sum over the live cells s of M(s, t) times the value at s
-  abbrev arrives : (ℕ → List ℕ) → ℕ → List ℕ
+  abbrev pub arrives : (ℕ → List ℕ) → ℕ → List ℕ
   arrives value t = sum_over K (size t) (λ s. image_of K (M s t) (value s)) (cells v.live)
 
-  abbrev passes : ℕ → ℕ → List ℕ → List ℕ
+  abbrev pub passes : ℕ → ℕ → List ℕ → List ℕ
   passes s u z = sum_over K (size u) (λ t. image_of K (M t u) (image_of K (M s t) z)) (cells v.live)
 
   arrives-vector : (value : ℕ → List ℕ) (t : ℕ) → Vector K (size t) (arrives value t)
@@ -165,12 +166,13 @@ module _ (K : Ops) (F : IsField K) (v : BlockComplex) (full : IsFull K v) where
       sum_over-vector K F (size t) (λ s. image_of K (M s t) (value s)) (cells v.live)
       (λ s. image_of-vector K F (size t) (size s) (M s t) (value s) (M-shape s t))
 
-  sum_into-arrives : (value : ℕ → List ℕ) (t : ℕ) → IsLive t → sum_into K C.arrows value (size t) t ≡ arrives value t
+  pub sum_into-arrives : (value : ℕ → List ℕ) (t : ℕ) → IsLive t
+      → sum_into K C.arrows value (size t) t ≡ arrives value t
   sum_into-arrives value t h = sum_into-live K F v value (size t) t
       (λ s. matrix-size K (size t) (size s) (M s t) (M-shape s t)) rises h
 
   -- twice, by the cells where it begins
-  arrives-arrives : (value : ℕ → List ℕ) (u : ℕ) → arrives (arrives value) u ≡ sum_over K (size u)
+  pub arrives-arrives : (value : ℕ → List ℕ) (u : ℕ) → arrives (arrives value) u ≡ sum_over K (size u)
       (λ s. passes s u (value s)) (cells v.live)
   arrives-arrives value u =
       sum_over-same K F (size u) (λ t. image_of K (M t u) (arrives value t))
@@ -197,7 +199,7 @@ module _ (K : Ops) (F : IsField K) (v : BlockComplex) (full : IsFull K v) where
     abbrev next : ℕ → List ℕ
     next t = value_at (cells_of C (suc k)) (coboundary K C k z) t
 
-    next-is : (t : ℕ) → IsLive t → degree_of v.live t ≡ suc k → next t ≡ arrives value t
+    pub next-is : (t : ℕ) → IsLive t → degree_of v.live t ≡ suc k → next t ≡ arrives value t
     next-is t h e =
         value-joined K F C.arrows value (cells_of C (suc k)) t (parts (suc k) value)
         ∙ ap (λ n. sum_into K C.arrows value n t) (size-of_degree v.live (suc k) t h e)
@@ -219,7 +221,8 @@ module _ (K : Ops) (F : IsField K) (v : BlockComplex) (full : IsFull K v) where
               (arrives value t))
         ]
 
-  passes-zero : IsDifferential K v → (s u : ℕ) → IsLive s → IsLive u → (z : List ℕ) → passes s u z ≡ zeros (size u)
+  pub passes-zero : IsDifferential K v → (s u : ℕ) → IsLive s → IsLive u → (z : List ℕ)
+      → passes s u z ≡ zeros (size u)
   passes-zero closed s u hs hu z = between-zero K F size M (cells v.live) (λ s t hs ht. M-shape s t) s u hs hu
       (closed s u (record { from = hs; to = hu })) z
 

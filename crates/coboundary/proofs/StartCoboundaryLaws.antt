@@ -32,6 +32,7 @@ use Rattle.cochain_vec.specs.Complexes.{CellularComplex, cells_of, coboundary, c
 use Rattle.cochain_vec.specs.Stalkless as stalkless
 use Rattle.cochain_vec.proofs.StalklessLaws.{Agree, has_coordinates, coordinates-without_empty}
 use Rattle.cochain_vec.proofs.StalklessLaws.{coboundary-without_empty, basis_over, agree_back}
+use Rattle.cochain_vec.proofs.CoboundaryLaws.{joined-same}
 use Rattle.cochain_vec.proofs.PathLaws.{sum_over-same, sum_into-by-source, arrows_from}
 use Rattle.rising_lists.specs.Rising.{IsRising, has}
 use Rattle.rising_lists.proofs.Keyed.{place_of, has-at}
@@ -56,12 +57,6 @@ not-found p [] h = refl
 not-found p (x ∷ xs) h =
     let e = or_parts (p x) (list_any p xs) h in
     ap (λ b. cond b (Some x) (find p xs)) e.0 ∙ not-found p xs e.1
-
-joined-same : (f g : Cell → List ℕ) (cs : List Cell) → All (λ (u : Cell). f u ≡ g u) cs → flat_map f cs ≡ flat_map g cs
-joined-same f g [] h = refl
-joined-same f g (c ∷ cs) h =
-    ap₂ ◌++◌ (All-head (λ (u : Cell). f u ≡ g u) c cs h)
-    (joined-same f g cs (All-tail (λ (u : Cell). f u ≡ g u) c cs h))
 
 range-rising : (a n : ℕ) → IsRising (range_with_len a n)
 range-rising a n i j l m =

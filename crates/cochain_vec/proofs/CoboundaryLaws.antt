@@ -51,7 +51,7 @@ value-vector K (c ∷ cs) z s h =
       | false ↦ value-vector K cs (drop c.size z) s (drop-vector K c.size (total_size cs) z h)
     ]
 
-value-plus : (K : Ops) (cs : List Cell) (u v : List ℕ) (s : ℕ) → value_at cs (plus K u v) s ≡ plus K (value_at cs u s)
+pub value-plus : (K : Ops) (cs : List Cell) (u v : List ℕ) (s : ℕ) → value_at cs (plus K u v) s ≡ plus K (value_at cs u s)
     (value_at cs v s)
 value-plus K [] u v s = refl
 value-plus K (c ∷ cs) u v s =
@@ -62,7 +62,7 @@ value-plus K (c ∷ cs) u v s =
       | false ↦ ap (λ t. value_at cs t s) (drop-plus K c.size u v) ∙ value-plus K cs (drop c.size u) (drop c.size v) s
     ]
 
-value-multiple : (K : Ops) (cs : List Cell) (k : ℕ) (v : List ℕ) (s : ℕ) → value_at cs (multiple K k v) s
+pub value-multiple : (K : Ops) (cs : List Cell) (k : ℕ) (v : List ℕ) (s : ℕ) → value_at cs (multiple K k v) s
     ≡ multiple K k (value_at cs v s)
 value-multiple K [] k v s = refl
 value-multiple K (c ∷ cs) k v s =
@@ -71,6 +71,14 @@ value-multiple K (c ∷ cs) k v s =
       | true ↦ take-map (K.mul k) c.size v
       | false ↦ ap (λ t. value_at cs t s) (drop-map (K.mul k) c.size v) ∙ value-multiple K cs k (drop c.size v) s
     ]
+
+-- parts that are the same at each cell are the same joined
+pub joined-same : (f g : Cell → List ℕ) (cs : List Cell) → All (λ (u : Cell). f u ≡ g u) cs
+    → flat_map f cs ≡ flat_map g cs
+joined-same f g [] h = refl
+joined-same f g (c ∷ cs) h =
+    ap₂ ◌++◌ (All-head (λ (u : Cell). f u ≡ g u) c cs h)
+    (joined-same f g cs (All-tail (λ (u : Cell). f u ≡ g u) c cs h))
 
 -- matrices into the cell t have n rows
 unfoldable pub RowsInto : List Arrow → ℕ → ℕ → Type 0
@@ -143,7 +151,7 @@ module _ (K : Ops) (F : IsField K) where
       (All-head (λ (t : Cell). Vector K t.size (piece t)) t ts h)
       (joined-vector piece ts (All-tail (λ (t : Cell). Vector K t.size (piece t)) t ts h))
 
-  joined-plus : (x y z : Cell → List ℕ) (ts : List Cell) → All (λ (t : Cell). Vector K t.size (x t)) ts
+  pub joined-plus : (x y z : Cell → List ℕ) (ts : List Cell) → All (λ (t : Cell). Vector K t.size (x t)) ts
       → All (λ (t : Cell). Vector K t.size (y t)) ts
       → ((t : Cell) → z t ≡ plus K (x t) (y t)) → flat_map z ts ≡ plus K (flat_map x ts) (flat_map y ts)
   joined-plus x y z [] hx hy e = refl
@@ -155,7 +163,7 @@ module _ (K : Ops) (F : IsField K) where
       ∙ sym (plus-append K (x t) (y t) (flat_map x ts) (flat_map y ts) (vector-size K t.size (x t) xt
       ∙ sym (vector-size K t.size (y t) yt)))
 
-  joined-multiple : (k : ℕ) (x z : Cell → List ℕ) (ts : List Cell) → ((t : Cell) → z t ≡ multiple K k (x t))
+  pub joined-multiple : (k : ℕ) (x z : Cell → List ℕ) (ts : List Cell) → ((t : Cell) → z t ≡ multiple K k (x t))
       → flat_map z ts ≡ multiple K k (flat_map x ts)
   joined-multiple k x z [] e = refl
   joined-multiple k x z (t ∷ ts) e = ap₂ ◌++◌ (e t) (joined-multiple k x z ts e)

@@ -1,3 +1,4 @@
 pub mod CoboundaryLaws
 pub mod StalklessLaws
 pub mod PathLaws
+pub mod DimensionLaws

@@ -9,11 +9,11 @@ use Rattle.std.proofs.Math.Seq.{take-append_seam, drop-append_seam}
 use Rattle.std.proofs.lemmas.Bool.{eqb-true}
 use Rattle.dense_blocks.specs.Field.{Ops}
 use Rattle.dense_blocks.specs.FieldLaws.{IsField}
-use Rattle.dense_blocks.specs.Vectors.{IsVector, zeros, plus}
+use Rattle.dense_blocks.specs.Vectors.{IsVector, zeros, plus, multiple}
 use Rattle.dense_blocks.specs.Matrices.{image_of}
 use Rattle.dense_blocks.proofs.Shapes.{Vector, vector-size, from_vector}
 use Rattle.dense_blocks.proofs.VectorLaws.{zeros-append, zeros-vector, plus-vector, plus-cross, zeros-plus, plus-zeros}
-use Rattle.dense_blocks.proofs.VectorLaws.{zeros-plus-zeros, multiple-zero}
+use Rattle.dense_blocks.proofs.VectorLaws.{zeros-plus-zeros, multiple-zero, multiple-plus, multiple-zeros}
 use Rattle.cochain_vec.specs.declared.cell.Cell.{Cell}
 use Rattle.cochain_vec.specs.Complexes.{Arrow, CellularComplex, cells_of, total_size, coordinates, value_at, sum_into}
 use Rattle.cochain_vec.specs.Complexes.{coboundary}
@@ -68,6 +68,12 @@ module _ (K : Ops) (F : IsField K) where
       (sum_over K n g xs)
 
   -- members whose vector is zero may be left out
+  pub sum_over-multiple : (n k : ℕ) (f : ℕ → List ℕ) (xs : List ℕ) → sum_over K n (λ x. multiple K k (f x)) xs
+      ≡ multiple K k (sum_over K n f xs)
+  sum_over-multiple n k f [] = sym (multiple-zeros K F k n)
+  sum_over-multiple n k f (x ∷ xs) = ap (plus K (multiple K k (f x))) (sum_over-multiple n k f xs)
+      ∙ sym (multiple-plus K F k (f x) (sum_over K n f xs))
+
   pub sum_over-filter : (n : ℕ) (f : ℕ → List ℕ) (p : ℕ → Bool) (xs : List ℕ) → ((x : ℕ) → Vector K n (f x))
       → ((x : ℕ) → p x ≡ false → f x ≡ zeros n)
       → sum_over K n f xs ≡ sum_over K n f (filter p xs)

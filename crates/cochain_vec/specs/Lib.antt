@@ -3,3 +3,4 @@ pub mod Shapes
 pub mod Cohomology
 pub mod CochainComplexes
 pub mod Stalkless
+pub mod Dimensions

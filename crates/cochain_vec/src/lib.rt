@@ -10,4 +10,4 @@ mod laws;
 
 pub use cell::Cell;
 pub use cochain::{Cochain, add, scale};
-pub use laws::empty_cells_change_nothing;
+pub use laws::{dims_agree, empty_cells_change_nothing};

@@ -148,7 +148,7 @@ pub kills-append : (K : Ops) (A B : List (List ℕ)) (x : List ℕ) → Annihila
 kills-append K [] B x h = (tt, h)
 kills-append K (r ∷ A) B x h = ((h.0, (kills-append K A B x h.1).0), (kills-append K A B x h.1).1)
 
-kills-join : (K : Ops) (A B : List (List ℕ)) (x : List ℕ) → Annihilate K A x → Annihilate K B x
+pub kills-join : (K : Ops) (A B : List (List ℕ)) (x : List ℕ) → Annihilate K A x → Annihilate K B x
     → Annihilate K (A ++ B) x
 kills-join K [] B x ha hb = hb
 kills-join K (r ∷ A) B x ha hb = (ha.0, kills-join K A B x ha.1 hb)

@@ -91,7 +91,7 @@ start-units n i (suc m) [] e h = absurd (omega arith)
 start-units n i (suc m) (r ∷ M) e h = ap₂ ◌∷◌ h.0 (start-units n (suc i) m M (omega arith) h.1)
 
 -- rows that kill x give zero at x
-kills-image_of : (K : Ops) (M : List (List ℕ)) (x : List ℕ) (m : ℕ) → length M ≡ m → Annihilate K M x
+pub kills-image_of : (K : Ops) (M : List (List ℕ)) (x : List ℕ) (m : ℕ) → length M ≡ m → Annihilate K M x
     → image_of K M x ≡ zeros m
 kills-image_of K [] x zero e h = refl
 kills-image_of K [] x (suc m) e h = absurd (omega arith)

@@ -17,4 +17,6 @@ pub mod Uniqueness
 pub mod ClearingRows
 pub mod ClearingLaws
 pub mod InverseLaws
+pub mod LinearMaps
+pub mod Dependence
 pub mod InvertingSteps

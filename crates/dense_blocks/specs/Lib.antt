@@ -12,3 +12,4 @@ pub mod LeadingAnswers
 pub mod Elimination
 pub mod Columns
 pub mod Inverses
+pub mod LinearMaps

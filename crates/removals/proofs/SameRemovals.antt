@@ -1,4 +1,4 @@
--- A removal from the same block complex, and two removals of one pair.
+-- A removal from the same block complex, one that leaves the same, and two removals of one pair.
 use Rattle.std.proofs.Common.{◌≡◌, ℕ, true, cond, List, sym, ap, ap₂, ◌∙◌, subst}
 use Rattle.dense_blocks.specs.Field.{Ops}
 use Rattle.dense_blocks.specs.Matrices.{product, matrix_negative}
@@ -17,6 +17,16 @@ module _ (K : Ops) (v : BlockComplex) (x y : ℕ) (a : List (List ℕ)) where
     where
       was : (c : ℕ) → has c (cells w.live) ≡ true → has c (cells v.live) ≡ true
       was c h = (has-without x y v.live c (subst (λ live. has c (cells live) ≡ true) removal.live h)).0
+
+  -- a removal that leaves the same
+  pub removal-same-after : (w m : BlockComplex) → HaveSameMatrices w m → IsRemoval K v x y a w → IsRemoval K v x y a m
+  removal-same-after w m h removal = with-live (λ m. IsRemoval K v x y a m) m w.live h.live (record {
+    pair = removal.pair;
+    square = removal.square;
+    inverse = removal.inverse;
+    live = removal.live;
+    matrices = λ s t l. h.matrices s t l ∙ removal.matrices s t l;
+  })
 
   -- two removals of one pair by one inverse leave the same
   pub removal-one : (w m : BlockComplex) → IsRemoval K v x y a w → IsRemoval K v x y a m → HaveSameMatrices w m

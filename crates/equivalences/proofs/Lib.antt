@@ -1,0 +1,10 @@
+pub mod CompositionLaws
+pub mod BasisLaws
+pub mod CochainValues
+pub mod CellEquations
+pub mod SameMaps
+pub mod RemovalEquations
+pub mod CompositeLaws
+pub mod BlocklessLaws
+pub mod PairLaws
+pub mod ReductionLaws

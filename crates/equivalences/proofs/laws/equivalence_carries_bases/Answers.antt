@@ -1,0 +1,5 @@
+use Rattle.equivalences.proofs.BasisLaws as laws
+use Rattle.equivalences.proofs.laws.equivalence_carries_bases.Goals as goal
+
+pub returns : goal.returns
+returns c = laws.carries_bases

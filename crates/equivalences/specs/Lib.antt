@@ -1,0 +1,5 @@
+pub mod Equivalences
+pub mod RemovalMaps
+pub mod Composites
+pub mod Bases
+pub mod Laws
