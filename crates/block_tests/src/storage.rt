@@ -25,7 +25,10 @@ fn copies_blocks(rt: HostRuntime) -> Result<(), NoMemory> {
 /// Puts a block of these entries.
 fn put(rt: &impl Abort, blocks: &mut Blocks, s: u32, t: u32, b: Block) -> Result<(), NoMemory> {
     assert!(rt; blocks.fits(s, t, &b));
-    blocks.set(s, t, b).map_err(|back| back.1)
+    match blocks.set(s, t, b) {
+        Ok(()) => Ok(()),
+        Err((_, fault)) => Err(fault),
+    }
 }
 
 #[test]

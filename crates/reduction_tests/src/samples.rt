@@ -19,7 +19,10 @@ pub(crate) fn put(
     assert!(rt; Block::fits(n, n, entries.len()));
     let block = Block::of(alloc, n, n, entries)?;
     assert!(rt; b.fits(pair.0, pair.1, &block));
-    b.set(pair.0, pair.1, block).map_err(|back| back.1)
+    match b.set(pair.0, pair.1, block) {
+        Ok(()) => Ok(()),
+        Err((_, fault)) => Err(fault),
+    }
 }
 
 /// The block complex of these cells, without blocks.

@@ -1,7 +1,7 @@
 //! Steps of the reduction of the circle, worked by hand over the field of three elements: minus is 2.
 use crate::samples::{Entry, cells, has_all, put, put_all};
 use block_sparse::Blocks;
-use dense_blocks::Two;
+use dense_blocks::{Scalars, Two};
 use field_table::Field;
 use reduce_step::{Differs, Finish, Footprint, Record, Step};
 use std::alloc::{AllocError as NoMemory, Global};
@@ -45,6 +45,20 @@ fn footprint(
     Footprint::copy(alloc, b, x, y)
 }
 
+/// What becomes of a footprint of scalars of the field.
+fn finished<F: Scalars>(
+    rt: &impl Abort,
+    alloc: Global,
+    f: &F,
+    foot: Footprint,
+) -> Result<Finish<F>, NoMemory> {
+    assert!(rt; foot.is_over(f));
+    match foot.finish(alloc, f) {
+        Ok(finish) => Ok(finish),
+        Err((_, fault)) => Err(fault),
+    }
+}
+
 fn made(rt: &impl Abort, finish: Finish<Field>) -> Record<Field> {
     match finish {
         Finish::Made(record) => record,
@@ -61,20 +75,19 @@ fn record(
     y: u32,
 ) -> Result<Record<Field>, NoMemory> {
     let foot = footprint(rt, alloc, b, x, y)?;
-    assert!(rt; foot.is_over(&Field::Three));
-    match foot.finish(alloc, &Field::Three) {
-        Ok(finish) => Ok(made(rt, finish)),
-        Err((_, fault)) => Err(fault),
-    }
+    let finish = finished(rt, alloc, &Field::Three, foot)?;
+    Ok(made(rt, finish))
 }
 
 /// Applies a record that fits.
 fn apply(rt: &impl Abort, b: &mut Blocks, record: Record<Field>) -> Result<Step, NoMemory> {
     assert!(rt; b.is_over(&record.f));
-    assert!(rt; record.fits(b).is_ok());
-    match record.apply(b) {
-        Ok(step) => Ok(step),
-        Err((_, fault)) => Err(fault),
+    match record.fits(b) {
+        Ok(()) => match record.apply(b) {
+            Ok(step) => Ok(step),
+            Err((_, fault)) => Err(fault),
+        },
+        Err(_) => panic!(rt; "another block"),
     }
 }
 
@@ -122,8 +135,7 @@ fn finds_a_singular_pivot(rt: HostRuntime) -> Result<(), NoMemory> {
     let mut b = cells(&rt, rt.alloc(), &[(0, 0, 2), (1, 1, 2)])?;
     put(&rt, rt.alloc(), &mut b, (0, 1), 2, &[1, 1, 1, 1])?;
     let foot = footprint(&rt, rt.alloc(), &b, 0, 1)?;
-    assert!(rt; foot.is_over(&Two));
-    let finish = foot.finish(rt.alloc(), &Two).ok().expect(&rt, "memory");
+    let finish = finished(&rt, rt.alloc(), &Two, foot)?;
     assert!(rt; is_singular(&finish, &[1, 1]));
     Ok(())
 }
@@ -147,11 +159,19 @@ fn differs(rt: &impl Abort, alloc: Global, entry: Entry) -> Result<Option<Differ
     Ok(record.fits(&b).err())
 }
 
+/// Whether these are the first pairs that differ.
+fn are_first(rt: &impl Abort, alloc: Global, changes: &[Change]) -> Result<bool, NoMemory> {
+    for (entry, first) in changes {
+        if differs(rt, alloc, *entry)? != *first {
+            return Ok(false);
+        }
+    }
+    Ok(true)
+}
+
 #[test]
 fn finds_the_block_that_changed(rt: HostRuntime) -> Result<(), NoMemory> {
-    for (entry, first) in CHANGES {
-        assert!(rt; differs(&rt, rt.alloc(), entry)? == first);
-    }
+    assert!(rt; are_first(&rt, rt.alloc(), &CHANGES)?);
     Ok(())
 }
 

@@ -98,10 +98,22 @@ fn copies_events(rt: HostRuntime) -> Result<(), NoMemory> {
     Ok(())
 }
 
+fn copies_cause(alloc: Global, cause: &Cause) -> Result<bool, NoMemory> {
+    let copy = cause.copy(alloc)?;
+    are_alike(alloc, cause, &copy)
+}
+
+fn copies_verdict(alloc: Global, verdict: &Verdict) -> Result<bool, NoMemory> {
+    let copy = verdict.copy(alloc)?;
+    are_alike(alloc, verdict, &copy)
+}
+
 #[test]
 fn copies_verdicts(rt: HostRuntime) -> Result<(), NoMemory> {
-    let cause = Cause::Square { s: 6, u: 7 }.copy(rt.alloc())?;
-    let verdict = Verdict::Refused(cause).copy(rt.alloc())?;
+    let cause = Cause::Square { s: 6, u: 7 };
+    assert!(rt; copies_cause(rt.alloc(), &cause)?);
+    let verdict = Verdict::Refused(cause);
+    assert!(rt; copies_verdict(rt.alloc(), &verdict)?);
     assert!(rt; copies_event(rt.alloc(), &Event::Edit { c: 1, verdict })?);
     Ok(())
 }
