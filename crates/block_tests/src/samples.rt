@@ -25,10 +25,8 @@ pub(crate) fn fork(rt: &impl Abort, alloc: Global) -> Result<Blocks, NoMemory>
 
 /// Sets the flag of a block that stands.
 pub(crate) fn flag(rt: &impl Abort, blocks: &mut Blocks, s: u32, t: u32) {
-    match blocks.get(s, t) {
-        Some(_) => blocks.flag(s, t),
-        None => assert!(rt; false),
-    }
+    assert!(rt; blocks.get(s, t).is_some());
+    blocks.flag(s, t);
 }
 
 /// Whether a block of these entries stands there.

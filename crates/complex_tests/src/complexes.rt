@@ -1,8 +1,7 @@
 //! Complexes, worked by hand.
-use cell_complex::FaceFault::{TwiceFace, UnknownCell, WrongDims};
 use cell_complex::Sign::{Minus, Plus};
 use cell_complex::{AddFault, BuildFault, Complex, Face, FaceFault};
-use sample_complexes::TETRAHEDRON;
+use sample_complexes::{Sample, TRIANGLE};
 use std::alloc::Global;
 use std::process::Abort;
 use std::test::Fail;
@@ -18,58 +17,62 @@ pub(crate) fn built(
     Complex::build(alloc, dims, faces)
 }
 
-/// Whether adding the face and building with it refuse it, as the third face of an edge 2.
-fn is_refused(
-    rt: &impl Abort,
-    alloc: Global,
-    face: Face,
-    fault: FaceFault,
-) -> Result<bool, BuildFault> {
-    let first = Face {
+fn sampled(rt: &impl Abort, alloc: Global, sample: &Sample) -> Result<Complex, BuildFault> {
+    built(rt, alloc, sample.dims, sample.faces)
+}
+
+/// Two faces from 0 to 2.
+const TWICE: [Face; 2] = [
+    Face {
         s: 0,
         t: 2,
         sign: Plus,
-    };
-    let second = Face {
-        s: 1,
+    },
+    Face {
+        s: 0,
         t: 2,
         sign: Minus,
+    },
+];
+
+const FAULT: FaceFault = FaceFault::TwiceFace { s: 0, t: 2 };
+
+#[test]
+fn builds_no_face_twice(rt: HostRuntime) {
+    let fault = built(&rt, rt.alloc(), &[0, 0, 1], &TWICE).err();
+    let at = BuildFault::At {
+        face: 1,
+        fault: FAULT,
     };
-    let mut edge = built(rt, alloc, &[0, 0, 1], &[first, second])?;
-    let added = edge.add_face(face);
-    let whole = built(rt, alloc, &[0, 0, 1], &[first, second, face, face]);
-    Ok(
-        added == Err(AddFault::Face(fault))
-            && edge.face_count() == 2
-            && whole.err() == Some(BuildFault::At { face: 2, fault }),
-    )
+    assert!(rt; fault == Some(at));
 }
 
 #[test]
-fn refuses_faces(rt: HostRuntime) -> Result<(), Fail> {
-    let cases = [
-        (0, 3, UnknownCell { id: 3 }),
-        (5, 4, UnknownCell { id: 5 }),
-        (2, 0, WrongDims { s: 2, t: 0 }),
-        (0, 2, TwiceFace { s: 0, t: 2 }),
-    ];
-    for (s, t, fault) in cases {
-        let face = Face { s, t, sign: Plus };
-        assert!(rt; is_refused(&rt, rt.alloc(), face, fault)?, "{s} {t}");
-    }
+fn adds_no_face_twice(rt: HostRuntime) -> Result<(), Fail> {
+    let mut edge = built(&rt, rt.alloc(), &[0, 0, 1], &TWICE[..1])?;
+    assert!(rt; edge.add_face(TWICE[1]) == Err(AddFault::Face(FAULT)));
+    assert!(rt; edge.face_count() == 1);
     Ok(())
+}
+
+/// Whether the complex has this face at the place.
+fn has_face(c: &Complex, place: u32, face: Face) -> bool {
+    place < c.face_count()
+        && c.face_at(place) == face
+        && c.place(face.s, face.t) == Some(place)
+        && c.sign(face.s, face.t) == Some(face.sign)
 }
 
 /// Whether the complex has these faces, each at its place.
 fn has_faces(c: &Complex, faces: &[Face]) -> bool {
     for place in 0..c.face_count() {
-        let face = c.face_at(place);
-        let Face { s, t, sign } = face;
-        if faces.get(place as usize) != Some(&face)
-            || c.place(s, t) != Some(place)
-            || c.sign(s, t) != Some(sign)
-        {
-            return false;
+        match faces.get(place as usize) {
+            Some(face) => {
+                if !has_face(c, place, *face) {
+                    return false;
+                }
+            }
+            None => return false,
         }
     }
     c.face_count() as usize == faces.len()
@@ -89,29 +92,23 @@ fn has_middles(c: &Complex, s: u32, u: u32, first: u32, second: u32) -> bool {
     middles.next() == Some(first) && middles.next() == Some(second) && middles.next().is_none()
 }
 
+/// Whether the copy of the sample's complex has its cells and faces.
+fn is_copied(rt: &impl Abort, alloc: Global, sample: &Sample) -> Result<bool, Fail> {
+    let c = sampled(rt, alloc, sample)?;
+    let copy = c.copy(alloc)?;
+    Ok(copy.dims() == sample.dims && has_faces(&copy, sample.faces))
+}
+
 #[test]
-fn tells_the_faces_of_a_tetrahedron(rt: HostRuntime) -> Result<(), Fail> {
-    let c = built(&rt, rt.alloc(), TETRAHEDRON.dims, TETRAHEDRON.faces)?.copy(rt.alloc())?;
-    assert!(rt; c.dims() == TETRAHEDRON.dims && has_faces(&c, TETRAHEDRON.faces));
-    assert!(rt; c.sign(4, 0).is_none() && c.place(9, 10).is_none());
-    assert!(rt; has_neighbours(&c, 2, &[], &[5, 7, 9]));
-    assert!(rt; has_neighbours(&c, 9, &[2, 3], &[12, 13]));
-    assert!(rt; has_neighbours(&c, 10, &[4, 5, 7], &[]));
-    assert!(rt; has_middles(&c, 0, 10, 4, 5));
-    assert!(rt; has_middles(&c, 1, 13, 7, 8));
-    assert!(rt; has_middles(&c, 3, 12, 6, 9));
+fn copies_a_triangle(rt: HostRuntime) -> Result<(), Fail> {
+    assert!(rt; is_copied(&rt, rt.alloc(), &TRIANGLE)?);
     Ok(())
 }
 
 #[test]
-fn bounds_cells(rt: HostRuntime) -> Result<(), Fail> {
-    let most = vec![in rt.alloc(); 0u8; 4096]?;
-    let more = vec![in rt.alloc(); 0u8; 4097]?;
-    assert!(rt; Complex::fits(&most) && !Complex::fits(&more));
-    assert!(rt; Complex::fits(&[15]) && !Complex::fits(&[16]));
-    assert_eq!(rt;
-        Complex::of_cells(rt.alloc(), &most)?.dims(),
-        most.as_slice()
-    );
+fn tells_the_neighbours_in_a_triangle(rt: HostRuntime) -> Result<(), Fail> {
+    let c = sampled(&rt, rt.alloc(), &TRIANGLE)?;
+    assert!(rt; has_neighbours(&c, 4, &[0, 2], &[6]));
+    assert!(rt; has_middles(&c, 1, 6, 3, 5));
     Ok(())
 }

@@ -3,82 +3,58 @@ use io_edge::{
     Failed, MemSink, MemSource, ReadAll, Sink, Source, StdSink, StdSource, WriteFault, read_all,
     write_all,
 };
-use std::alloc::Global;
+use std::alloc::{AllocError as NoMemory, Global};
 use std::io;
 use std::io::{ErrorKind, Read};
 use std::process::Abort;
-use std::test::Fail;
 
 const LETTERS: &[u8] = b"abcdefghijklmnopqrstuvwxy";
 
-#[test]
-fn a_source_in_memory_gives_its_bytes_in_steps(rt: HostRuntime) -> Result<(), Fail> {
-    let mut source = MemSource::new(rt.alloc(), LETTERS, 10, [2].as_slice())?;
+/// Reads at most 16 bytes; gives how many, and the first.
+fn step(source: &mut MemSource) -> (Result<usize, Failed>, u8) {
     let mut buffer = [0; 16];
-    for (answer, bytes, faults) in [
-        (Ok(10), b"abcdefghij".as_slice(), 0),
-        (Err(Failed), b"abcdefghij".as_slice(), 1),
-        (Ok(10), b"klmnopqrst".as_slice(), 1),
-        (Ok(5), b"uvwxy".as_slice(), 1),
-        (Ok(0), b"".as_slice(), 1),
-    ] {
-        assert_eq!(rt; source.read(&mut buffer), answer);
-        assert!(rt; buffer.starts_with(bytes));
-        assert_eq!(rt; source.faults(), faults);
-    }
+    let answer = source.read(&mut buffer);
+    (answer, buffer[0])
+}
+
+#[test]
+fn a_source_in_memory_gives_its_bytes_in_steps(rt: HostRuntime) -> Result<(), NoMemory> {
+    let mut source = MemSource::new(rt.alloc(), LETTERS, 10, &[2])?;
+    assert!(rt; step(&mut source) == (Ok(10), b'a'));
+    assert!(rt; step(&mut source) == (Err(Failed), 0));
+    assert!(rt; step(&mut source) == (Ok(10), b'k'));
+    assert!(rt; source.faults() == 1);
     Ok(())
 }
 
-/// What reading answers up to the limit, and how many bytes a second reading finds left.
+/// What reading answers up to the limit.
 fn reading(
     rt: &impl Abort,
     alloc: Global,
     limit: usize,
     failing: &[u64],
-) -> Result<(Result<usize, ReadAll>, usize), Fail> {
+) -> Result<Result<usize, ReadAll>, NoMemory> {
     assert!(rt; limit < 100);
     let mut source = MemSource::new(alloc, LETTERS, 10, failing)?;
-    let first = read_all(alloc, &mut source, limit).map(|all| all.len());
-    Ok((first, read_all(alloc, &mut source, 25)?.len()))
+    Ok(read_all(alloc, &mut source, limit).map(|all| all.len()))
 }
 
 #[test]
-fn read_all_stops_one_byte_over_the_limit(rt: HostRuntime) -> Result<(), Fail> {
-    let alloc = rt.alloc();
-    for (limit, first, left) in [
-        (30, Ok(25), 0),
-        (25, Ok(25), 0),
-        (24, Err(ReadAll::TooLong), 0),
-        (20, Err(ReadAll::TooLong), 4),
-        (0, Err(ReadAll::TooLong), 24),
-    ] {
-        assert_eq!(rt; reading(&rt, alloc, limit, &[])?, (first, left));
-    }
-    assert_eq!(rt;
-        reading(&rt, alloc, 30, &[2])?,
-        (Err(ReadAll::ReadFault), 15)
-    );
+fn read_all_stops_over_the_limit(rt: HostRuntime) -> Result<(), NoMemory> {
+    assert!(rt; reading(&rt, rt.alloc(), 25, &[])? == Ok(25));
+    assert!(rt; reading(&rt, rt.alloc(), 24, &[])? == Err(ReadAll::TooLong));
+    assert!(rt; reading(&rt, rt.alloc(), 30, &[2])? == Err(ReadAll::ReadFault));
     Ok(())
 }
 
 #[test]
-fn a_sink_in_memory_takes_what_it_has_room_for(rt: HostRuntime) -> Result<(), Fail> {
-    let mut sink = MemSink::new(rt.alloc(), 8, 3, [2].as_slice())?;
-    for (bytes, answer, taken, faults) in [
-        (b"abcde".as_slice(), Err(WriteFault), b"abc".as_slice(), 1),
-        (b"de".as_slice(), Ok(()), b"abcde".as_slice(), 1),
-        (
-            b"fghij".as_slice(),
-            Err(WriteFault),
-            b"abcdefgh".as_slice(),
-            2,
-        ),
-    ] {
-        assert_eq!(rt; write_all(&mut sink, bytes), answer);
-        assert_eq!(rt; sink.taken(), taken);
-        assert_eq!(rt; sink.faults(), faults);
-        assert_eq!(rt; sink.flush(), Ok(()));
-    }
+fn a_sink_in_memory_takes_what_it_has_room_for(rt: HostRuntime) -> Result<(), NoMemory> {
+    let mut sink = MemSink::new(rt.alloc(), 8, 3, &[2])?;
+    assert!(rt; write_all(&mut sink, b"abcde") == Err(WriteFault));
+    assert!(rt; write_all(&mut sink, b"de") == Ok(()));
+    assert!(rt; sink.taken() == b"abcde".as_slice() && sink.faults() == 1);
+    assert!(rt; write_all(&mut sink, b"fghij") == Err(WriteFault));
+    assert!(rt; sink.flush() == Ok(()));
     Ok(())
 }
 
@@ -93,16 +69,18 @@ impl Read for Broken {
 }
 
 #[test]
-fn calls_over_std_count_errors(rt: HostRuntime) -> Result<(), Fail> {
-    let alloc = rt.alloc();
+fn reading_over_std_counts_errors(rt: HostRuntime) {
     let mut source = StdSource::new(b"cells".as_slice().chain(Broken));
-    let answer = read_all(alloc, &mut source, 5).err();
-    assert_eq!(rt; answer, Some(ReadAll::ReadFault));
-    assert_eq!(rt; source.faults(), 1);
+    let fault = read_all(rt.alloc(), &mut source, 5).err();
+    assert!(rt; fault == Some(ReadAll::ReadFault));
+    assert!(rt; source.faults() == 1);
+}
+
+#[test]
+fn writing_over_std_counts_errors(rt: HostRuntime) {
     // A slice takes what fits, and then nothing.
     let mut room = [0; 4];
     let mut sink = StdSink::new(room.as_mut_slice());
-    assert_eq!(rt; write_all(&mut sink, b"cells"), Err(WriteFault));
-    assert_eq!(rt; sink.faults(), 1);
-    Ok(())
+    assert!(rt; write_all(&mut sink, b"cells") == Err(WriteFault));
+    assert!(rt; sink.faults() == 1);
 }

@@ -1,4 +1,4 @@
-//! Vectors that solve, inverses and kernels.
+//! Vectors that solve, inverses and kernels, over the field of five elements.
 ghost use Rattle.std.specs.Prelude.{◌≡◌, All, IfOk, length};
 ghost use Rattle.dense_blocks.specs.Vectors.{AllScalars};
 
@@ -28,95 +28,58 @@ fn columns_of<F: Scalars>(
 }
 
 // Whether the columns combine to the vector, and the coefficients.
-fn solution<F: Scalars>(
+fn solution(
     rt: &impl Abort,
     alloc: Global,
-    f: &F,
     rows: &[&[u8]],
     v: &[u8],
 ) -> Result<(bool, Vec<u8>), NoMemory> {
-    assert!(rt; all_scalars(f, v));
-    let columns = columns_of(rt, alloc, f, v.len(), rows)?;
-    match solve(alloc, f, columns.as_slice(), v)? {
+    let f = Field::Five;
+    assert!(rt; all_scalars(&f, v));
+    let columns = columns_of(rt, alloc, &f, v.len(), rows)?;
+    match solve(alloc, &f, columns.as_slice(), v)? {
         Solution::Combination(coefficients) => Ok((true, coefficients)),
         Solution::Apart(functional) => Ok((false, functional)),
     }
 }
 
-// Over the field of five elements: the columns, the vector, whether it is a combination of them, and the coefficients.
-const EQUATIONS: [(&[&[u8]], &[u8], bool, &[u8]); 8] = [
-    (&[&[1, 2], &[0, 1]], &[3, 0], true, &[3, 4]),
-    (&[&[1, 2], &[2, 4]], &[0, 1], false, &[3, 1]),
-    // Columns that earlier ones give have the coefficient 0.
-    (&[&[1, 2], &[2, 4]], &[3, 1], true, &[3, 0]),
-    (&[&[0, 0], &[0, 0]], &[0, 4], false, &[0, 4]),
-    (&[&[3, 1], &[1, 1]], &[0, 0], true, &[0, 0]),
-    // So have rows that earlier ones give.
-    (&[&[1, 1, 1]], &[0, 0, 1], false, &[4, 0, 1]),
-    // No columns, and no coordinates.
-    (&[], &[1, 1], false, &[1, 0]),
-    (&[&[], &[]], &[], true, &[0, 0]),
-];
-
 #[test]
 fn solves(rt: HostRuntime) -> Result<(), NoMemory> {
-    for (rows, v, found, want) in EQUATIONS {
-        let (is_combination, answer) = solution(&rt, rt.alloc(), &Field::Five, rows, v)?;
-        assert_eq!(rt; is_combination, found, "{v:?}");
-        assert_eq!(rt; answer.as_slice(), want, "{v:?}");
-    }
+    let (found, answer) = solution(&rt, rt.alloc(), &[&[1, 2], &[2, 4]], &[3, 1])?;
+    // A column that an earlier one gives has the coefficient 0.
+    assert!(rt; found && answer.as_slice() == [3, 0].as_slice());
     Ok(())
 }
 
-// Whether the inverse, or the vector in the kernel, of a square block is this one.
-fn inverts_to<F: Scalars>(
-    rt: &impl Abort,
-    alloc: Global,
-    f: &F,
-    size: u32,
-    (entries, invertible, want): (&[u8], bool, &[u8]),
-) -> Result<bool, NoMemory> {
-    let a = block(rt, alloc, f, (size, size), entries)?;
-    match invert(alloc, f, &a)? {
-        Inverse::Both(inverse) => Ok(invertible && inverse.entries.as_slice() == want),
-        Inverse::Singular(vector) => Ok(!invertible && vector.as_slice() == want),
+#[test]
+fn tells_apart(rt: HostRuntime) -> Result<(), NoMemory> {
+    let (found, answer) = solution(&rt, rt.alloc(), &[&[1, 1, 1]], &[0, 0, 1])?;
+    // A row that earlier ones give has the coefficient 0.
+    assert!(rt; !found && answer.as_slice() == [4, 0, 1].as_slice());
+    Ok(())
+}
+
+// Whether a block of two rows has an inverse, and it or the vector in the kernel.
+fn inverted(rt: &impl Abort, alloc: Global, entries: &[u8]) -> Result<(bool, Vec<u8>), NoMemory> {
+    let f = Field::Five;
+    let a = block(rt, alloc, &f, (2, 2), entries)?;
+    match invert(alloc, &f, &a)? {
+        Inverse::Both(b) => Ok((true, Vec::from_slice(alloc, b.entries.as_slice())?)),
+        Inverse::Singular(vector) => Ok((false, vector)),
     }
 }
 
-// The field, the number of rows, the entries, whether there is an inverse, and it or the vector in the kernel.
-const SQUARES: [(Field, u32, (&[u8], bool, &[u8])); 9] = [
-    (Field::Two, 0, (&[], true, &[])),
-    (Field::Five, 1, (&[3], true, &[2])),
-    (Field::Two, 1, (&[0], false, &[1])),
-    (Field::Three, 2, (&[1, 2, 2, 2], true, &[2, 1, 1, 1])),
-    (Field::Two, 2, (&[0, 1, 0, 1], false, &[1, 0])),
-    (Field::Five, 2, (&[1, 2, 2, 4], false, &[3, 1])),
-    // The first entry is 0, and a row below helps.
-    (Field::Five, 2, (&[0, 2, 3, 0], true, &[0, 2, 3, 0])),
-    // The inverse of a permutation is its transpose.
-    (
-        Field::Two,
-        3,
-        (
-            &[0, 0, 1, 1, 0, 0, 0, 1, 0],
-            true,
-            &[0, 1, 0, 0, 0, 1, 1, 0, 0],
-        ),
-    ),
-    (
-        Field::Two,
-        3,
-        (&[1, 1, 0, 0, 1, 1, 1, 0, 1], false, &[1, 1, 1]),
-    ),
-];
-
 #[test]
 fn inverts(rt: HostRuntime) -> Result<(), NoMemory> {
-    for (f, size, case) in SQUARES {
-        assert!(rt;
-            inverts_to(&rt, rt.alloc(), &f, size, case)?,
-            "{f:?} {size}"
-        );
-    }
+    // The first entry is 0, and a row below helps.
+    let (found, inverse) = inverted(&rt, rt.alloc(), &[0, 2, 3, 0])?;
+    assert!(rt; found && inverse.as_slice() == [0, 2, 3, 0].as_slice());
+    Ok(())
+}
+
+#[test]
+fn finds_a_kernel(rt: HostRuntime) -> Result<(), NoMemory> {
+    let (found, vector) = inverted(&rt, rt.alloc(), &[1, 2, 2, 4])?;
+    assert!(rt; !found && vector.as_slice() == [3, 1].as_slice());
     Ok(())
 }

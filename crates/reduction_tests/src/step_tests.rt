@@ -1,16 +1,37 @@
 //! Steps of the reduction of the circle, worked by hand over the field of three elements: minus is 2.
-//!
-//! Its edges 3, 4 and 5 go from 0 to 1, from 1 to 2 and from 0 to 2: to each goes 2 from its first vertex, and 1 from
-//! its second.
-use crate::samples::{Row, constant, has_rows};
+use crate::samples::{Entry, cells, has_all, put, put_all};
 use block_sparse::Blocks;
-use dense_blocks::{Block, Two};
+use dense_blocks::{Scalars, Two};
 use field_table::Field;
 use reduce_step::{Differs, Finish, Footprint, Record, Step};
-use sample_complexes::CIRCLE;
 use std::alloc::{AllocError as NoMemory, Global};
 use std::process::Abort;
-use std::test::Fail;
+
+/// The vertices 0, 1 and 2, and the edges 3, 4 and 5.
+const CELLS: [(u32, u8, u8); 6] = [
+    (0, 0, 1),
+    (1, 0, 1),
+    (2, 0, 1),
+    (3, 1, 1),
+    (4, 1, 1),
+    (5, 1, 1),
+];
+
+/// The edges go from 0 to 1, from 1 to 2 and from 0 to 2: 2 stands at the first vertex, and 1 at the second.
+const ENTRIES: [Entry; 6] = [
+    (0, 3, 2),
+    (1, 3, 1),
+    (1, 4, 2),
+    (2, 4, 1),
+    (0, 5, 2),
+    (2, 5, 1),
+];
+
+fn circle(rt: &impl Abort, alloc: Global) -> Result<Blocks, NoMemory> {
+    let mut b = cells(rt, alloc, &CELLS)?;
+    put_all(rt, alloc, &mut b, &ENTRIES)?;
+    Ok(b)
+}
 
 /// The footprint of a pair where a square block stands.
 fn footprint(
@@ -24,6 +45,27 @@ fn footprint(
     Footprint::copy(alloc, b, x, y)
 }
 
+/// What becomes of a footprint of scalars of the field.
+fn finished<F: Scalars>(
+    rt: &impl Abort,
+    alloc: Global,
+    f: &F,
+    foot: Footprint,
+) -> Result<Finish<F>, NoMemory> {
+    assert!(rt; foot.is_over(f));
+    match foot.finish(alloc, f) {
+        Ok(finish) => Ok(finish),
+        Err((_, fault)) => Err(fault),
+    }
+}
+
+fn made(rt: &impl Abort, finish: Finish<Field>) -> Record<Field> {
+    match finish {
+        Finish::Made(record) => record,
+        Finish::Singular { .. } => panic!(rt; "no inverse"),
+    }
+}
+
 /// The record of a pair where a block stands that has an inverse.
 fn record(
     rt: &impl Abort,
@@ -33,12 +75,8 @@ fn record(
     y: u32,
 ) -> Result<Record<Field>, NoMemory> {
     let foot = footprint(rt, alloc, b, x, y)?;
-    assert!(rt; foot.is_over(&Field::Three));
-    match foot.finish(alloc, &Field::Three) {
-        Ok(Finish::Made(record)) => Ok(record),
-        Ok(Finish::Singular { .. }) => panic!(rt; "no inverse"),
-        Err((_, fault)) => Err(fault),
-    }
+    let finish = finished(rt, alloc, &Field::Three, foot)?;
+    Ok(made(rt, finish))
 }
 
 /// Applies a record that fits.
@@ -69,49 +107,17 @@ fn is_first_step(step: &Step) -> bool {
 }
 
 /// What the removal of (0, 3) leaves: from 1 to 5 goes 0 - 2 * 2 * 1, which is 2.
-const FIRST_ROWS: [Row; 2] = [(4, &[1, 2], &[2, 1]), (5, &[1, 2], &[2, 1])];
+const LEFT: [Entry; 4] = [(1, 4, 2), (2, 4, 1), (1, 5, 2), (2, 5, 1)];
 
 #[test]
-fn removes_pairs_of_the_circle(rt: HostRuntime) -> Result<(), Fail> {
-    let alloc = rt.alloc();
-    let mut b = constant(&rt, alloc, &CIRCLE)?;
-    let first = record(&rt, alloc, &b, 0, 3)?;
-    assert!(rt; is_first(&first.foot));
-    let step = apply(&rt, &mut b, first)?;
-    assert!(rt; is_first_step(&step) && has_rows(&b, &FIRST_ROWS));
-    // From 2 to 5 goes 1 - 2 * 2 * 1, which is 0.
-    let second = record(&rt, alloc, &b, 1, 4)?;
-    apply(&rt, &mut b, second)?;
-    assert!(rt; b.live() == [(2, 0, 1), (5, 1, 1)].as_slice());
-    assert!(rt; b.row(5).is_empty());
+fn removes_a_pair_of_the_circle(rt: HostRuntime) -> Result<(), NoMemory> {
+    let mut b = circle(&rt, rt.alloc())?;
+    let record = record(&rt, rt.alloc(), &b, 0, 3)?;
+    assert!(rt; is_first(&record.foot));
+    let step = apply(&rt, &mut b, record)?;
+    assert!(rt; is_first_step(&step));
+    assert!(rt; b.live().len() == 4 && has_all(&b, &LEFT));
     Ok(())
-}
-
-/// Puts a block of n rows and columns.
-fn put(
-    rt: &impl Abort,
-    alloc: Global,
-    b: &mut Blocks,
-    pair: (u32, u32),
-    n: u32,
-    entries: &[u8],
-) -> Result<(), NoMemory> {
-    assert!(rt; Block::fits(n, n, entries.len()));
-    let block = Block::of(alloc, n, n, entries)?;
-    assert!(rt; b.fits(pair.0, pair.1, &block));
-    match b.set(pair.0, pair.1, block) {
-        Ok(()) => Ok(()),
-        Err((_, fault)) => Err(fault),
-    }
-}
-
-/// A block of four ones from 0 to 1, and no other cells.
-fn ones(rt: &impl Abort, alloc: Global) -> Result<Blocks, NoMemory> {
-    let live = [(0, 0, 2), (1, 1, 2)];
-    assert!(rt; Blocks::may_live(&live));
-    let mut b = Blocks::of_cells(alloc, &live)?;
-    put(rt, alloc, &mut b, (0, 1), 2, &[1, 1, 1, 1])?;
-    Ok(b)
 }
 
 /// Whether the pivot from 0 to 1 has no inverse, and sends this vector to zero.
@@ -125,83 +131,55 @@ fn is_singular(finish: &Finish<Two>, vector: &[u8]) -> bool {
 }
 
 #[test]
-fn finds_a_singular_pivot(rt: HostRuntime) -> Result<(), Fail> {
-    let alloc = rt.alloc();
-    let b = ones(&rt, alloc)?;
-    let foot = footprint(&rt, alloc, &b, 0, 1)?;
-    assert!(rt; foot.is_over(&Two));
-    let finish = foot.finish(alloc, &Two).ok().expect(&rt, "memory");
+fn finds_a_singular_pivot(rt: HostRuntime) -> Result<(), NoMemory> {
+    let mut b = cells(&rt, rt.alloc(), &[(0, 0, 2), (1, 1, 2)])?;
+    put(&rt, rt.alloc(), &mut b, (0, 1), 2, &[1, 1, 1, 1])?;
+    let foot = footprint(&rt, rt.alloc(), &b, 0, 1)?;
+    let finish = finished(&rt, rt.alloc(), &Two, foot)?;
     assert!(rt; is_singular(&finish, &[1, 1]));
     Ok(())
 }
 
-/// Whether the record of (1, 4) fits, or differs first at the pair.
-fn answers(record: &Record<Field>, b: &Blocks, pair: Option<(u32, u32)>) -> bool {
-    match record.fits(b) {
-        Ok(()) => pair.is_none(),
-        Err(Differs { s, t }) => pair == Some((s, t)),
-    }
-}
-
 /// An entry put at a pair, and the first pair that differs then.
-type Change = ((u32, u32), u8, Option<(u32, u32)>);
+type Change = (Entry, Option<Differs>);
 
-/// The record of (1, 4) has 2 on the left and 3 below.
-const CHANGES: [Change; 8] = [
-    // A block that does not matter; the pivot, the row, the column.
-    ((0, 3), 0, None),
-    ((1, 4), 0, Some((1, 4))),
-    ((2, 4), 0, Some((2, 4))),
-    ((1, 3), 0, Some((1, 3))),
-    // A corner gains a block, then the row of 4, then the column of 1.
-    ((2, 3), 1, Some((2, 3))),
-    ((0, 4), 1, Some((0, 4))),
-    ((1, 5), 1, Some((1, 5))),
-    ((0, 5), 0, None),
+/// The record of (1, 4) has 2 on the left and 3 below: nothing of it changes; its pivot; a corner; a cell is new.
+const CHANGES: [Change; 4] = [
+    ((0, 5, 0), None),
+    ((1, 4, 0), Some(Differs { s: 1, t: 4 })),
+    ((2, 3, 1), Some(Differs { s: 2, t: 3 })),
+    ((0, 4, 1), Some(Differs { s: 0, t: 4 })),
 ];
 
-fn change(rt: &impl Abort, alloc: Global, change: &Change) -> Result<bool, Fail> {
-    let mut b = constant(rt, alloc, &CIRCLE)?;
+/// The first pair that differs from the record of (1, 4) once the entry is put.
+fn differs(rt: &impl Abort, alloc: Global, entry: Entry) -> Result<Option<Differs>, NoMemory> {
+    let mut b = circle(rt, alloc)?;
     let record = record(rt, alloc, &b, 1, 4)?;
-    put(rt, alloc, &mut b, change.0, 1, &[change.1])?;
-    Ok(answers(&record, &b, change.2))
+    put(rt, alloc, &mut b, (entry.0, entry.1), 1, &[entry.2])?;
+    Ok(record.fits(&b).err())
 }
 
-fn change_all(rt: &impl Abort, alloc: Global, changes: &[Change]) -> Result<(), Fail> {
-    for c in changes {
-        assert!(rt; change(rt, alloc, c)?);
+/// Whether these are the first pairs that differ.
+fn are_first(rt: &impl Abort, alloc: Global, changes: &[Change]) -> Result<bool, NoMemory> {
+    for (entry, first) in changes {
+        if differs(rt, alloc, *entry)? != *first {
+            return Ok(false);
+        }
     }
+    Ok(true)
+}
+
+#[test]
+fn finds_the_block_that_changed(rt: HostRuntime) -> Result<(), NoMemory> {
+    assert!(rt; are_first(&rt, rt.alloc(), &CHANGES)?);
     Ok(())
 }
 
 #[test]
-fn finds_the_block_that_changed(rt: HostRuntime) -> Result<(), Fail> {
-    change_all(&rt, rt.alloc(), &CHANGES)
-}
-
-/// A cell that goes, and the first pair that differs then.
-const GONE: [(u32, Option<(u32, u32)>); 4] = [
-    (0, None),
-    (2, Some((2, 3))),
-    (3, Some((1, 3))),
-    (4, Some((1, 4))),
-];
-
-fn take_all(
-    rt: &impl Abort,
-    alloc: Global,
-    gone: &[(u32, Option<(u32, u32)>)],
-) -> Result<(), Fail> {
-    for c in gone {
-        let mut b = constant(rt, alloc, &CIRCLE)?;
-        let record = record(rt, alloc, &b, 1, 4)?;
-        b.remove_cell(c.0);
-        assert!(rt; answers(&record, &b, c.1));
-    }
+fn finds_the_cell_that_is_gone(rt: HostRuntime) -> Result<(), NoMemory> {
+    let mut b = circle(&rt, rt.alloc())?;
+    let record = record(&rt, rt.alloc(), &b, 1, 4)?;
+    b.remove_cell(2);
+    assert!(rt; record.fits(&b) == Err(Differs { s: 2, t: 3 }));
     Ok(())
-}
-
-#[test]
-fn finds_the_cell_that_is_gone(rt: HostRuntime) -> Result<(), Fail> {
-    take_all(&rt, rt.alloc(), &GONE)
 }

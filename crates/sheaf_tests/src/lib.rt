@@ -1,8 +1,6 @@
-//! Tests of sheaves, of their edits, and of the texts of inputs and events.
+//! Tests of sheaves, of words, and of the texts of inputs and events: of what no row runs.
 #![tactic(auto)]
 
-#[cfg(test)]
-mod edits;
 #[cfg(test)]
 mod events;
 #[cfg(test)]

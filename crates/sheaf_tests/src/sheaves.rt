@@ -1,78 +1,66 @@
-//! Drafts and sheaves over the triangle with its inside; the entries and the faults are worked by hand.
-use cell_complex::Complex;
-use dense_blocks::{Block, Two};
-use sample_complexes::{Sample, TRIANGLE};
-use sheaf_data::{Draft, SealFault, Sheaf, stalks_fit};
+//! Drafts and sheaves are copied.
+use cell_complex::Sign::{Minus, Plus};
+use cell_complex::{Complex, Face, Sign};
+use dense_blocks::Two;
+use sheaf_data::{Draft, Sheaf, stalks_fit};
 use std::alloc::{AllocError as NoMemory, Global};
 use std::process::Abort;
 use std::test::Fail;
 
-fn put(
+/// The draft with these cells, faces and stalks; each restriction is zero.
+fn zero(
     rt: &impl Abort,
     alloc: Global,
-    draft: &mut Draft<Two>,
-    place: u32,
-    entry: u8,
-) -> Result<(), NoMemory> {
-    let block = Block::of(alloc, 1, 1, &[entry])?;
-    assert!(rt; draft.takes(place, &block));
-    draft.put(place, block);
-    Ok(())
-}
-
-/// The draft with a 1 for each restriction, where each stalk has one coordinate.
-pub fn draft(
-    rt: &impl Abort,
-    alloc: Global,
-    sample: &Sample,
+    dims: &[u8],
+    faces: &[Face],
     stalks: &[u8],
 ) -> Result<Draft<Two>, Fail> {
-    assert!(rt; Complex::fits(sample.dims));
-    let complex = Complex::build(alloc, sample.dims, sample.faces)?;
-    let count = complex.face_count();
+    assert!(rt; Complex::fits(dims));
+    let complex = Complex::build(alloc, dims, faces)?;
     assert!(rt; stalks_fit(complex.dims(), stalks));
-    let mut draft = Draft::new(alloc, complex, Two, stalks)?;
-    for place in 0..count {
-        put(rt, alloc, &mut draft, place, 1)?;
-    }
-    Ok(draft)
+    Ok(Draft::new(alloc, complex, Two, stalks)?)
 }
 
-fn fault(draft: Draft<Two>) -> Option<SealFault> {
-    draft.seal().err().map(|(_, fault)| fault)
+fn face(s: u32, t: u32, sign: Sign) -> Face {
+    Face { s, t, sign }
 }
 
-/// How many restrictions are 1.
-pub fn ones(draft: &Draft<Two>) -> usize {
-    let blocks = draft.blocks.as_slice();
-    blocks
-        .iter()
-        .filter(|b| b.entries.as_slice() == [1].as_slice())
-        .count()
+/// The draft over the edge 2 between the vertices 0 and 1.
+fn edge(rt: &impl Abort, alloc: Global) -> Result<Draft<Two>, Fail> {
+    let faces = [face(0, 2, Minus), face(1, 2, Plus)];
+    zero(rt, alloc, &[0, 0, 1], &faces, &[1, 2, 3])
+}
+
+fn is_edge(draft: &Draft<Two>) -> bool {
+    draft.complex.dims() == [0, 0, 1].as_slice()
+        && draft.stalks.as_slice() == [1, 2, 3].as_slice()
+        && draft.blocks.as_slice().len() == 2
 }
 
 #[test]
-fn drafts_and_sheaves_are_copied(rt: HostRuntime) -> Result<(), Fail> {
-    let alloc = rt.alloc();
-    let draft = draft(&rt, alloc, &TRIANGLE, &[1; 7])?;
-    let copy = draft.copy(alloc)?;
-    let sheaf: Sheaf<Two> = draft.seal().ok().expect(&rt, "squares of ones commute");
-    let twin = sheaf.copy(alloc)?;
-    for draft in [&copy, sheaf.draft(), twin.draft()] {
-        assert_eq!(rt; ones(draft), 9);
-        assert_eq!(rt; draft.stalks.as_slice(), [1; 7].as_slice());
-        assert_eq!(rt; draft.complex.dims(), TRIANGLE.dims);
-    }
+fn copies_drafts(rt: HostRuntime) -> Result<(), Fail> {
+    let draft = edge(&rt, rt.alloc())?;
+    let copy = draft.copy(rt.alloc())?;
+    assert!(rt; is_edge(&copy));
     Ok(())
 }
 
-#[test]
-fn a_zero_in_a_square_is_a_fault(rt: HostRuntime) -> Result<(), Fail> {
-    // The face at the place 1 goes from the vertex 1, that at the place 6 from the edge 01 to the inside.
-    for (place, s) in [(1, 1), (6, 0)] {
-        let mut draft = draft(&rt, rt.alloc(), &TRIANGLE, &[1; 7])?;
-        put(&rt, rt.alloc(), &mut draft, place, 0)?;
-        assert_eq!(rt; fault(draft), Some(SealFault::Noncommuting { s, u: 6 }));
+fn sealed(draft: Draft<Two>) -> Option<Sheaf<Two>> {
+    match draft.seal() {
+        Ok(sheaf) => Some(sheaf),
+        Err(_) => None,
     }
+}
+
+fn is_copied(alloc: Global, sheaf: &Sheaf<Two>) -> Result<bool, NoMemory> {
+    let copy = sheaf.copy(alloc)?;
+    Ok(is_edge(copy.draft()))
+}
+
+#[test]
+fn copies_sheaves(rt: HostRuntime) -> Result<(), Fail> {
+    let draft = edge(&rt, rt.alloc())?;
+    let sheaf = sealed(draft).expect(&rt, "no squares");
+    assert!(rt; is_copied(rt.alloc(), &sheaf)?);
     Ok(())
 }
