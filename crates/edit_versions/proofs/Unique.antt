@@ -18,7 +18,8 @@ use Rattle.sheaf_words.specs.declared.edit.Verdict.{Verdict}
 use Rattle.sheaf_words.specs.declared.edit.Verdict.TheVariants.{Accepted, Refused}
 use Rattle.edit_versions.specs.declared.fault.EditFault.{EditFault}
 use Rattle.edit_versions.specs.declared.fault.EditFault.TheVariants.{Refused as refused, NoMemory}
-use Rattle.edit_versions.specs.Edits.{WrittenMatrix, SheafLists, written_matrix, sheaf_lists, sets_made}
+use Rattle.edit_versions.specs.Edits.{SheafLists, sheaf_lists, sets_made}
+use Rattle.dense_blocks.specs.Blocks.{WrittenMatrix, written_matrix}
 use Rattle.edit_versions.specs.Verdicts.{IsSquareVerdict, IsVerdict}
 use Rattle.edit_versions.specs.ListVerdicts.{verdict_on_square, IsListVerdict}
 use Rattle.edit_versions.specs.Faults.{Tells}

@@ -7,20 +7,12 @@ use Rattle.cell_complex.specs.declared.face.Face.{Face}
 use Rattle.cell_complex.specs.Complexes.{CellComplex, joins, is_face}
 use Rattle.dense_blocks.specs.Field.{Ops}
 use Rattle.dense_blocks.specs.Vectors.{zeros}
+use Rattle.dense_blocks.specs.Blocks.{WrittenMatrix, written_matrix}
 use Rattle.dense_blocks.specs.declared.block.Block.{Block}
 use Rattle.sheaf_words.specs.declared.edit.Set.{Set}
 use Rattle.sheaf_words.specs.declared.edit.Set.TheVariants.{Stalk, Restrict}
 use Rattle.sheaf_words.specs.declared.edit.Cause.{Cause}
 use Rattle.sheaf_words.specs.declared.edit.Cause.TheVariants.{NoCell, NoFace, StalkLimit, Shape, Entry}
-
--- a matrix, written row after row
-pub record WrittenMatrix : Type 0 where
-  pub rows : ℕ
-  pub cols : ℕ
-  pub entries : List ℕ
-
-abbrev pub written_matrix : Block → WrittenMatrix
-written_matrix b = record { rows = b.rows; cols = b.cols; entries = b.entries }
 
 -- the stalks and the restrictions of a sheaf, in the order of its cells and of its faces
 pub record SheafLists : Type 0 where

@@ -11,7 +11,8 @@ use Rattle.sheaf_words.specs.declared.edit.Edit.{Edit}
 use Rattle.sheaf_words.specs.declared.edit.Cause.TheVariants.{TotalLimit, Square}
 use Rattle.sheaf_words.specs.declared.edit.Verdict.{Verdict}
 use Rattle.sheaf_words.specs.declared.edit.Verdict.TheVariants.{Accepted, Refused}
-use Rattle.edit_versions.specs.Edits.{WrittenMatrix, written_matrix, sheaf_lists, sets_made}
+use Rattle.edit_versions.specs.Edits.{sheaf_lists, sets_made}
+use Rattle.dense_blocks.specs.Blocks.{WrittenMatrix, written_matrix}
 
 -- the verdict on restrictions: the first of all pairs of cells whose square does not commute, if there is one
 pub record IsSquareVerdict (K : Ops) (c : CellComplex) (matrices : List WrittenMatrix) (v : Verdict) : Type 0 where

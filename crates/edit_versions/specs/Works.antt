@@ -11,7 +11,8 @@ use Rattle.sheaf_data.specs.Sheaves.{AreBlocks}
 use Rattle.sheaf_data.specs.Changes.{AreSameElsewhere}
 use Rattle.sheaf_words.specs.declared.edit.Set.{Set}
 use Rattle.edit_versions.specs.declared.work.Work.{Work}
-use Rattle.edit_versions.specs.Edits.{WrittenMatrix, SheafLists, written_matrix, sheaf_lists, matrix_between, with_set}
+use Rattle.edit_versions.specs.Edits.{SheafLists, sheaf_lists, matrix_between, with_set}
+use Rattle.dense_blocks.specs.Blocks.{WrittenMatrix, written_matrix}
 
 -- what the work stands for
 abbrev pub work_lists : Work → SheafLists

@@ -2,7 +2,7 @@ ghost use Rattle.std.specs.Prelude.{◌≡◌, ◌≤◌, ℕ, length, map, sum,
 ghost use Rattle.sheaf_words.specs.declared.edit.Cause.{Cause};
 ghost use Rattle.sheaf_words.specs.declared.edit.Verdict.{Verdict};
 ghost use Rattle.sheaf_words.specs.declared.edit.Verdict.TheVariants.{Accepted, Refused};
-ghost use Rattle.edit_versions.specs.Edits.{written_matrix};
+ghost use Rattle.dense_blocks.specs.Blocks.{written_matrix};
 ghost use Rattle.edit_versions.specs.Faults.{Tells};
 ghost use Rattle.edit_versions.specs.Verdicts.{IsSquareVerdict, IsVerdict, IsEdited};
 ghost use Rattle.edit_versions.specs.Works.{IsWork, IsTouched};

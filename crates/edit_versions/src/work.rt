@@ -3,7 +3,7 @@ ghost use Rattle.std.specs.Prelude.{IfOk, OnOk};
 ghost use Rattle.cell_complex.specs.Complexes.{joins, is_face, faces_of};
 ghost use Rattle.cell_complex.specs.Invariants.{IsComplex, cofaces_of};
 ghost use Rattle.sheaf_words.specs.declared.edit.Set.TheVariants.{Stalk, Restrict};
-ghost use Rattle.edit_versions.specs.Edits.{written_matrix};
+ghost use Rattle.dense_blocks.specs.Blocks.{written_matrix};
 ghost use Rattle.edit_versions.specs.Works.{Puts, TakesSet, is_from, is_to, zero_at, is_end};
 
 use cell_complex::Complex;

@@ -3,17 +3,17 @@ use Rattle.std.proofs.Common.{◌≡◌, List, [], ◌∷◌, map, refl, ap, ap�
 use Rattle.dense_blocks.specs.declared.block.Block.{Block}
 use Rattle.dense_blocks.proofs.SameBlocks.{same_block}
 use Rattle.field_table.proofs.Known.{order_of-injective}
-use Rattle.sheaf_text.specs.Readings.{Matrix, InputValue, input_value}
-use Rattle.sheaf_text.specs.Forms.{plain_matrix}
+use Rattle.sheaf_text.specs.Readings.{InputValue, input_value}
+use Rattle.dense_blocks.specs.Blocks.{WrittenMatrix, written_matrix}
 use Rattle.sheaf_text.specs.declared.input.Input.{Input}
 
 -- ---- an input is known by its value
 
-matrix_of-injective : (a b : Block) → plain_matrix a ≡ plain_matrix b → a ≡ b
-matrix_of-injective a b e = same_block a b (ap (λ (m : Matrix). m.rows) e) (ap (λ (m : Matrix). m.cols) e)
-    (ap (λ (m : Matrix). m.entries) e)
+matrix_of-injective : (a b : Block) → written_matrix a ≡ written_matrix b → a ≡ b
+matrix_of-injective a b e = same_block a b (ap (λ (m : WrittenMatrix). m.rows) e) (ap (λ (m : WrittenMatrix). m.cols) e)
+    (ap (λ (m : WrittenMatrix). m.entries) e)
 
-matrices-injective : (xs ys : List Block) → map plain_matrix xs ≡ map plain_matrix ys → xs ≡ ys
+matrices-injective : (xs ys : List Block) → map written_matrix xs ≡ map written_matrix ys → xs ≡ ys
 matrices-injective [] [] e = refl
 matrices-injective [] (b ∷ ys) e = absurd cc
 matrices-injective (a ∷ xs) [] e = absurd cc

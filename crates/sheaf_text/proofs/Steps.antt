@@ -12,7 +12,8 @@ use Rattle.sheaf_words.specs.declared.query.Command.{Command}
 use Rattle.sheaf_text.specs.Lines.{word, is_skipped, kind_of}
 use Rattle.sheaf_text.specs.Grammar.{Known, refusal, is_ended}
 use Rattle.sheaf_text.specs.Readings.{Reading, Good, go_on, advance, input_value, reading_at_end}
-use Rattle.sheaf_text.specs.Forms.{content_refusal, refused_reading, known_after, blocks_of, plain_matrix}
+use Rattle.dense_blocks.specs.Blocks.{written_matrix}
+use Rattle.sheaf_text.specs.Forms.{content_refusal, refused_reading, known_after, blocks_of}
 use Rattle.sheaf_text.specs.Answers.{GivesFault}
 use Rattle.sheaf_text.specs.Parts.{IsClosed, IsDraftOf}
 use Rattle.sheaf_text.specs.State.{known_by, AreAtStage, IsSoundState, IsReady, IsFound, TakesKind, TakesLine}
@@ -93,7 +94,7 @@ is_ended-true stages.Ended e = refl
 is_ended-true s e = absurd cc
 
 blocks_of-shapes : (stalks : List ℕ) (faces : List Face) (blocks : List Block) → HaveShapes stalks faces blocks
-    → blocks_of stalks faces (map (λ (b : Block). b.entries) blocks) ≡ map plain_matrix blocks
+    → blocks_of stalks faces (map (λ (b : Block). b.entries) blocks) ≡ map written_matrix blocks
 blocks_of-shapes stalks [] [] h = refl
 blocks_of-shapes stalks [] (b ∷ blocks) h = let n = h.count in absurd (omega arith)
 blocks_of-shapes stalks (f ∷ faces) [] h = let n = h.count in absurd (omega arith)

@@ -10,7 +10,7 @@ use Rattle.cell_complex.specs.declared.face.Face.{Face}
 use Rattle.cell_complex.specs.declared.face.Sign.{Sign}
 use Rattle.cell_complex.specs.declared.face.Sign.TheVariants.{Plus, Minus}
 use Rattle.cell_complex.specs.declared.fault.FaceFault.{FaceFault}
-use Rattle.dense_blocks.specs.declared.block.Block.{Block}
+use Rattle.dense_blocks.specs.Blocks.{WrittenMatrix}
 use Rattle.field_table.specs.Table.{orders}
 use Rattle.sheaf_words.specs.declared.query.Command.{Command}
 use Rattle.sheaf_words.specs.declared.edit.Set.{Set}
@@ -18,7 +18,7 @@ use Rattle.sheaf_words.specs.declared.edit.Set.TheVariants as sets
 use Rattle.sheaf_text.specs.Cut.{words, word_number, value_of}
 use Rattle.sheaf_text.specs.Lines.{word, value, kind_of, numerals}
 use Rattle.sheaf_text.specs.Grammar.{Known, cause_of, entries_refusal, placed_refusal, is_ended}
-use Rattle.sheaf_text.specs.Readings.{Reading, BadLine, Limit, Matrix, InputValue, with_last, command_with_set, advance}
+use Rattle.sheaf_text.specs.Readings.{Reading, BadLine, Limit, InputValue, with_last, command_with_set, advance}
 use Rattle.sheaf_text.specs.declared.line.Kind.{Kind}
 use Rattle.sheaf_text.specs.declared.line.Kind.TheVariants as kinds
 use Rattle.sheaf_text.specs.declared.fault.LineCause.TheVariants as causes
@@ -115,15 +115,12 @@ abbrev pub into_last : List (List Command) → Set → List (List Command)
 into_last scripts s = with_last (with_last (command_with_set s)) scripts
 
 -- the restrictions of the faces, each from stalk to stalk
-abbrev pub blocks_of : List ℕ → List Face → List (List ℕ) → List Matrix
+abbrev pub blocks_of : List ℕ → List Face → List (List ℕ) → List WrittenMatrix
 blocks_of stalks faces entries = map (λ (b : Face × List ℕ). record {
   rows = slice_index stalks b.0.t;
   cols = slice_index stalks b.0.s;
   entries = b.1;
 }) (zip faces entries)
-
-abbrev pub plain_matrix : Block → Matrix
-plain_matrix b = record { rows = b.rows; cols = b.cols; entries = b.entries }
 
 -- the input that is known
 abbrev pub input_of : Known → InputValue

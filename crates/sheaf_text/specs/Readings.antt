@@ -3,7 +3,7 @@ use Rattle.std.specs.Prelude.{ℕ, ◌+◌, List, [], ◌∷◌, ◌++◌, drop,
 use Rattle.std.specs.Prelude.{slice_index, if◌then◌else◌}
 use Rattle.std.specs.Str.Lines.{lines}
 use Rattle.cell_complex.specs.declared.face.Face.{Face}
-use Rattle.dense_blocks.specs.declared.block.Block.{Block}
+use Rattle.dense_blocks.specs.Blocks.{WrittenMatrix, written_matrix}
 use Rattle.field_table.specs.Table.{order_of}
 use Rattle.sheaf_words.specs.declared.query.Command.{Command}
 use Rattle.sheaf_words.specs.declared.query.Command.TheVariants.{Change, Ask}
@@ -24,19 +24,13 @@ use Rattle.sheaf_text.specs.declared.fault.Which.TheVariants as limits
 use Rattle.sheaf_text.specs.declared.fault.Refusal.{Refusal}
 use Rattle.sheaf_text.specs.declared.fault.Refusal.TheVariants.{Bad, Over}
 
--- a restriction, by its rows and columns and its entries row by row
-pub record Matrix : Type 0 where
-  pub rows : ℕ
-  pub cols : ℕ
-  pub entries : List ℕ
-
 -- an input as a plain value
 pub record InputValue : Type 0 where
   pub order : ℕ
   pub dims : List ℕ
   pub faces : List Face
   pub stalks : List ℕ
-  pub blocks : List Matrix
+  pub blocks : List WrittenMatrix
   pub scripts : List (List Command)
 
 -- the plain value of an input
@@ -46,7 +40,7 @@ input_value i = record {
   dims = i.draft.complex.dims;
   faces = i.draft.complex.faces;
   stalks = i.draft.stalks;
-  blocks = map (λ (b : Block). record { rows = b.rows; cols = b.cols; entries = b.entries }) i.draft.blocks;
+  blocks = map written_matrix i.draft.blocks;
   scripts = i.scripts;
 }
 

@@ -3,7 +3,7 @@ use Rattle.square_check.specs.Answers.{IsFirstFailure}
 use Rattle.square_check.specs.Squares.{Commutes}
 use Rattle.sheaf_words.specs.declared.edit.Cause.TheVariants.{Square}
 use Rattle.sheaf_words.specs.declared.edit.Verdict.TheVariants.{Refused}
-use Rattle.edit_versions.specs.Edits.{written_matrix}
+use Rattle.dense_blocks.specs.Blocks.{written_matrix}
 use Rattle.edit_versions.specs.Verdicts.{IsSquareVerdict}
 use Rattle.edit_versions.proofs.application.put_work.Goals as goal
 

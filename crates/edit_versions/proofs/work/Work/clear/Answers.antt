@@ -1,7 +1,7 @@
 use Rattle.std.proofs.Common.{length, slice_index, ap, ◌∙◌, arith}
 use Rattle.cell_complex.specs.Complexes.{joins}
 use Rattle.cell_complex.proofs.Callers.{incident_from_face}
-use Rattle.edit_versions.specs.Edits.{written_matrix}
+use Rattle.dense_blocks.specs.Blocks.{written_matrix}
 use Rattle.edit_versions.specs.Works.{Puts, zero_at}
 use Rattle.edit_versions.proofs.Putting.{on_ok, puts-agree, zero-written, zero-joined}
 use Rattle.edit_versions.proofs.work.Work.clear.Goals as goal
