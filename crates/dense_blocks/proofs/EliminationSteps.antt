@@ -393,8 +393,8 @@ module _ (K : Ops) (h : IsField K) where
   -- a functional that is pulled back leaves out coordinates that earlier ones give
   pub pulls_back-leading : (n : ℕ) (columns : List (List ℕ)) (count : ℕ) (ps : List Pivot) (v p : List ℕ)
       (place k i : ℕ) → Matrix K (length columns) n columns → Vector K n v
-      → Eliminates K n columns count ps → take place (remainder K ps v) ≡ zeros place → get_or (remainder K ps v) place 0
-      ≢ 0 → PullsBack K n ps place k p
+      → Eliminates K n columns count ps → take place (remainder K ps v) ≡ zeros place
+      → get_or (remainder K ps v) place 0 ≢ 0 → PullsBack K n ps place k p
       → i < n → IsDependentCoordinate K columns v i → get_or p i 0 ≡ 0
   pulls_back-leading n columns count ps v p place k i hc hv all first not_zero pulls l earlier =
       let rows_given : All (λ q. Given K h earlier.by i q.row.items) ps =

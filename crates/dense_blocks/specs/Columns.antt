@@ -67,4 +67,5 @@ beside (a ∷ A) (b ∷ B) = (a ++ b) ∷ beside A B
 
 -- the vector that undoes a column by its entries above the diagonal
 abbrev pub kernel_vector : Ops → ℕ → ℕ → List (List ℕ) → List ℕ
-kernel_vector K n column rows = map (λ row. K.neg (slice_index row column)) (take column rows) ++ 1 ∷ zeros (n - 1 - column)
+kernel_vector K n column rows =
+    map (λ row. K.neg (slice_index row column)) (take column rows) ++ 1 ∷ zeros (n - 1 - column)

@@ -29,8 +29,8 @@ abbrev pub are_opposite_pair : (ℕ → Option Sign) → List ℕ → Bool
 are_opposite_pair sign_at (a ∷ b ∷ []) = are_opposite (sign_at a) (sign_at b)
 are_opposite_pair sign_at _ = false
 
--- each edge has exactly two ends, of opposite sign; between two cells two dimensions apart are no cells, or exactly two,
--- with opposite products of signs
+-- each edge has exactly two ends, of opposite sign; between two cells two dimensions apart are no cells, or exactly
+-- two, with opposite products of signs
 pub record HasRegularIncidences (c : CellComplex) : Type 0 where
   pub edges : (t : ℕ) → t < length c.dims → slice_index c.dims t ≡ 1
       → IsTrue (are_opposite_pair (λ s. sign c s t) (faces_of c t))

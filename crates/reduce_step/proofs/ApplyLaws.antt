@@ -85,8 +85,8 @@ module _ (K : Ops) (F : IsField K) (v : StoredBlocks) (sound : IsSound v.live v.
             (subst (λ n. IsInverse K n (matrix_of foot.pivot) a) (pivot-rows ∙ pivot-square) r.inverse_is.inverse);
         corners = λ s t hs ht.
             ap (λ N. part foot.left foot.below N s t) r.new_corners_are.matrix_is
-            ∙ part-schur_complement K v foot.left foot.below foot.x foot.y (size_of v.live foot.y) (size_of v.live foot.x)
-            foot.corners foot.column foot.row a around s t hs ht;
+            ∙ part-schur_complement K v foot.left foot.below foot.x foot.y (size_of v.live foot.y)
+            (size_of v.live foot.x) foot.corners foot.column foot.row a around s t hs ht;
         steps = steps;
       }
 

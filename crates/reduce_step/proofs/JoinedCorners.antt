@@ -30,8 +30,8 @@ sized-block : (b : Block) → Sized b.rows b.cols (matrix_of b)
 sized-block b = sized-cut b.rows b.cols b.entries (omega (arith, b.full))
 
 -- the part from s to t of C - c (a r) is M(s, t) - M(x, t) a M(s, y)
-pub part-schur_complement : (K : Ops) (v : StoredBlocks) (left below : List (ℕ × ℕ)) (x y m n : ℕ) (corners column row : Block)
-    (a : List (List ℕ))
+pub part-schur_complement : (K : Ops) (v : StoredBlocks) (left below : List (ℕ × ℕ)) (x y m n : ℕ)
+    (corners column row : Block) (a : List (List ℕ))
     → AreAround v left below x y m n corners column row → (s t : ℕ) → has s (keys left) ≡ true → has t (keys below)
     ≡ true
     → part left below

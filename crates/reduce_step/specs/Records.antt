@@ -29,5 +29,6 @@ schur_complement K foot a =
 pub record IsRecord (K : Ops) (foot : Footprint) (inverse new_corners : Block) : Type 0 where
   pub over : IsOverField K foot
   pub inverse_is : IsInverseBlock K foot.pivot inverse
-  pub new_corners_are : IsBlock new_corners foot.corners.rows foot.corners.cols (schur_complement K foot (matrix_of inverse))
+  pub new_corners_are : IsBlock new_corners foot.corners.rows foot.corners.cols
+      (schur_complement K foot (matrix_of inverse))
   pub scalars : AllScalars K new_corners.entries

@@ -102,8 +102,10 @@ pub fn send_text<K: Sink>(
 /// The same for a line of words and then numbers.
 pub fn send_line<K: Sink>(sink: &mut K, status: Status, words: &[u8], numbers: &[usize]) -> Status
     requires { IsAnswer status }
-    ensures { Replies (λ a. a ≡ record { status = status;
-        text = line_text (words.now ∷ map decimal numbers.now) })
+    ensures { Replies (λ a. a ≡ record {
+      status = status;
+      text = line_text (words.now ∷ map decimal numbers.now);
+    })
         (sink_view K.taken K.flushed K.fault_count sink.old)
         (sink_view K.taken K.flushed K.fault_count sink.new) result }
 {
