@@ -1,7 +1,6 @@
 -- What the words and the bytes of the input are answered.
-use Rattle.std.specs.Prelude.{◌≡◌, ◌⊎◌, ℕ, List, [], ◌∷◌, ◌++◌, Option, Some, None, length, sum_by, codes, decimal}
+use Rattle.std.specs.Prelude.{◌≡◌, ◌⊎◌, ℕ, List, [], ◌∷◌, Option, Some, None, length, map, sum_by, codes, decimal}
 use Rattle.std.specs.Prelude.{if◌then◌else◌}
-use Rattle.std.specs.List.{flat_map}
 use Rattle.std.specs.Str.{bytes_eq}
 use Rattle.field_table.specs.declared.field.Field.{Field}
 use Rattle.field_table.specs.Table.{ops_of}
@@ -14,6 +13,7 @@ use Rattle.sheaf_data.specs.Sheaves.{SheafData, IsSheaf}
 use Rattle.sheaf_data.specs.Refusals.{IsFault}
 use Rattle.sheaf_words.specs.declared.query.Command.{Command}
 use Rattle.sheaf_words.specs.declared.event.Event.{Event}
+use Rattle.reply_text.specs.Lines.{line_text}
 use Rattle.reply_text.specs.Transcripts.{transcript}
 use Rattle.core_machine.specs.Machine.{IsLegalAndWhole}
 use Rattle.sheaf_text.specs.Readings.{Reading, input_value, reading}
@@ -38,12 +38,7 @@ abbrev pub IsAnswer : Status → Type 0
 IsAnswer ReadFault = ⊥
 IsAnswer WriteFault = ⊥
 IsAnswer NoMemory = ⊥
-IsAnswer Done = Unit {0}
-IsAnswer BadWords = Unit {0}
-IsAnswer BadLine = Unit {0}
-IsAnswer BadComplex = Unit {0}
-IsAnswer BadSheaf = Unit {0}
-IsAnswer Limit = Unit {0}
+IsAnswer _ = Unit {0}
 
 -- the job that the words ask for: one word, and nothing else
 abbrev pub job_of : List (List ℕ) → Option Job
@@ -56,38 +51,26 @@ job_of words = None
 abbrev pub bad_words : Outcome
 bad_words = record { status = BadWords; text = codes "bad words\n" }
 
--- numbers, with a space before each
-abbrev pub spaced_numbers : List ℕ → List ℕ
-spaced_numbers numbers = flat_map (λ number. codes " " ++ decimal number) numbers
-
--- words, then numbers, and then the rest
-abbrev pub text_of_parts : List ℕ → List ℕ → List ℕ → List ℕ
-text_of_parts words numbers rest = (words ++ spaced_numbers numbers) ++ rest
-
--- a line of words and then numbers
-abbrev pub text_line : List ℕ → List ℕ → List ℕ
-text_line words numbers = text_of_parts words numbers (codes "\n")
-
 -- a line that is refused: its number, and the cause
 abbrev pub bad_line : ℕ → LineCause → Outcome
-bad_line line cause = record {
-  status = BadLine;
-  text = text_of_parts (codes "bad line") (line ∷ [])
-      (codes " " ++ (cause_word cause ++ codes "\n"));
-}
+bad_line line cause =
+    record { status = BadLine; text = line_text (codes "bad line" ∷ decimal line ∷ cause_word cause ∷ []) }
 
 -- a limit that is passed, and the number of the line
 abbrev pub over_limit : ℕ → Which → Outcome
-over_limit line which = record { status = Limit; text = text_line (codes "limit " ++ limit_word which) (line ∷ []) }
+over_limit line which =
+    record { status = Limit; text = line_text (codes "limit" ∷ limit_word which ∷ decimal line ∷ []) }
 
 -- what is wrong with a draft that is no sheaf
 abbrev pub refusal : SealFault → Outcome
-refusal (Complex (EdgeEnds t)) = record { status = BadComplex; text = text_line (codes "bad complex edge") (t ∷ []) }
+refusal (Complex (EdgeEnds t)) =
+    record { status = BadComplex; text = line_text (codes "bad complex edge" ∷ decimal t ∷ []) }
 refusal (Complex (Middles s u count)) =
-    record { status = BadComplex; text = text_line (codes "bad complex middles") (s ∷ u ∷ count ∷ []) }
+    record { status = BadComplex; text = line_text (codes "bad complex middles" ∷ map decimal (s ∷ u ∷ count ∷ [])) }
 refusal (Complex (Signs s u)) =
-    record { status = BadComplex; text = text_line (codes "bad complex signs") (s ∷ u ∷ []) }
-refusal (Noncommuting s u) = record { status = BadSheaf; text = text_line (codes "bad sheaf square") (s ∷ u ∷ []) }
+    record { status = BadComplex; text = line_text (codes "bad complex signs" ∷ map decimal (s ∷ u ∷ [])) }
+refusal (Noncommuting s u) =
+    record { status = BadSheaf; text = line_text (codes "bad sheaf square" ∷ map decimal (s ∷ u ∷ [])) }
 
 -- what is written of a sheaf and the scripts of its clients: under `solve` the transcript of one legal order of all
 -- commands, whole; under `check` how many cells and faces there are, how many clients, and how many commands
@@ -95,8 +78,8 @@ abbrev pub IsTextOf : Job → SheafData Field → List (List Command) → List �
 IsTextOf Solve d scripts text =
     (events : List Event) × IsLegalAndWhole (ops_of d.field) scripts d events × (text ≡ transcript scripts events)
 IsTextOf Check d scripts text =
-    text ≡ text_line (codes "good") (length d.complex.dims ∷ length d.complex.faces ∷ length scripts
-    ∷ sum_by length scripts ∷ [])
+    text ≡ line_text (codes "good" ∷ map decimal (length d.complex.dims ∷ length d.complex.faces ∷ length scripts
+    ∷ sum_by length scripts ∷ []))
 
 -- a draft that is no sheaf is refused with its first fault; a sheaf is answered with such a text
 abbrev pub AnswersDraft : Job → SheafData Field → List (List Command) → Outcome → Type 0
@@ -125,13 +108,8 @@ DraftIsDue d BadSheaf = HasRegularIncidences d.complex
     × ((s : ℕ) × (u : ℕ) × (¬ Commutes (ops_of d.field) d.complex d.blocks s u))
 DraftIsDue d _ = ⊥
 
--- that of the input that the bytes are read as; of a line that is refused or passes a limit the status that says so
-abbrev pub ReadingIsDue : Reading → Status → Type 0
-ReadingIsDue (readings.Good v) status = (i : Input) × (v ≡ input_value i) × DraftIsDue i.draft status
-ReadingIsDue (readings.BadLine line cause) status = status ≡ BadLine
-ReadingIsDue (readings.Limit line which) status = status ≡ Limit
-
--- the status that the bytes are due under a job
-abbrev pub IsDue : Job → List ℕ → Status → Type 0
-IsDue Solve bytes status = ReadingIsDue (reading bytes) status
-IsDue Check bytes status = ReadingIsDue (reading bytes) status
+-- that of the input that bytes are read as; of a line that is refused or passes a limit the status that says so
+abbrev pub IsDue : Reading → Status → Type 0
+IsDue (readings.Good v) status = (i : Input) × (v ≡ input_value i) × DraftIsDue i.draft status
+IsDue (readings.BadLine line cause) status = status ≡ BadLine
+IsDue (readings.Limit line which) status = status ≡ Limit

@@ -1,5 +1,5 @@
 -- What a whole run did to its source and to its sink.
-use Rattle.std.specs.Prelude.{◌≡◌, ◌⊎◌, ◌↔◌, ℕ, List, Option, None, Some, IfSome}
+use Rattle.std.specs.Prelude.{◌≡◌, ◌≢◌, ◌⊎◌, ◌↔◌, ℕ, List, Option, None, IfSome}
 use Rattle.std.specs.Io.KnownBytes.{IsAtEnd}
 use Rattle.io_edge.specs.Faults.{Rose}
 use Rattle.io_edge.specs.Bytes.{Took, TookPrefix, IsFlushed}
@@ -8,7 +8,6 @@ use Rattle.sheaf_data.specs.Sheaves.{IsSheaf}
 use Rattle.sheaf_text.specs.Readings.{Good, input_value, reading}
 use Rattle.sheaf_text.specs.declared.input.Input.{Input}
 use Rattle.sheaf_run.specs.declared.job.Job.{Job}
-use Rattle.sheaf_run.specs.declared.job.Job.TheVariants.{Solve, Check}
 use Rattle.sheaf_run.specs.Answers.{Outcome, IsAnswer, IsTextOf, AnswersJob, IsDue, bad_words}
 use Rattle.sheaf_run.specs.Views.{SourceView, SinkView}
 use Rattle.sheaf_run.specs.declared.status.Status.{Status}
@@ -53,21 +52,19 @@ pub record IsServed (job : Job) (bytes : List ℕ) (source_new : SourceView) (si
 pub record Serves (job : Option Job) (source source_new : SourceView) (sink sink_new : SinkView) (result : Status) :
     Type 0 where
   pub run : IsRun (AnswersJob job) source source_new sink sink_new result
-  -- With `solve` and Done the sink took the transcript of one legal order of all commands of the input.
-  pub served : job ≡ Some Solve → result ≡ Done
-      → IfSome source.left (λ bytes. IsServed Solve bytes source_new sink sink_new)
-  -- With `check` and Done the sink took the line `good` with the four counts of the input.
-  pub checked : job ≡ Some Check → result ≡ Done
-      → IfSome source.left (λ bytes. IsServed Check bytes source_new sink sink_new)
+  -- With Done the sink took the text of the job: with `solve` the transcript of one legal order of all commands of the
+  -- input, with `check` the line `good` with its four counts.
+  pub served : result ≡ Done
+      → IfSome job (λ j. IfSome source.left (λ bytes. IsServed j bytes source_new sink sink_new))
   -- The words alone decide whether they are refused.
   pub refused : IsAnswer result → ((result ≡ BadWords) ↔ (job ≡ None))
   pub refusal : result ≡ BadWords → IsSent bad_words sink sink_new result
   -- With accepted words each status comes exactly where the bytes are due it.
-  pub exact : IsAnswer result
-      → IfSome job (λ j. IfSome source.left (λ bytes. (status : Status) → (result ≡ status) ↔ IsDue j bytes status))
+  pub exact : IsAnswer result → job ≢ None
+      → IfSome source.left (λ bytes. (status : Status) → (result ≡ status) ↔ IsDue (reading bytes) status)
   -- With no fault refused words are answered so, and bytes are answered the status that they are due unless memory runs
   -- out.
   pub complete_words : job ≡ None → ¬ (Rose sink.faults sink_new.faults) → result ≡ BadWords
-  pub complete : IfSome job (λ j. IfSome source.left (λ bytes. (status : Status) → IsDue j bytes status
-      → ¬ (Rose source.faults source_new.faults) → ¬ (Rose sink.faults sink_new.faults)
-      → (result ≡ status) ⊎ (result ≡ NoMemory)))
+  pub complete : job ≢ None → ¬ (Rose source.faults source_new.faults) → ¬ (Rose sink.faults sink_new.faults)
+      → IfSome source.left (λ bytes. (status : Status) → IsDue (reading bytes) status
+      → (result ≡ status) ⊎ (result ≡ NoMemory))
