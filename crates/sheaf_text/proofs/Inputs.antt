@@ -3,7 +3,8 @@ use Rattle.std.proofs.Common.{◌≡◌, List, [], ◌∷◌, map, refl, ap, ap�
 use Rattle.dense_blocks.specs.declared.block.Block.{Block}
 use Rattle.dense_blocks.proofs.SameBlocks.{same_block}
 use Rattle.field_table.proofs.Known.{order_of-injective}
-use Rattle.sheaf_text.specs.Readings.{Matrix, InputValue, input_value}
+use Rattle.sheaf_text.specs.Grammar.{Matrix, InputValue}
+use Rattle.sheaf_text.specs.Readings.{input_value}
 use Rattle.sheaf_text.specs.Forms.{plain_matrix}
 use Rattle.sheaf_text.specs.declared.input.Input.{Input}
 
