@@ -22,7 +22,8 @@ use Rattle.square_check.proofs.Placed.{some-same}
 use Rattle.cochain_vec.specs.Complexes.{Arrow, sum_into}
 use Rattle.cochain_vec.proofs.CoboundaryLaws.{RowsInto, image_of-rows}
 use Rattle.cochain_vec.proofs.PathLaws.{arrows_from}
-use Rattle.sheaf_data.specs.Betti.{signed_matrix, arrow_of_face, arrows_of}
+use Rattle.sheaf_data.specs.Betti.{signed_matrix}
+use Rattle.sheaf_data.specs.Arrows.{arrow_of_face, arrows_of}
 
 pub eqb-sym : (a b : ℕ) → eqb a b ≡ eqb b a
 eqb-sym a b = go (eqb a b) (eqb b a) refl refl

@@ -36,7 +36,8 @@ use Rattle.cochain_vec.proofs.CoboundaryLaws.{size_at, RowsInto, image_of-rows, 
 use Rattle.cochain_vec.proofs.PathLaws.{sum_over, sum_over-filter, arrows_from, ComeFrom, after, AreSizes, rows_from}
 use Rattle.cochain_vec.proofs.PathLaws.{coboundary-coboundary, coboundary-cocycle}
 use Rattle.sheaf_data.specs.Sheaves.{IsSheaf}
-use Rattle.sheaf_data.specs.Betti.{numbered_cells, signed_matrix, cochain_complex_of}
+use Rattle.sheaf_data.specs.Betti.{signed_matrix, cochain_complex_of}
+use Rattle.sheaf_data.specs.Arrows.{numbered_cells}
 use Rattle.coboundary.specs.Closed.{CoboundaryOfCoboundaryIsZero, CoboundariesAreCocycles}
 use Rattle.coboundary.proofs.ArrowLaws.{between-none, between-face, all-arrows}
 use Rattle.coboundary.proofs.MiddleLaws.{signed_vector, signed_matrix-matrix, signed_matrix-twice, opposite-cancel}

@@ -13,7 +13,7 @@ use Rattle.cochain_vec.specs.declared.cell.Cell.{Cell}
 use Rattle.cochain_vec.specs.Stalkless as stalkless
 use Rattle.cochain_vec.proofs.StalklessLaws.{has_coordinates, rising-filter}
 use Rattle.sheaf_data.specs.Sheaves.{AreStalks}
-use Rattle.sheaf_data.specs.Betti.{numbered_cells}
+use Rattle.sheaf_data.specs.Arrows.{numbered_cells}
 use Rattle.coboundary.specs.Start.{with_stalks}
 use Rattle.rising_lists.specs.Rising.{IsRising, has}
 use Rattle.block_complexes.specs.BlockComplexes.{cells, live_size, of_cell, degree_of, size_of}

@@ -15,7 +15,8 @@ use Rattle.dense_blocks.proofs.BlockLaws.{block-matrix}
 use Rattle.square_check.proofs.Placed.{face-fits, all-at}
 use Rattle.sheaf_data.specs.Sheaves.{SheafData}
 use Rattle.sheaf_data.specs.Drafts.{IsDraft}
-use Rattle.sheaf_data.specs.Betti.{numbered_cells, signed_matrix}
+use Rattle.sheaf_data.specs.Betti.{signed_matrix}
+use Rattle.sheaf_data.specs.Arrows.{numbered_cells}
 use Rattle.block_sparse.specs.StoredBlocks.{FitsPair}
 use Rattle.block_sparse.specs.Grids.{as_block}
 use Rattle.coboundary.specs.Start.{with_stalks}

@@ -41,7 +41,8 @@ use Rattle.block_complexes.proofs.LiveLaws.{cell-at, length-cells, of_cell-at}
 use Rattle.block_complexes.proofs.SumLaws.{arriving, arriving-vector, sum_into-live, sum_over-some}
 use Rattle.block_complexes.proofs.DegreeLaws.{value-absent}
 use Rattle.sheaf_data.specs.Sheaves.{IsSheaf}
-use Rattle.sheaf_data.specs.Betti.{numbered_cells, signed_matrix, cochain_complex_of}
+use Rattle.sheaf_data.specs.Betti.{signed_matrix, cochain_complex_of}
+use Rattle.sheaf_data.specs.Arrows.{numbered_cells}
 use Rattle.coboundary.specs.Start.{face_matrix, or_zeros, start_complex, with_stalks}
 use Rattle.coboundary.specs.StartCoboundary.{StartIsBlockComplex, StartHasTheCoboundary, StartIsCochainComplex}
 use Rattle.coboundary.specs.StartCoboundary.{StartHasTheCohomology}

@@ -22,7 +22,8 @@ use Rattle.dense_blocks.specs.Blocks.{matrix_of}
 use Rattle.dense_blocks.specs.declared.block.Block.{Block}
 use Rattle.square_check.proofs.Placed.{some-same}
 use Rattle.cochain_vec.specs.declared.cell.Cell.{Cell}
-use Rattle.sheaf_data.specs.Betti.{numbered_cells, signed_matrix}
+use Rattle.sheaf_data.specs.Betti.{signed_matrix}
+use Rattle.sheaf_data.specs.Arrows.{numbered_cells}
 use Rattle.coboundary.specs.Start.{with_stalks, face_matrix}
 use Rattle.coboundary.specs.Put.{AreFirstPut}
 use Rattle.block_sparse.specs.StoredBlocks.{StoredBlock, is_zero}

@@ -13,7 +13,7 @@ use Rattle.block_sparse.specs.StoredBlocks.{StoredBlocks, block_at, matrix_or, f
 use Rattle.block_sparse.specs.Grids.{as_block}
 use Rattle.block_sparse.proofs.StoredLaws.{matrix-as_block, flag-as_block}
 use Rattle.sheaf_data.specs.Sheaves.{IsSheaf}
-use Rattle.sheaf_data.specs.Betti.{numbered_cells}
+use Rattle.sheaf_data.specs.Arrows.{numbered_cells}
 use Rattle.coboundary.specs.Start.{face_matrix, or_zeros, with_stalks}
 use Rattle.coboundary.specs.Put.{IsStart}
 use Rattle.coboundary.proofs.StartCoboundaryLaws.{start_is_block_complex}

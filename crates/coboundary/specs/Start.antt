@@ -9,7 +9,8 @@ use Rattle.dense_blocks.specs.declared.block.Block.{Block}
 use Rattle.cochain_vec.specs.declared.cell.Cell.{Cell}
 use Rattle.square_check.specs.Squares.{restriction}
 use Rattle.block_complexes.specs.BlockComplexes.{BlockComplex, size_of}
-use Rattle.sheaf_data.specs.Betti.{numbered_cells, signed_matrix}
+use Rattle.sheaf_data.specs.Betti.{signed_matrix}
+use Rattle.sheaf_data.specs.Arrows.{numbered_cells}
 
 -- the cells with a stalk that is not zero, each with its degree and its size
 abbrev pub with_stalks : List Cell → List (ℕ × ℕ × ℕ)

@@ -6,7 +6,8 @@ ghost use Rattle.dense_blocks.specs.BlockFacts.{IsBlock};
 ghost use Rattle.block_sparse.specs.StoredBlocks.{FitsPair, block_at};
 ghost use Rattle.block_sparse.specs.Lists.{with_block};
 ghost use Rattle.cell_complex.specs.Invariants.{IsComplex};
-ghost use Rattle.sheaf_data.specs.Betti.{numbered_cells, signed_matrix};
+ghost use Rattle.sheaf_data.specs.Betti.{signed_matrix};
+ghost use Rattle.sheaf_data.specs.Arrows.{numbered_cells};
 ghost use Rattle.coboundary.specs.Start.{with_stalks};
 ghost use Rattle.coboundary.specs.Put.{AreFirstPut, IsStart};
 

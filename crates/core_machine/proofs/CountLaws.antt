@@ -20,50 +20,52 @@ use Rattle.sheaf_words.specs.declared.reply.Reply.TheVariants as replies
 use Rattle.sheaf_words.specs.declared.event.Event.{Event}
 use Rattle.sheaf_words.specs.declared.event.Event.TheVariants.{Edit, Ask, Pair, Reply}
 use Rattle.reply_text.specs.ClientEvents.{IsAnswerTo, IfPresent, IsAnswered, IsOf, AreOf}
-use Rattle.reply_text.specs.Transcripts.{ends_for, is_accepted, ended_count, current_version, asked_version}
+use Rattle.reply_text.specs.Transcripts.{ends_for, is_accepted, ended_count}
+use Rattle.reply_text.specs.Parts.{current_version, asked_version}
 use Rattle.reply_text.proofs.Counting.{count-more, asked-more}
 use Rattle.core_machine.specs.Replies.{IsRightReply}
-use Rattle.core_machine.specs.Machine.{Lane, State, free_lane, waiting_lane, first_state, command_at, with_lane}
+use Rattle.core_machine.specs.Machine.{Lane, State, free_lane, waiting_lane, command_at, with_lane}
 use Rattle.core_machine.specs.Machine.{AreVersionsAfter, EditStep, AskStep, ReplyStep, Step, Leads}
-use Rattle.core_machine.specs.Legal.{IsLegal}
-use Rattle.core_machine.specs.Counts.{IsCounted}
+use Rattle.core_machine.specs.Legal.{first_state, IsLegal}
+use Rattle.core_machine.specs.Counts.{lane_position, lane_pending, IsCounted}
 
 -- ---- the lanes after one step
 
 -- the positions where the lane of client c was put at one more
-position-next : (lanes : ℕ → Lane) (c d p : ℕ) → (lanes c).position ≡ p
-    → (with_lane lanes c (free_lane (p + 1)) d).position ≡ (lanes d).position + (if c == d then 1 else 0)
+position-next : (lanes : ℕ → Lane) (c d p : ℕ) → lane_position (lanes c) ≡ p
+    → lane_position (with_lane lanes c (free_lane (p + 1)) d) ≡ lane_position (lanes d) + (if c == d then 1 else 0)
 position-next lanes c d p is = go (c == d) refl
   where
-    go : (b : Bool) → (c == d) ≡ b → (if b then free_lane (p + 1) else lanes d).position ≡ (lanes d).position
+    go : (b : Bool) → (c == d) ≡ b → lane_position (if b then free_lane (p + 1) else lanes d) ≡ lane_position (lanes d)
         + (if b then 1 else 0)
-    go true e = ap (λ n. n + 1) (sym (subst (λ k. (lanes k).position ≡ p) (eqb-true c d e) is))
+    go true e = ap (λ n. n + 1) (sym (subst (λ k. lane_position (lanes k) ≡ p) (eqb-true c d e) is))
     go false e = omega arith
 
 -- the positions where the lane of client c was put to wait
-position-same : (lanes : ℕ → Lane) (c d p v : ℕ) → (lanes c).position ≡ p
-    → (with_lane lanes c (waiting_lane p v) d).position ≡ (lanes d).position + 0
+position-same : (lanes : ℕ → Lane) (c d p v : ℕ) → lane_position (lanes c) ≡ p
+    → lane_position (with_lane lanes c (waiting_lane p v) d) ≡ lane_position (lanes d) + 0
 position-same lanes c d p v is = go (c == d) refl
   where
-    go : (b : Bool) → (c == d) ≡ b → (if b then waiting_lane p v else lanes d).position ≡ (lanes d).position + 0
-    go true e = sym (subst (λ k. (lanes k).position ≡ p) (eqb-true c d e) is) ∙ omega arith
+    go : (b : Bool) → (c == d) ≡ b → lane_position (if b then waiting_lane p v else lanes d) ≡ lane_position (lanes d)
+        + 0
+    go true e = sym (subst (λ k. lane_position (lanes k) ≡ p) (eqb-true c d e) is) ∙ omega arith
     go false e = omega arith
 
 -- what is pending where the lane of client c was freed
-pending-free : (lanes : ℕ → Lane) (c d p v : ℕ) → (with_lane lanes c (free_lane p) d).pending ≡ Some v
-    → (lanes d).pending ≡ Some v
+pending-free : (lanes : ℕ → Lane) (c d p v : ℕ) → lane_pending (with_lane lanes c (free_lane p) d) ≡ Some v
+    → lane_pending (lanes d) ≡ Some v
 pending-free lanes c d p v is = go (c == d) is
   where
-    go : (b : Bool) → (if b then free_lane p else lanes d).pending ≡ Some v → (lanes d).pending ≡ Some v
+    go : (b : Bool) → lane_pending (if b then free_lane p else lanes d) ≡ Some v → lane_pending (lanes d) ≡ Some v
     go true e = absurd (none-some v e)
     go false e = e
 
 -- what is pending where the lane of client c was put to wait
-pending-asked : (lanes : ℕ → Lane) (c d p n v w : ℕ) → ((lanes d).pending ≡ Some v → v ≡ w)
-    → (with_lane lanes c (waiting_lane p n) d).pending ≡ Some v → v ≡ (if c == d then n else w)
+pending-asked : (lanes : ℕ → Lane) (c d p n v w : ℕ) → (lane_pending (lanes d) ≡ Some v → v ≡ w)
+    → lane_pending (with_lane lanes c (waiting_lane p n) d) ≡ Some v → v ≡ (if c == d then n else w)
 pending-asked lanes c d p n v w before is = go (c == d) is
   where
-    go : (b : Bool) → (if b then waiting_lane p n else lanes d).pending ≡ Some v → v ≡ (if b then n else w)
+    go : (b : Bool) → lane_pending (if b then waiting_lane p n else lanes d) ≡ Some v → v ≡ (if b then n else w)
     go true e = sym (same_Some n v e)
     go false e = before e
 
@@ -74,11 +76,11 @@ counted-edit : {F : Type 0} (K : Ops) (scripts : List (List Command)) (events : 
     → EditStep K scripts c verdict s t → IsCounted events s → IsCounted (events ++ Edit c verdict ∷ []) t
 counted-edit {F} K scripts events c verdict s t step h = record {
   current = versions verdict step.versions ∙ ap (λ n. n + 1) (sym (count-more is_accepted events (Edit c verdict)));
-  positions = λ d. ap (λ lanes. (lanes d).position) step.lanes ∙ position-next s.lanes c d step.position
-      (ap (λ l. l.position) step.is_free)
+  positions = λ d. ap (λ lanes. lane_position (lanes d)) step.lanes ∙ position-next s.lanes c d step.position
+      (ap lane_position step.is_free)
       ∙ ap (λ n. n + (if c == d then 1 else 0)) (h.positions d) ∙ sym (count-more (ends_for d) events (Edit c verdict));
   pendings = λ d v is. h.pendings d v
-      (pending-free s.lanes c d (step.position + 1) v (sym (ap (λ lanes. (lanes d).pending) step.lanes) ∙ is))
+      (pending-free s.lanes c d (step.position + 1) v (sym (ap (λ lanes. lane_pending (lanes d)) step.lanes) ∙ is))
       ∙ sym (asked-more d events (Edit c verdict));
 }
   where
@@ -92,11 +94,11 @@ counted-ask : {F : Type 0} (scripts : List (List Command)) (events : List Event)
 counted-ask scripts events c s t step h = record {
   current = ap length step.versions ∙ h.current
       ∙ ap (λ n. n + 1) (omega arith ∙ sym (count-more is_accepted events (Ask c)));
-  positions = λ d. ap (λ lanes. (lanes d).position) step.lanes ∙ position-same s.lanes c d step.position step.version
-      (ap (λ l. l.position) step.is_free)
+  positions = λ d. ap (λ lanes. lane_position (lanes d)) step.lanes
+      ∙ position-same s.lanes c d step.position step.version (ap lane_position step.is_free)
       ∙ ap (λ n. n + 0) (h.positions d) ∙ sym (count-more (ends_for d) events (Ask c));
   pendings = λ d v is. pending-asked s.lanes c d step.position step.version v (asked_version d events) (h.pendings d v)
-      (sym (ap (λ lanes. (lanes d).pending) step.lanes) ∙ is)
+      (sym (ap (λ lanes. lane_pending (lanes d)) step.lanes) ∙ is)
       ∙ ap (λ n. if c == d then n else asked_version d events) version ∙ sym (asked-more d events (Ask c));
 }
   where
@@ -109,11 +111,11 @@ counted-reply : {F : Type 0} (K : Ops) (scripts : List (List Command)) (events :
 counted-reply K scripts events c r s t step h = record {
   current = ap length step.versions ∙ h.current
       ∙ ap (λ n. n + 1) (omega arith ∙ sym (count-more is_accepted events (Reply c r)));
-  positions = λ d. ap (λ lanes. (lanes d).position) step.lanes ∙ position-next s.lanes c d step.position
-      (ap (λ l. l.position) step.is_waiting)
+  positions = λ d. ap (λ lanes. lane_position (lanes d)) step.lanes ∙ position-next s.lanes c d step.position
+      (ap lane_position step.is_waiting)
       ∙ ap (λ n. n + (if c == d then 1 else 0)) (h.positions d) ∙ sym (count-more (ends_for d) events (Reply c r));
   pendings = λ d v is. h.pendings d v
-      (pending-free s.lanes c d (step.position + 1) v (sym (ap (λ lanes. (lanes d).pending) step.lanes) ∙ is))
+      (pending-free s.lanes c d (step.position + 1) v (sym (ap (λ lanes. lane_pending (lanes d)) step.lanes) ∙ is))
       ∙ sym (asked-more d events (Reply c r));
 }
 
@@ -175,12 +177,12 @@ of-step : {F : Type 0} (K : Ops) (scripts : List (List Command)) (events : List 
     → Step K scripts event s t → IsCounted events s → IsOf scripts events event
 of-step K scripts events (Edit c verdict) s t step h =
     answered scripts events c step.position (commands.Change step.edit) (Edit c verdict)
-    (sym (ap (λ l. l.position) step.is_free) ∙ h.positions c) step.command tt
+    (sym (ap lane_position step.is_free) ∙ h.positions c) step.command tt
 of-step K scripts events (Ask c) s t step h = inside scripts c step.position (commands.Ask step.query) step.command
 of-step K scripts events (Pair v x y) s t step h = tt
 of-step K scripts events (Reply c r) s t step h =
     answered scripts events c step.position (commands.Ask step.query) (Reply c r)
-    (sym (ap (λ l. l.position) step.is_waiting) ∙ h.positions c) step.command
+    (sym (ap lane_position step.is_waiting) ∙ h.positions c) step.command
     (right-answers K
     (cochain_complex_of K step.sheaf.complex step.sheaf.stalks step.sheaf.blocks)
     (degree_count step.sheaf.complex.dims) c step.query r step.right)

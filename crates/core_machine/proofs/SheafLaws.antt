@@ -12,8 +12,8 @@ use Rattle.sheaf_words.specs.declared.event.Event.{Event}
 use Rattle.sheaf_words.specs.declared.event.Event.TheVariants.{Edit, Ask, Pair, Reply}
 use Rattle.edit_versions.specs.Verdicts.{IsVerdict}
 use Rattle.edit_versions.proofs.Edited.{edited_sheaf}
-use Rattle.core_machine.specs.Machine.{State, first_state, AreVersionsAfter, EditStep, Step, Leads}
-use Rattle.core_machine.specs.Legal.{IsLegal}
+use Rattle.core_machine.specs.Machine.{State, AreVersionsAfter, EditStep, Step, Leads}
+use Rattle.core_machine.specs.Legal.{first_state, IsLegal}
 
 -- the data are a sheaf
 abbrev IsSheafOver : {F : Type 0} → Ops → SheafData F → Type 0

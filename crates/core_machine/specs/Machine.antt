@@ -1,6 +1,7 @@
 -- The machine of versions, lanes and events.
 use Rattle.std.specs.Prelude.{◌≡◌, ℕ, ◌+◌, ◌==◌, List, [], ◌∷◌, ◌++◌, Option, Some, None, length, slice_get}
-use Rattle.std.specs.Prelude.{option_and_then, unwrap_or, if◌then◌else◌}
+use Rattle.std.specs.Prelude.{option_and_then, unwrap_or, nat_eq, if◌then◌else◌}
+use Rattle.std.specs.Map.{update}
 use Rattle.dense_blocks.specs.Field.{Ops}
 use Rattle.sheaf_data.specs.Sheaves.{SheafData}
 use Rattle.sheaf_data.specs.Betti.{cochain_complex_of, degree_count}
@@ -18,18 +19,11 @@ use Rattle.core_machine.specs.Replies.{IsRightReply}
 
 -- ---- states
 
--- how many commands of a client are done, and the version that its open question was put on, if one is open
-pub record Lane : Type 0 where
-  pub position : ℕ
-  pub pending : Option ℕ
-
--- nothing is pending
-abbrev pub free_lane : ℕ → Lane
-free_lane position = record { position = position; pending = None }
-
--- a question on version v is open
-abbrev pub waiting_lane : ℕ → ℕ → Lane
-waiting_lane position v = record { position = position; pending = Some v }
+-- where a client is: so many of its commands are done, and nothing is pending; or besides, the next one is a question
+-- on this version, and waits for its answer
+pub data Lane : Type 0 where
+  free_lane : ℕ → Lane
+  waiting_lane : ℕ → ℕ → Lane
 
 -- the sheaf of each version, from version 0 on; the lane of each client; and the pairs of cells that were removed from
 -- each version that was asked, none where it was not
@@ -38,10 +32,6 @@ pub record State (F : Type 0) : Type 0 where
   pub lanes : ℕ → Lane
   pub pairs : ℕ → Option (List (ℕ × ℕ))
 
--- one version, nothing done, nothing pending, nothing asked
-abbrev pub first_state : {F : Type 0} → SheafData F → State F
-first_state sheaf = record { sheaves = sheaf ∷ []; lanes = λ c. free_lane 0; pairs = λ v. None }
-
 -- the command at this place of the script of client c
 abbrev pub command_at : List (List Command) → ℕ → ℕ → Option Command
 command_at scripts c position = option_and_then (λ script. slice_get script position) (slice_get scripts c)
@@ -49,10 +39,6 @@ command_at scripts c position = option_and_then (λ script. slice_get script pos
 -- the lanes, with this one for client c
 abbrev pub with_lane : (ℕ → Lane) → ℕ → Lane → ℕ → Lane
 with_lane lanes c lane d = if c == d then lane else lanes d
-
--- the removed pairs, with these for version v
-abbrev pub with_pairs : (ℕ → Option (List (ℕ × ℕ))) → ℕ → List (ℕ × ℕ) → ℕ → Option (List (ℕ × ℕ))
-with_pairs pairs v removed w = if v == w then Some removed else pairs w
 
 -- ---- events: each has a guard, and an effect; what is not named stays
 
@@ -91,7 +77,7 @@ pub record AskStep {F : Type 0} (scripts : List (List Command)) (c : ℕ) (s t :
   pub current : length s.sheaves ≡ version + 1
   pub versions : t.sheaves ≡ s.sheaves
   pub lanes : t.lanes ≡ with_lane s.lanes c (waiting_lane position version)
-  pub pairs : t.pairs ≡ with_pairs s.pairs version (unwrap_or (s.pairs version) [])
+  pub pairs : t.pairs ≡ update nat_eq s.pairs version (Some (unwrap_or (s.pairs version) []))
 
 -- client c waits for the answer to a question on a version, and the reply is right for the question and the whole
 -- complex of the sheaf of that version
@@ -124,11 +110,12 @@ abbrev pub Leads : {F : Type 0} → Ops → List (List Command) → List Event �
 Leads K scripts [] s t = s ≡ t
 Leads {F} K scripts (event ∷ events) s t = (m : State F) × Step K scripts event s m × Leads K scripts events m t
 
--- the events are one legal order of all commands of these scripts on this sheaf, whole: they lead from the first state
--- to one where each client's script is done, and nothing is pending
+-- the events are one legal order of all commands of these scripts on this sheaf, whole: they lead from the state that
+-- has this one version, with nothing done, pending or asked, to one with each script done and nothing pending
 pub record IsLegalAndWhole {F : Type 0} (K : Ops) (scripts : List (List Command)) (sheaf : SheafData F)
     (events : List Event) : Type 0 where
   pub last : State F
-  pub legal : Leads K scripts events (first_state sheaf) last
+  pub legal : Leads K scripts events
+      (record { sheaves = sheaf ∷ []; lanes = λ c. free_lane 0; pairs = λ v. None }) last
   pub whole : (c : ℕ) (script : List Command) → slice_get scripts c ≡ Some script
       → last.lanes c ≡ free_lane (length script)

@@ -12,7 +12,7 @@ use Rattle.sheaf_data.specs.Sheaves.{SheafData, IsSheaf}
 use Rattle.sheaf_words.specs.declared.edit.Edit.{Edit}
 use Rattle.sheaf_words.specs.declared.edit.Cause.TheVariants.{TotalLimit}
 use Rattle.sheaf_words.specs.declared.edit.Verdict.TheVariants.{Accepted, Refused}
-use Rattle.edit_versions.specs.Edits.{SheafLists, written_matrix, sheaf_lists, sets_made}
+use Rattle.edit_versions.specs.Edits.{SheafLists, written_matrix, sheaf_lists}
 use Rattle.edit_versions.specs.Verdicts.{IsSquareVerdict, IsVerdict, IsEdited}
 use Rattle.edit_versions.specs.ListVerdicts.{verdict_on_square, IsListVerdict}
 use Rattle.edit_versions.proofs.Fitting.{FitComplex, to-zip, from-zip, sets-fit}

@@ -20,9 +20,9 @@ use Rattle.sheaf_words.specs.declared.edit.Set.TheVariants.{Stalk, Restrict}
 use Rattle.sheaf_words.specs.declared.edit.Cause.{Cause}
 use Rattle.sheaf_words.specs.declared.edit.Cause.TheVariants.{NoCell, NoFace, StalkLimit, Shape, Entry}
 use Rattle.edit_versions.specs.declared.work.Work.{Work}
-use Rattle.edit_versions.specs.Edits.{WrittenMatrix, written_matrix, SheafLists, with_replacements}
+use Rattle.edit_versions.specs.Edits.{WrittenMatrix, written_matrix, SheafLists}
 use Rattle.edit_versions.specs.Edits.{matrix_between, with_set, set_fault, sets_made}
-use Rattle.edit_versions.specs.Works.{IsWork, TakesSet, work_lists, is_end, zero_at}
+use Rattle.edit_versions.specs.Works.{IsWork, TakesSet, work_lists, is_end, zero_at, with_replacements}
 
 -- a matrix of scalars that goes from the stalk of the face's cell s to that of its cell t
 pub record FitsFace (K : Ops) (stalks : List ℕ) (f : Face) (m : WrittenMatrix) : Type 0 where

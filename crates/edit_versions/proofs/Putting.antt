@@ -18,8 +18,8 @@ use Rattle.dense_blocks.proofs.Cutting.{flat-zero_matrix}
 use Rattle.dense_blocks.proofs.BlockLaws.{is_block-entries}
 use Rattle.square_check.proofs.Placed.{IsPlaced}
 use Rattle.edit_versions.specs.declared.work.Work.{Work}
-use Rattle.edit_versions.specs.Edits.{WrittenMatrix, written_matrix, with_replacements}
-use Rattle.edit_versions.specs.Works.{IsTouched, Puts, is_from, is_to, zero_between, zero_at}
+use Rattle.edit_versions.specs.Edits.{WrittenMatrix, written_matrix}
+use Rattle.edit_versions.specs.Works.{IsTouched, Puts, is_from, is_to, zero_between, zero_at, with_replacements}
 use Rattle.edit_versions.proofs.Replacing.{replaced-one, replaced-none, replaced-same, replaced-agree}
 use Rattle.edit_versions.proofs.Replacing.{replaced-replaced, length-replaced}
 

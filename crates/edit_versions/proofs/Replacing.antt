@@ -10,7 +10,8 @@ use Rattle.cell_complex.specs.declared.face.Face.{Face}
 use Rattle.cell_complex.specs.Complexes.{CellComplex, joins, is_face, place}
 use Rattle.cell_complex.specs.Invariants.{AreApart}
 use Rattle.square_check.proofs.Placed.{some-same}
-use Rattle.edit_versions.specs.Edits.{WrittenMatrix, with_replacements}
+use Rattle.edit_versions.specs.Edits.{WrittenMatrix}
+use Rattle.edit_versions.specs.Works.{with_replacements}
 
 ltb-suc : (a b : ℕ) → nat_lt (suc a) (suc b) ≡ nat_lt a b
 ltb-suc a b = ltb_from_iff (

@@ -1,7 +1,7 @@
 -- Edits on plain lists: why a set is refused, and what it makes.
-use Rattle.std.specs.Prelude.{ℕ, ◌+◌, ◌*◌, Bool, List, [], ◌∷◌, Option, None, Some, Result, Ok, Err, length, map}
+use Rattle.std.specs.Prelude.{ℕ, ◌+◌, ◌*◌, List, [], ◌∷◌, Option, None, Some, Result, Ok, Err, length, map}
 use Rattle.std.specs.Prelude.{slice_index, slice_set, nat_lt, not, ◌==◌, ◌||◌, if◌then◌else◌}
-use Rattle.std.specs.List.{list_all}
+use Rattle.std.specs.List.{list_all, zip}
 use Rattle.std.specs.Option.{option_map_or}
 use Rattle.cell_complex.specs.declared.face.Face.{Face}
 use Rattle.cell_complex.specs.Complexes.{CellComplex, joins, is_face}
@@ -48,24 +48,22 @@ abbrev pub matrix_between : List ℕ → ℕ → ℕ → List ℕ → WrittenMat
 matrix_between stalks s t entries =
     record { rows = slice_index stalks t; cols = slice_index stalks s; entries = entries }
 
--- at each face that passes the test the matrix made for it, at each other face the one that was there
-abbrev pub with_replacements : (Face → Bool) → (Face → WrittenMatrix) → List Face → List WrittenMatrix
-    → List WrittenMatrix
-with_replacements p make [] ms = []
-with_replacements p make (f ∷ fs) [] = []
-with_replacements p make (f ∷ fs) (m ∷ ms) = (if p f then make f else m) ∷ with_replacements p make fs ms
-
--- what a set makes: a stalk's new size, and the zero matrix at each face at the cell; or the matrix of a face
+-- what a set makes: a stalk's new size, and the zero matrix at each face at the cell; or the matrix of a face; at each
+-- other face the matrix stays
 abbrev pub with_set : CellComplex → SheafLists → Set → SheafLists
 with_set c l (Stalk s n) =
     let stalks = slice_set l.stalks s n in
     record {
       stalks = stalks;
-      matrices = with_replacements (λ f. (s == f.s) || (s == f.t)) (λ f. matrix_between stalks f.s f.t
-          (zeros (slice_index stalks f.t * slice_index stalks f.s))) c.faces l.matrices;
+      matrices = map (λ (p : Face × WrittenMatrix). if (s == p.0.s) || (s == p.0.t) then
+          matrix_between stalks p.0.s p.0.t (zeros (slice_index stalks p.0.t * slice_index stalks p.0.s)) else p.1)
+          (zip c.faces l.matrices);
     }
 with_set c l (Restrict s t entries) =
-    record l { matrices = with_replacements (joins s t) (λ f. matrix_between l.stalks s t entries) c.faces l.matrices }
+    record l {
+      matrices = map (λ (p : Face × WrittenMatrix). if joins s t p.0 then
+          matrix_between l.stalks s t entries else p.1) (zip c.faces l.matrices);
+    }
 
 -- what the sets make, taken in order, or the fault of the first that has one; their places are counted from i on
 abbrev pub sets_made : Ops → CellComplex → SheafLists → ℕ → List Set → Result SheafLists Cause

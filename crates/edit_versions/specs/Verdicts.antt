@@ -11,7 +11,7 @@ use Rattle.sheaf_words.specs.declared.edit.Edit.{Edit}
 use Rattle.sheaf_words.specs.declared.edit.Cause.TheVariants.{TotalLimit, Square}
 use Rattle.sheaf_words.specs.declared.edit.Verdict.{Verdict}
 use Rattle.sheaf_words.specs.declared.edit.Verdict.TheVariants.{Accepted, Refused}
-use Rattle.edit_versions.specs.Edits.{WrittenMatrix, written_matrix, SheafLists, sheaf_lists, sets_made}
+use Rattle.edit_versions.specs.Edits.{WrittenMatrix, written_matrix, sheaf_lists, sets_made}
 
 -- the verdict on restrictions: the first of all pairs of cells whose square does not commute, if there is one
 pub record IsSquareVerdict (K : Ops) (c : CellComplex) (matrices : List WrittenMatrix) (v : Verdict) : Type 0 where
@@ -27,7 +27,7 @@ abbrev pub IsVerdict : {F : Type 0} → Ops → SheafData F → Edit → Verdict
 IsVerdict K sheaf edit v =
     MatchResult (sets_made K sheaf.complex (sheaf_lists sheaf.stalks sheaf.blocks) 0 edit.sets)
     (λ l. MatchBool (nat_lt 4096 (sum l.stalks)) (v ≡ Refused TotalLimit)
-        (IsSquareVerdict K sheaf.complex l.matrices v))
+    (IsSquareVerdict K sheaf.complex l.matrices v))
     (λ cause. v ≡ Refused cause)
 
 -- the edited sheaf: what all sets make, over the same complex and field

@@ -1,6 +1,7 @@
 -- The stalks and blocks that an edit makes, set by set.
-use Rattle.std.specs.Prelude.{◌≡◌, ℕ, ◌≤◌, ◌<◌, ◌*◌, ◌==◌, ◌||◌, List, Bool, length, map, slice_index, All}
-use Rattle.std.specs.List.{list_any}
+use Rattle.std.specs.Prelude.{◌≡◌, ℕ, ◌≤◌, ◌<◌, ◌*◌, ◌==◌, ◌||◌, List, Bool, length, map, slice_index}
+use Rattle.std.specs.Prelude.{All, if◌then◌else◌}
+use Rattle.std.specs.List.{list_any, zip}
 use Rattle.cell_complex.specs.declared.face.Face.{Face}
 use Rattle.cell_complex.specs.Complexes.{CellComplex, joins}
 use Rattle.dense_blocks.specs.Field.{Ops}
@@ -10,8 +11,7 @@ use Rattle.sheaf_data.specs.Sheaves.{AreBlocks}
 use Rattle.sheaf_data.specs.Changes.{AreSameElsewhere}
 use Rattle.sheaf_words.specs.declared.edit.Set.{Set}
 use Rattle.edit_versions.specs.declared.work.Work.{Work}
-use Rattle.edit_versions.specs.Edits.{WrittenMatrix, SheafLists, written_matrix, sheaf_lists, with_replacements}
-use Rattle.edit_versions.specs.Edits.{matrix_between, with_set}
+use Rattle.edit_versions.specs.Edits.{WrittenMatrix, SheafLists, written_matrix, sheaf_lists, matrix_between, with_set}
 
 -- what the work stands for
 abbrev pub work_lists : Work → SheafLists
@@ -28,6 +28,12 @@ pub record IsWork (K : Ops) (c : CellComplex) (w : Work) : Type 0 where
 pub record IsTouched (c : CellComplex) (start : List Block) (w : Work) : Type 0 where
   pub faces : All (λ p. p < length c.faces) w.touched.items
   pub others : AreSameElsewhere w.touched.items start w.blocks.items
+
+-- at each face that passes the test the matrix made for it, at each other face the one that was there
+abbrev pub with_replacements : (Face → Bool) → (Face → WrittenMatrix) → List Face → List WrittenMatrix
+    → List WrittenMatrix
+with_replacements p make fs ms =
+    map (λ (q : Face × WrittenMatrix). if p q.0 then make q.0 else q.1) (zip fs ms)
 
 -- the stalks stay, at each face that passes the test stands the matrix made for it, and what was said of touched faces
 -- still holds

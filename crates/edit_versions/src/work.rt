@@ -1,4 +1,5 @@
-ghost use Rattle.std.specs.Prelude.{◌≡◌, ℕ, ◌*◌, ◌<◌, ◌≤◌, List, [], true, length, map, slice_index, slice_set, All, IfOk, OnOk};
+ghost use Rattle.std.specs.Prelude.{◌≡◌, ℕ, ◌*◌, ◌<◌, ◌≤◌, List, [], true, length, map, slice_index, slice_set, All};
+ghost use Rattle.std.specs.Prelude.{IfOk, OnOk};
 ghost use Rattle.cell_complex.specs.Complexes.{joins, is_face, faces_of};
 ghost use Rattle.cell_complex.specs.Invariants.{IsComplex, cofaces_of};
 ghost use Rattle.sheaf_words.specs.declared.edit.Set.TheVariants.{Stalk, Restrict};

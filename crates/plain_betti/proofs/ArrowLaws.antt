@@ -8,7 +8,7 @@ use Rattle.dense_blocks.specs.declared.block.Block.{Block}
 use Rattle.cell_complex.specs.declared.face.Face.{Face}
 use Rattle.plain_bases.specs.declared.complex.Arrow.{Arrow}
 use Rattle.plain_bases.specs.View.{FitsCells}
-use Rattle.sheaf_data.specs.Betti.{numbered_cells, arrows_of, arrow_of_face}
+use Rattle.sheaf_data.specs.Arrows.{numbered_cells, arrows_of, arrow_of_face}
 use Rattle.plain_betti.proofs.CellLaws.{size_at_number}
 
 pub length-arrows : (K : Ops) (fs : List Face) (bs : List Block) → length bs ≡ length fs → length (arrows_of K fs bs)

@@ -9,7 +9,8 @@ use Rattle.std.proofs.Math.Seq.{take-suc, get_or-append_seam}
 use Rattle.std.proofs.Math.ListN.{get_or-append}
 use Rattle.cochain_vec.specs.declared.cell.Cell.{Cell}
 use Rattle.cochain_vec.specs.Complexes.{total_size}
-use Rattle.sheaf_data.specs.Betti.{numbered_cells, degree_count}
+use Rattle.sheaf_data.specs.Betti.{degree_count}
+use Rattle.sheaf_data.specs.Arrows.{numbered_cells}
 
 count_next : (ds : List ℕ) (i : ℕ) → i < length ds → degree_count (take (suc i) ds) ≡ max (degree_count (take i ds))
     (get_or ds i 0 + 1)

@@ -3,7 +3,8 @@ ghost use Rattle.dense_blocks.specs.Vectors.{AllScalars};
 ghost use Rattle.dense_blocks.specs.Blocks.{matrix_of};
 ghost use Rattle.dense_blocks.specs.BlockFacts.{IsBlock};
 ghost use Rattle.plain_bases.specs.View.{arrow_of, FitsCells};
-ghost use Rattle.sheaf_data.specs.Betti.{signed_matrix, arrow_of_face, arrows_of, numbered_cells};
+ghost use Rattle.sheaf_data.specs.Betti.{signed_matrix};
+ghost use Rattle.sheaf_data.specs.Arrows.{arrow_of_face, arrows_of, numbered_cells};
 
 use cell_complex::{Face, Sign};
 use dense_blocks::{Block, Scalars, minus};

@@ -1,5 +1,6 @@
 ghost use Rattle.std.specs.Prelude.{◌≡◌, ◌≤◌, length, All, IfOk};
-ghost use Rattle.sheaf_data.specs.Betti.{numbered_cells, degree_count};
+ghost use Rattle.sheaf_data.specs.Betti.{degree_count};
+ghost use Rattle.sheaf_data.specs.Arrows.{numbered_cells};
 
 use cochain_vec::Cell;
 use std::alloc::{AllocError as NoMemory, Global};

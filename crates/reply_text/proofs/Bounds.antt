@@ -1,7 +1,7 @@
 -- No more commands end, and no more edits are accepted, than the scripts have.
-use Rattle.std.proofs.Common.{◌≡◌, ℕ, zero, suc, ◌+◌, ◌<◌, ◌≤◌, ◌^◌, ◌⊎◌, ⊎_elim, Bool, true, false, List, [], ◌∷◌, ◌++◌}
-use Rattle.std.proofs.Common.{Some, None, Option, slice_get, get_or, length, take, fold, count_by, if◌then◌else◌, refl, sym}
-use Rattle.std.proofs.Common.{ap, subst, ◌∙◌, arith, zero-add, add-zero}
+use Rattle.std.proofs.Common.{◌≡◌, ℕ, zero, suc, ◌+◌, ◌<◌, ◌≤◌, ◌^◌, ◌⊎◌, ⊎_elim, Bool, true, false, List, [], ◌∷◌}
+use Rattle.std.proofs.Common.{◌++◌, Some, None, Option, slice_get, get_or, length, take, fold}
+use Rattle.std.proofs.Common.{if◌then◌else◌, refl, sym, ap, subst, ◌∙◌, arith, zero-add, add-zero}
 use Rattle.std.specs.Prelude.{All, IfSome, sum_by}
 use Rattle.std.proofs.lemmas.Option.{slice_get_within, slice_get-get_or, get_or_from_slice_get}
 use Rattle.std.proofs.lemmas.List.Elements.{All-from_get_or}
@@ -12,7 +12,8 @@ use Rattle.sheaf_words.specs.declared.query.Command.{Command}
 use Rattle.sheaf_words.specs.declared.event.Event.{Event}
 use Rattle.sheaf_words.specs.declared.event.Event.TheVariants.{Edit, Ask, Pair, Reply}
 use Rattle.sheaf_words.specs.declared.edit.Verdict.TheVariants.{Accepted, Refused}
-use Rattle.reply_text.specs.Transcripts.{ends_for, ended_count, current_version, is_accepted}
+use Rattle.reply_text.specs.Transcripts.{ends_for, ended_count, is_accepted}
+use Rattle.reply_text.specs.Parts.{current_version}
 use Rattle.reply_text.specs.ClientEvents.{client_of, IfPresent, AreOf, AreAnswered, IsAnswerTo}
 use Rattle.reply_text.specs.Counts.{IsCountOf, AreCounted}
 use Rattle.reply_text.specs.declared.counts.Counts.{Counts}

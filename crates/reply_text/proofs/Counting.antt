@@ -2,9 +2,12 @@
 use Rattle.std.proofs.Common.{◌≡◌, ℕ, ◌+◌, ◌<◌, length, take, get_or, add-one, Bool, true, false, List, [], ◌∷◌, ◌++◌}
 use Rattle.std.proofs.Common.{count_by, fold, if◌then◌else◌, refl, sym, ap, ap₂, ◌∙◌, arith}
 use Rattle.std.proofs.Math.Seq.{take-suc}
+use Rattle.sheaf_words.specs.declared.edit.Verdict.TheVariants.{Accepted, Refused}
 use Rattle.sheaf_words.specs.declared.event.Event.{Event}
+use Rattle.sheaf_words.specs.declared.event.Event.TheVariants.{Edit, Ask, Pair, Reply}
 use Rattle.reply_text.specs.declared.counts.Counts.{Counts}
-use Rattle.reply_text.specs.Transcripts.{ends_for, asks_for, is_accepted, current_version, asked_version, asked_from}
+use Rattle.reply_text.specs.Transcripts.{ends_for, is_accepted, asked_from}
+use Rattle.reply_text.specs.Parts.{asks_for, current_version, asked_version}
 use Rattle.reply_text.specs.Counts.{IsCountOf}
 
 -- one more, counted
@@ -19,17 +22,27 @@ pub count-more : {X : Type 0} (p : X → Bool) (xs : List X) (x : X) → count_b
     + (if p x then 1 else 0)
 count-more p xs x = fold-more (step p) 0 xs x
 
+-- what the first event changes: an accepted edit the version that stands, a question of the client its last one
+asked_from-first : (c n v : ℕ) (event : Event) (events : List Event)
+    → asked_from c n v (event ∷ events)
+    ≡ asked_from c (if is_accepted event then n + 1 else n) (if asks_for c event then n else v) events
+asked_from-first c n v (Edit d Accepted) events = refl
+asked_from-first c n v (Edit d (Refused cause)) events = refl
+asked_from-first c n v (Ask d) events = refl
+asked_from-first c n v (Pair w x y) events = refl
+asked_from-first c n v (Reply d r) events = refl
+
 -- the version of the last question: the one that stands, if the event is a question of the client
 asked_from-more : (c n v : ℕ) (events : List Event) (event : Event)
     → asked_from c n v (events ++ event ∷ [])
     ≡ (if asks_for c event then fold (step is_accepted) n events else asked_from c n v events)
-asked_from-more c n v [] event = refl
+asked_from-more c n v [] event = asked_from-first c n v event []
 asked_from-more c n v (x ∷ events) event =
     let m = if is_accepted x then n + 1 else n in
     let w = if asks_for c x then n else v in
-    asked_from-more c m w events event
-    ∙ ap (λ k. if asks_for c event then fold (step is_accepted) k events else asked_from c m w events)
-    (counted (is_accepted x))
+    asked_from-first c n v x (events ++ event ∷ []) ∙ asked_from-more c m w events event
+    ∙ ap₂ (λ k asked. if asks_for c event then fold (step is_accepted) k events else asked)
+    (counted (is_accepted x)) (sym (asked_from-first c n v x events))
   where
     counted : (b : Bool) → (if b then n + 1 else n) ≡ n + (if b then 1 else 0)
     counted true = refl

@@ -1,22 +1,23 @@
 -- The number and the version that a reply names.
-use Rattle.std.proofs.Common.{◌≡◌, ℕ, ◌+◌, ◌<◌, ◌≤◌, ◌^◌, true, false, List, [], ◌∷◌, ◌++◌, Some, None, Option}
-use Rattle.std.proofs.Common.{slice_get, get_or, length, take, if◌then◌else◌, refl, sym, ap, ap₂, subst, ◌∙◌, arith}
-use Rattle.std.proofs.Common.{append-nil, append_assoc}
+use Rattle.std.proofs.Common.{◌≡◌, ℕ, ◌+◌, ◌<◌, ◌≤◌, true, List, [], ◌∷◌, ◌++◌, Some, None, Option}
+use Rattle.std.proofs.Common.{slice_get, get_or, length, take, map, if◌then◌else◌, refl, sym, ap, ap₂, subst, ◌∙◌, arith}
+use Rattle.std.proofs.Common.{append-nil, append_assoc, length-append}
+use Rattle.std.specs.List.{enumerate_from}
+use Rattle.std.proofs.Math.Seq.{take-append_seam}
 use Rattle.std.specs.Prelude.{All, IfSome, option_and_then}
 use Rattle.std.proofs.lemmas.Option.{slice_get_within, slice_get-get_or}
 use Rattle.std.proofs.lemmas.List.Elements.{All-from_get_or}
-use Rattle.std.proofs.lemmas.List.{length-take-le}
+use Rattle.std.proofs.lemmas.List.{length-take-le, take_all}
 use Rattle.std.proofs.lemmas.List.Concat.{flat_map-append}
 use Rattle.std.proofs.lemmas.Bool.{eqb-true}
 use Rattle.sheaf_words.specs.declared.query.Command.{Command}
 use Rattle.sheaf_words.specs.declared.event.Event.{Event}
 use Rattle.sheaf_words.specs.declared.event.Event.TheVariants.{Edit, Ask, Pair, Reply}
 use Rattle.reply_text.specs.Lines.{line_text}
-use Rattle.reply_text.specs.Parts.{lines_text, answer_lines, event_lines, client_part}
-use Rattle.reply_text.specs.Transcripts.{ends_for, ended_count, current_version, is_accepted, command_number}
-use Rattle.reply_text.specs.Transcripts.{version_named, client_lines, clients_lines, order_lines}
+use Rattle.reply_text.specs.Parts.{lines_text, answer_lines, event_lines, client_part, clients_lines, command_number}
+use Rattle.reply_text.specs.Parts.{numbered_words, order_lines, placed_lines}
+use Rattle.reply_text.specs.Transcripts.{ends_for, ended_count, version_named, client_lines, event_words}
 use Rattle.reply_text.specs.ClientEvents.{client_of, IfPresent, IsAnswered, IsOf, AreOf, AreAnswered, IsAnswerTo}
-use Rattle.reply_text.specs.Events.{event_words}
 use Rattle.reply_text.specs.Replies.{reply_lines}
 use Rattle.reply_text.specs.Counts.{IsCountOf}
 use Rattle.reply_text.specs.declared.counts.Counts.{Counts}
@@ -50,14 +51,6 @@ written-more c script events i event start old new h more next =
     ∙ ap lines_text (sym (client_lines-more c script [] (take i events) event))
     ∙ ap (λ es. lines_text (client_lines c script [] es)) (sym next))
 
--- the event ends the command after those that have ended
-pub number_of-ends : (c : ℕ) (events : List Event) (event : Event) → ends_for c event ≡ true
-    → command_number events event ≡ ended_count c events + 1
-number_of-ends c events (Edit d verdict) h = ap (λ k. ended_count k events + 1) (eqb-true d c h)
-number_of-ends c events (Ask d) h = absurd (cc)
-number_of-ends c events (Pair v x y) h = absurd (cc)
-number_of-ends c events (Reply d r) h = ap (λ k. ended_count k events + 1) (eqb-true d c h)
-
 -- what is written of an event that ends a command
 pub answer-is : (c : ℕ) (script : List Command) (events : List Event) (event : Event) (command : Command)
     (counts : Counts) (v : ℕ)
@@ -65,33 +58,58 @@ pub answer-is : (c : ℕ) (script : List Command) (events : List Event) (event :
     → v ≡ version_named events event
     → event_lines c script events event ≡ reply_lines (counts.ended + 1) v command event
 answer-is c script events event command counts v ends h there named =
-    ap (λ b. if b then answer_lines events event (slice_get script (ended_count c events)) else []) ends
-    ∙ ap (λ k. answer_lines events event (slice_get script k)) (sym h.ended_is)
-    ∙ ap (answer_lines events event) there
-    ∙ ap₂ (λ number version. reply_lines number version command event)
-    (number_of-ends c events event ends ∙ ap (λ k. k + 1) (sym h.ended_is)) (sym named)
+    ap (λ b. if b then answer_lines c events event (slice_get script (ended_count c events)) else []) ends
+    ∙ ap (λ k. answer_lines c events event (slice_get script k)) (sym h.ended_is)
+    ∙ ap (answer_lines c events event) there
+    ∙ ap₂ (λ number version. reply_lines number version command event) (ap (λ k. k + 1) (sym h.ended_is)) (sym named)
 
 -- the line of one event more
 pub order_lines-more : (earlier events : List Event) (event : Event)
     → order_lines earlier (events ++ event ∷ []) ≡ order_lines earlier events
-    ++ event_words (command_number (earlier ++ events) event) event ∷ []
-order_lines-more earlier [] event = ap (λ es. event_words (command_number es event) event ∷ [])
-    (sym (append-nil earlier))
+    ++ event_words (earlier ++ events) event ∷ []
+order_lines-more earlier [] event = ap (λ es. event_words es event ∷ []) (sym (append-nil earlier))
 order_lines-more earlier (x ∷ events) event =
-    ap (λ rest. event_words (command_number earlier x) x ∷ rest) (order_lines-more (earlier ++ x ∷ []) events event
-    ∙ ap (λ es. order_lines (earlier ++ x ∷ []) events ++ event_words (command_number es event) event ∷ [])
+    ap (λ rest. event_words earlier x ∷ rest) (order_lines-more (earlier ++ x ∷ []) events event
+    ∙ ap (λ es. order_lines (earlier ++ x ∷ []) events ++ event_words es event ∷ [])
     (append_assoc earlier (x ∷ []) events))
+
+-- the lines of the events after the earlier ones, by their places among all
+pub placed-from : (earlier events all : List Event) → earlier ++ events ≡ all
+    → map (λ (p : ℕ × Event). event_words (take p.0 all) p.1) (enumerate_from (length earlier) events)
+    ≡ order_lines earlier events
+placed-from earlier [] all e = refl
+placed-from earlier (x ∷ events) all e =
+    let next : length earlier + 1 ≡ length (earlier ++ x ∷ []) = sym (length-append earlier (x ∷ [])) in
+    let before : take (length earlier) all ≡ earlier =
+    ap (take (length earlier)) (sym e) ∙ take-append_seam earlier (x ∷ events) in
+    ap₂ (λ words rest. words ∷ rest) (ap (λ es. event_words es x) before)
+    (ap (λ n. map (λ (p : ℕ × Event). event_words (take p.0 all) p.1) (enumerate_from n events)) next
+    ∙ placed-from (earlier ++ x ∷ []) events all (append_assoc earlier (x ∷ []) events ∙ e))
+
+-- all of them
+pub all-placed : (events : List Event) (n : ℕ) → length events ≤ n → order_lines [] (take n events)
+    ≡ placed_lines events
+all-placed events n whole = ap (order_lines []) (take_all n events whole) ∙ sym (placed-from [] events events refl)
+
+-- the words of an event, with the number of its command
+words-numbered : (earlier : List Event) (event : Event)
+    → numbered_words (command_number earlier event) event ≡ event_words earlier event
+words-numbered earlier (Edit c verdict) = refl
+words-numbered earlier (Ask c) = refl
+words-numbered earlier (Pair v x y) = refl
+words-numbered earlier (Reply c r) = refl
 
 pub ordered-more : (events : List Event) (i : ℕ) (event : Event) (number : ℕ) (start old new : List ℕ)
     → old ≡ start ++ lines_text (order_lines [] (take i events))
-    → new ≡ old ++ line_text (event_words number event)
+    → new ≡ old ++ line_text (numbered_words number event)
     → number ≡ command_number (take i events) event
     → take (i + 1) events ≡ take i events ++ event ∷ []
     → new ≡ start ++ lines_text (order_lines [] (take (i + 1) events))
 ordered-more events i event number start old new h more is next =
     let first = order_lines [] (take i events) in
-    let last = event_words (command_number (take i events) event) event in
-    more ∙ ap₂ (λ text k. text ++ line_text (event_words k event)) h is
+    let last = event_words (take i events) event in
+    more ∙ ap₂ (λ text words. text ++ line_text words) h
+    (ap (λ k. numbered_words k event) is ∙ words-numbered (take i events) event)
     ∙ append_assoc start (lines_text first) (line_text last)
     ∙ ap (λ text. start ++ (lines_text first ++ text)) (sym (append-nil (line_text last)))
     ∙ ap (λ text. start ++ text) (sym (flat_map-append line_text first (last ∷ []))

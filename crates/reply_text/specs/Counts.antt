@@ -2,7 +2,8 @@
 use Rattle.std.specs.Prelude.{◌≡◌, ℕ, ◌<◌, List, length, slice_index}
 use Rattle.sheaf_words.specs.declared.event.Event.{Event}
 use Rattle.reply_text.specs.declared.counts.Counts.{Counts}
-use Rattle.reply_text.specs.Transcripts.{ended_count, current_version, asked_version}
+use Rattle.reply_text.specs.Transcripts.{ended_count}
+use Rattle.reply_text.specs.Parts.{current_version, asked_version}
 
 -- what the counts say of client c after these events
 pub record IsCountOf (c : ℕ) (events : List Event) (counts : Counts) : Type 0 where

@@ -1,6 +1,5 @@
 pub mod Lines
 pub mod Replies
-pub mod Events
 pub mod Transcripts
 pub mod Parts
 pub mod ClientEvents

@@ -1,13 +1,16 @@
 -- Parts of a transcript.
-use Rattle.std.specs.Prelude.{ℕ, List, [], ◌∷◌, ◌++◌, Option, slice_get, if◌then◌else◌, codes}
+use Rattle.std.specs.Prelude.{ℕ, ◌+◌, Bool, false, ◌==◌, List, [], ◌∷◌, ◌++◌, Option, slice_get, count_by}
+use Rattle.std.specs.Prelude.{if◌then◌else◌, map, take, codes}
 use Rattle.std.specs.Fmt.{decimal}
-use Rattle.std.specs.List.{flat_map}
+use Rattle.std.specs.List.{flat_map, enumerate_from}
 use Rattle.std.specs.Option.{option_map_or}
 use Rattle.sheaf_words.specs.declared.query.Command.{Command}
 use Rattle.sheaf_words.specs.declared.event.Event.{Event}
+use Rattle.sheaf_words.specs.declared.event.Event.TheVariants.{Edit, Ask, Pair, Reply}
 use Rattle.reply_text.specs.Lines.{line_text}
 use Rattle.reply_text.specs.Replies.{reply_lines}
-use Rattle.reply_text.specs.Transcripts.{ends_for, ended_count, version_named, command_number, client_lines}
+use Rattle.reply_text.specs.Transcripts.{ends_for, ended_count, is_accepted, asked_from, version_named, client_lines}
+use Rattle.reply_text.specs.Transcripts.{event_words}
 
 abbrev pub lines_text : List (List (List ℕ)) → List ℕ
 lines_text lines = flat_map line_text lines
@@ -16,16 +19,59 @@ lines_text lines = flat_map line_text lines
 abbrev pub spaced_words : List (List ℕ) → List ℕ
 spaced_words words = flat_map (λ word. 32 ∷ word) words
 
--- the lines of an event that ends the command
-abbrev pub answer_lines : List Event → Event → Option Command → List (List (List ℕ))
-answer_lines earlier event found = option_map_or
-    (λ command. reply_lines (command_number earlier event) (version_named earlier event) command event) found []
+-- the lines of an event that ends the command of client c
+abbrev pub answer_lines : ℕ → List Event → Event → Option Command → List (List (List ℕ))
+answer_lines c earlier event found = option_map_or
+    (λ command. reply_lines (ended_count c earlier + 1) (version_named earlier event) command event) found []
 
 -- the lines that an event after the earlier ones gives client c with this script
 abbrev pub event_lines : ℕ → List Command → List Event → Event → List (List (List ℕ))
 event_lines c script earlier event = if ends_for c event then
-    answer_lines earlier event (slice_get script (ended_count c earlier)) else []
+    answer_lines c earlier event (slice_get script (ended_count c earlier)) else []
 
 -- the line `client C`, and then the replies to client c
 abbrev pub client_part : ℕ → List Command → List Event → List (List (List ℕ))
 client_part c script events = (codes "client" ∷ decimal c ∷ []) ∷ client_lines c script [] events
+
+-- this for each client from c on
+abbrev pub clients_lines : ℕ → List (List Command) → List Event → List (List (List ℕ))
+clients_lines c scripts events =
+    flat_map (λ (p : ℕ × List Command). client_part p.0 p.1 events) (enumerate_from c scripts)
+
+-- a line for each event
+abbrev pub order_lines : List Event → List Event → List (List (List ℕ))
+order_lines earlier [] = []
+order_lines earlier (event ∷ events) = event_words earlier event ∷ order_lines (earlier ++ event ∷ []) events
+
+-- these, each by its place among all events
+abbrev pub placed_lines : List Event → List (List (List ℕ))
+placed_lines events = map (λ (p : ℕ × Event). event_words (take p.0 events) p.1) (enumerate_from 0 events)
+
+-- ---- counts
+
+-- whether client c asks by this event
+abbrev pub asks_for : ℕ → Event → Bool
+asks_for c (Ask d) = d == c
+asks_for c event = false
+
+-- the version that stands after these events: the number of accepted edits
+abbrev pub current_version : List Event → ℕ
+current_version events = count_by is_accepted events
+
+-- the version that stood at the last question of client c
+abbrev pub asked_version : ℕ → List Event → ℕ
+asked_version c events = asked_from c 0 0 events
+
+-- the number, from 1, of the command that an event after the earlier ones is about
+abbrev pub command_number : List Event → Event → ℕ
+command_number earlier (Edit c verdict) = ended_count c earlier + 1
+command_number earlier (Ask c) = ended_count c earlier + 1
+command_number earlier (Pair v x y) = 0
+command_number earlier (Reply c r) = ended_count c earlier + 1
+
+-- the words of an event about the command of this number
+abbrev pub numbered_words : ℕ → Event → List (List ℕ)
+numbered_words number (Edit c verdict) = codes "edit" ∷ decimal c ∷ decimal number ∷ []
+numbered_words number (Ask c) = codes "ask" ∷ decimal c ∷ decimal number ∷ []
+numbered_words number (Pair v x y) = codes "pair" ∷ decimal v ∷ decimal x ∷ decimal y ∷ []
+numbered_words number (Reply c r) = codes "reply" ∷ decimal c ∷ decimal number ∷ []

@@ -7,7 +7,6 @@ use Rattle.sheaf_words.specs.declared.query.Query.TheVariants as queries
 use Rattle.sheaf_words.specs.declared.edit.Cause.{Cause}
 use Rattle.sheaf_words.specs.declared.edit.Cause.TheVariants.{NoCell, NoFace, StalkLimit, Shape, Entry, TotalLimit}
 use Rattle.sheaf_words.specs.declared.edit.Cause.TheVariants.{Square}
-use Rattle.sheaf_words.specs.declared.edit.Verdict.{Verdict}
 use Rattle.sheaf_words.specs.declared.edit.Verdict.TheVariants.{Accepted, Refused}
 use Rattle.sheaf_words.specs.declared.event.Event.{Event}
 use Rattle.sheaf_words.specs.declared.event.Event.TheVariants as events
@@ -24,6 +23,7 @@ command_word (Ask (queries.Class k z)) = codes "class"
 command_word (Ask queries.Sections) = codes "sections"
 command_word (Ask (queries.Extend s v)) = codes "extend"
 
+-- why an edit is refused
 abbrev pub cause_words : Cause → List (List ℕ)
 cause_words (NoCell i) = codes "cell" ∷ decimal i ∷ []
 cause_words (NoFace i) = codes "face" ∷ decimal i ∷ []
@@ -33,13 +33,10 @@ cause_words (Entry i) = codes "entry" ∷ decimal i ∷ []
 cause_words TotalLimit = codes "total" ∷ []
 cause_words (Square s u) = codes "square" ∷ decimal s ∷ decimal u ∷ []
 
-abbrev pub verdict_words : Verdict → List (List ℕ)
-verdict_words Accepted = codes "accepted" ∷ []
-verdict_words (Refused cause) = codes "refused" ∷ cause_words cause
-
 -- what the line says after the word of the command
 abbrev pub answer_words : Event → List (List ℕ)
-answer_words (events.Edit c verdict) = verdict_words verdict
+answer_words (events.Edit c Accepted) = codes "accepted" ∷ []
+answer_words (events.Edit c (Refused cause)) = codes "refused" ∷ cause_words cause
 answer_words (events.Reply c (replies.Betti numbers)) = map decimal numbers
 answer_words event = []
 

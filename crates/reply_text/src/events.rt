@@ -2,7 +2,7 @@ ghost use Rattle.std.specs.Prelude.{◌≡◌, ◌∷◌, ◌++◌, IfOk, OnOk, 
 ghost use Rattle.std.specs.Fmt.{decimal};
 ghost use Rattle.std.specs.List.{join_with_byte};
 ghost use Rattle.reply_text.specs.Lines.{line_text};
-ghost use Rattle.reply_text.specs.Events.{event_words};
+ghost use Rattle.reply_text.specs.Parts.{numbered_words};
 
 use crate::words::{put_named, put_next};
 use sheaf_words::Event;
@@ -26,7 +26,7 @@ fn put_pair(out: &mut Vec<u8>, v: u32, x: u32, y: u32) -> Result<(), NoMemory>
 }
 
 fn put_event(out: &mut Vec<u8>, number: u32, event: &Event) -> Result<(), NoMemory>
-    ensures { OnOk result (out.new.items ≡ out.old.items ++ join_with_byte 32 (event_words number event.now)) }
+    ensures { OnOk result (out.new.items ≡ out.old.items ++ join_with_byte 32 (numbered_words number event.now)) }
 {
     match event {
         Event::Edit { c, .. } => put_step(out, b"edit", *c, number),
@@ -38,7 +38,7 @@ fn put_event(out: &mut Vec<u8>, number: u32, event: &Event) -> Result<(), NoMemo
 
 /// The line of an event, with its line end.
 fn line(alloc: Global, number: u32, event: &Event) -> Result<Vec<u8>, NoMemory>
-    ensures { IfOk result (λ text. text.items ≡ line_text (event_words number event.now)) }
+    ensures { IfOk result (λ text. text.items ≡ line_text (numbered_words number event.now)) }
 {
     let mut text = Vec::new(alloc);
     put_event(&mut text, number, event)?;
@@ -57,7 +57,7 @@ pub fn event_line(
     event: &Event,
     out: &mut Vec<u8>,
 ) -> Result<(), NoMemory>
-    ensures ok { OnOk result (out.new.items ≡ out.old.items ++ line_text (event_words number event.now)) }
+    ensures ok { OnOk result (out.new.items ≡ out.old.items ++ line_text (numbered_words number event.now)) }
     ensures err { OnErr result (out.new.items ≡ out.old.items) }
 {
     let text = line(alloc, number, event)?;

@@ -1,8 +1,7 @@
 ghost use Rattle.std.specs.Prelude.{◌≡◌, ℕ, ◌+◌, ◌<◌, ◌^◌, ◌∷◌, [], ◌++◌, List, length, sum_by, All, IfSome, OnOk};
 ghost use Rattle.sheaf_words.specs.declared.event.Event.{Event};
-ghost use Rattle.reply_text.specs.Parts.{lines_text};
+ghost use Rattle.reply_text.specs.Parts.{lines_text, command_number, placed_lines};
 ghost use Rattle.reply_text.specs.ClientEvents.{AreOf, client_of, ender_of};
-ghost use Rattle.reply_text.specs.Transcripts.{command_number, order_lines};
 ghost use Rattle.reply_text.specs.Counts.{AreCounted};
 
 use crate::events::event_line;
@@ -65,7 +64,7 @@ pub(crate) fn put_order(
     requires few { sum_by length scripts.now + 1 < 2 ^ 32 }
     requires of { AreOf scripts.now events.now }
     requires known { All (λ event. IfSome (client_of event) (λ c. c < length scripts.now)) events.now }
-    ensures { OnOk result (out.new.items ≡ out.old.items ++ lines_text (order_lines [] events.now)) }
+    ensures { OnOk result (out.new.items ≡ out.old.items ++ lines_text (placed_lines events.now)) }
 {
     let mut counts = vec![in alloc; 0u32; scripts.len()]?;
     for event in events {

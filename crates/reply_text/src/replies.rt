@@ -1,6 +1,6 @@
-ghost use Rattle.std.specs.Prelude.{◌≡◌, ◌∷◌, ◌++◌, IfOk, OnOk, OnErr};
+ghost use Rattle.std.specs.Prelude.{◌≡◌, ◌∷◌, ◌++◌, codes, IfOk, OnOk, OnErr};
 ghost use Rattle.reply_text.specs.Parts.{spaced_words, lines_text};
-ghost use Rattle.reply_text.specs.Replies.{command_word, cause_words, verdict_words, answer_words, reply_lines};
+ghost use Rattle.reply_text.specs.Replies.{command_word, cause_words, answer_words, reply_lines};
 ghost use Rattle.reply_text.specs.ClientEvents.{IsAnswerTo};
 
 use crate::words::{put_all, put_named, put_next, put_number};
@@ -44,17 +44,8 @@ fn put_square(out: &mut Vec<u8>, s: u32, u: u32) -> Result<(), NoMemory>
     put_next(out, u)
 }
 
-fn put_verdict(out: &mut Vec<u8>, verdict: Verdict) -> Result<(), NoMemory>
-    ensures { OnOk result (out.new.items ≡ out.old.items ++ spaced_words (verdict_words verdict)) }
-{
-    match verdict {
-        Verdict::Accepted => out.extend_from_slice(b" accepted"),
-        Verdict::Refused(cause) => put_refusal(out, cause),
-    }
-}
-
 fn put_refusal(out: &mut Vec<u8>, cause: Cause) -> Result<(), NoMemory>
-    ensures { OnOk result (out.new.items ≡ out.old.items ++ spaced_words (verdict_words (Verdict.Refused cause))) }
+    ensures { OnOk result (out.new.items ≡ out.old.items ++ spaced_words (codes "refused" ∷ cause_words cause)) }
 {
     out.extend_from_slice(b" refused")?;
     put_cause(out, cause)
@@ -64,7 +55,14 @@ fn put_answer(out: &mut Vec<u8>, event: &Event) -> Result<(), NoMemory>
     ensures { OnOk result (out.new.items ≡ out.old.items ++ spaced_words (answer_words event.now)) }
 {
     match event {
-        Event::Edit { verdict, .. } => put_verdict(out, *verdict),
+        Event::Edit {
+            verdict: Verdict::Accepted,
+            ..
+        } => out.extend_from_slice(b" accepted"),
+        Event::Edit {
+            verdict: Verdict::Refused(cause),
+            ..
+        } => put_refusal(out, *cause),
         Event::Reply {
             r: Reply::Betti(numbers),
             ..

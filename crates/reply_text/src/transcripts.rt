@@ -1,8 +1,11 @@
-ghost use Rattle.std.specs.Prelude.{◌≡◌, ℕ, ◌+◌, ◌<◌, ◌≤◌, ◌∷◌, [], ◌++◌, List, Some, None, MatchOption, length, take, slice_get, sum_by, IfOk, OnOk, codes, true, ◌^◌};
+ghost use Rattle.std.specs.Prelude.{◌≡◌, ℕ, ◌+◌, ◌<◌, ◌≤◌, ◌∷◌, [], ◌++◌, List, Some, None, MatchOption, length, take};
+ghost use Rattle.std.specs.Prelude.{slice_get, sum_by, IfOk, OnOk, codes, true, ◌^◌};
 ghost use Rattle.sheaf_words.specs.declared.event.Event.{Event};
-ghost use Rattle.reply_text.specs.Parts.{lines_text, client_part, event_lines};
+ghost use Rattle.reply_text.specs.Parts.{lines_text, client_part, clients_lines, event_lines};
+ghost use Rattle.reply_text.specs.Parts.{asks_for, current_version};
 ghost use Rattle.reply_text.specs.ClientEvents.{IsAnswerTo, AreOf, IfPresent, AreAnswered};
-ghost use Rattle.reply_text.specs.Transcripts.{clients_lines, transcript, ends_for, asks_for, is_accepted, ended_count, current_version, version_named, client_lines};
+ghost use Rattle.reply_text.specs.Transcripts.{ends_for, is_accepted, version_named, client_lines};
+ghost use Rattle.reply_text.specs.Transcripts.{transcript};
 ghost use Rattle.reply_text.specs.Counts.{IsCountOf};
 
 use crate::counts::Counts;

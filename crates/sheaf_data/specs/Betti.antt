@@ -1,43 +1,33 @@
 -- The whole cochain complex of a sheaf, and its Betti numbers.
-use Rattle.std.specs.Prelude.{ℕ, ◌+◌, List, [], ◌∷◌, max}
+use Rattle.std.specs.Prelude.{ℕ, ◌+◌, List, [], ◌∷◌, map, max}
+use Rattle.std.specs.List.{zip, enumerate_from}
 use Rattle.cell_complex.specs.declared.face.Face.{Face}
 use Rattle.cell_complex.specs.declared.face.Sign.{Sign}
 use Rattle.cell_complex.specs.declared.face.Sign.TheVariants.{Plus, Minus}
 use Rattle.cell_complex.specs.Complexes.{CellComplex}
-use Rattle.cochain_vec.specs.declared.cell.Cell.{Cell}
-use Rattle.cochain_vec.specs.Complexes.{Arrow, CellularComplex}
+use Rattle.cochain_vec.specs.Complexes.{CellularComplex}
 use Rattle.dense_blocks.specs.Field.{Ops}
 use Rattle.dense_blocks.specs.Matrices.{matrix_negative}
 use Rattle.dense_blocks.specs.Blocks.{matrix_of}
 use Rattle.dense_blocks.specs.declared.block.Block.{Block}
-
--- cells of these dimensions and stalks, numbered from n on: each has its dimension as its degree, and its stalk as its
--- size
-abbrev pub numbered_cells : ℕ → List ℕ → List ℕ → List Cell
-numbered_cells n [] stalks = []
-numbered_cells n (d ∷ dims) [] = []
-numbered_cells n (d ∷ dims) (size ∷ stalks) =
-    record { cell = n; degree = d; size = size } ∷ numbered_cells (n + 1) dims stalks
 
 -- a sign times a matrix
 abbrev pub signed_matrix : Ops → Sign → List (List ℕ) → List (List ℕ)
 signed_matrix K Plus A = A
 signed_matrix K Minus A = matrix_negative K A
 
--- a face with its block: the sign times the matrix of the block, from the coordinates of s to those of t
-abbrev pub arrow_of_face : Ops → Face → Block → Arrow
-arrow_of_face K f b = record { from = f.s; to = f.t; matrix = signed_matrix K f.sign (matrix_of b) }
-
--- an arrow for each face, in order
-abbrev pub arrows_of : Ops → List Face → List Block → List Arrow
-arrows_of K [] blocks = []
-arrows_of K (f ∷ faces) [] = []
-arrows_of K (f ∷ faces) (b ∷ blocks) = arrow_of_face K f b ∷ arrows_of K faces blocks
-
--- the whole complex: every cell, and an arrow for every face
+-- the whole complex: every cell, with its dimension as its degree and its stalk as its size; and for every face the
+-- sign times the matrix of its block, from the coordinates of s to those of t
 abbrev pub cochain_complex_of : Ops → CellComplex → List ℕ → List Block → CellularComplex
-cochain_complex_of K c stalks blocks =
-    record { cells = numbered_cells 0 c.dims stalks; arrows = arrows_of K c.faces blocks }
+cochain_complex_of K c stalks blocks = record {
+  cells = map (λ (p : ℕ × (ℕ × ℕ)). record { cell = p.0; degree = p.1.0; size = p.1.1 })
+      (enumerate_from 0 (zip c.dims stalks));
+  arrows = map (λ (p : Face × Block). record {
+    from = p.0.s;
+    to = p.0.t;
+    matrix = signed_matrix K p.0.sign (matrix_of p.1);
+  }) (zip c.faces blocks);
+}
 
 -- one more than the largest dimension of a cell, and 0 where there are no cells
 abbrev pub degree_count : List ℕ → ℕ

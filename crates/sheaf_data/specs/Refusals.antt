@@ -1,4 +1,4 @@
--- Why a draft is no sheaf, and what changes with some blocks.
+-- Why a draft is no sheaf.
 use Rattle.std.specs.Prelude.{◌≡◌, ℕ, List, Some, length, slice_get}
 use Rattle.cell_complex.specs.Complexes.{CellComplex}
 use Rattle.dense_blocks.specs.Field.{Ops}
@@ -9,12 +9,8 @@ use Rattle.square_check.specs.Squares.{Commutes}
 use Rattle.sheaf_data.specs.declared.fault.SealFault.{SealFault}
 use Rattle.sheaf_data.specs.declared.fault.SealFault.TheVariants.{Complex, Noncommuting}
 
--- the first pair of cells whose square does not commute
-abbrev pub IsFirstBad : Ops → CellComplex → List Block → ℕ → ℕ → Type 0
-IsFirstBad K c blocks s u = IsFirstOf (Commutes K c blocks) (length c.dims) s u
-
 -- the incidences are not regular, with their first fault; or they are, with the first pair whose square does not
 -- commute
 abbrev pub IsFault : Ops → CellComplex → List Block → SealFault → Type 0
 IsFault K c blocks (Complex fault) = (HasRegularIncidences c → ⊥) × (slice_get (faults c) 0 ≡ Some fault)
-IsFault K c blocks (Noncommuting s u) = HasRegularIncidences c × IsFirstBad K c blocks s u
+IsFault K c blocks (Noncommuting s u) = HasRegularIncidences c × IsFirstOf (Commutes K c blocks) (length c.dims) s u

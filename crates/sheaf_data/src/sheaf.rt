@@ -1,9 +1,9 @@
 ghost use Rattle.std.specs.Prelude.{◌≡◌, ℕ, ◌<◌, ◌↔◌, All, IsOk, IfOk, IfErr, OnOk, OnErr, MatchOption, length};
-ghost use Rattle.square_check.specs.Answers.{IsFirstFailure};
+ghost use Rattle.square_check.specs.Answers.{IsFirstOf, IsFirstFailure};
 ghost use Rattle.square_check.specs.Squares.{Commutes};
 ghost use Rattle.sheaf_data.specs.Sheaves.{IsSheaf};
 ghost use Rattle.sheaf_data.specs.Drafts.{IsDraft};
-ghost use Rattle.sheaf_data.specs.Refusals.{IsFirstBad, IsFault};
+ghost use Rattle.sheaf_data.specs.Refusals.{IsFault};
 ghost use Rattle.sheaf_data.specs.Changes.{AreSameElsewhere};
 
 use crate::draft::Draft;
@@ -98,7 +98,8 @@ impl<F: Scalars> Sheaf<F> {
         requires faces { All (λ p. p < length self.old.complex.faces) touched.now }
         requires others { AreSameElsewhere touched.now self.old.blocks blocks }
         ensures commute { IsOk result ↔ ((s u : ℕ) → Commutes (F.ops self.old.field) self.old.complex blocks s u) }
-        ensures refused { IfErr result (λ e. IsFirstBad (F.ops self.old.field) self.old.complex blocks e.0 e.1) }
+        ensures refused { IfErr result (λ e. IsFirstOf (Commutes (F.ops self.old.field) self.old.complex blocks)
+            (length self.old.complex.dims) e.0 e.1) }
         ensures ok { OnOk result (self.new ≡ record self.old { stalks = stalks; blocks = blocks }) }
         ensures err { OnErr result (self.new ≡ self.old) }
     {

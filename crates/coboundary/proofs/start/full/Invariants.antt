@@ -1,5 +1,5 @@
 use Rattle.std.proofs.Common.{◌≡◌}
-use Rattle.sheaf_data.specs.Betti.{numbered_cells}
+use Rattle.sheaf_data.specs.Arrows.{numbered_cells}
 use Rattle.block_sparse.specs.StoredBlocks.{block_at}
 use Rattle.coboundary.specs.Start.{with_stalks}
 use Rattle.coboundary.specs.Put.{AreFirstPut}

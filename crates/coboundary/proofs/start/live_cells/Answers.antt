@@ -1,5 +1,5 @@
 use Rattle.std.proofs.Common.{ap, ◌∙◌, ◌+◌, ◌++◌, drop, arith}
-use Rattle.sheaf_data.specs.Betti.{numbered_cells}
+use Rattle.sheaf_data.specs.Arrows.{numbered_cells}
 use Rattle.coboundary.specs.Start.{with_stalks}
 use Rattle.coboundary.proofs.start.live_cells.Goals as goal
 use Rattle.coboundary.proofs.StartLaws.{with_stalks-next}

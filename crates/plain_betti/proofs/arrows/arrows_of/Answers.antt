@@ -4,7 +4,7 @@ use Rattle.std.proofs.lemmas.List.Elements.{All-push}
 use Rattle.cochain_vec.specs.Complexes as complexes
 use Rattle.plain_bases.specs.declared.complex.Arrow.{Arrow}
 use Rattle.plain_bases.specs.View.{arrow_of, FitsCells}
-use Rattle.sheaf_data.specs.Betti.{arrows_of, numbered_cells}
+use Rattle.sheaf_data.specs.Arrows.{arrows_of, numbered_cells}
 use Rattle.plain_betti.proofs.ArrowLaws.{length-arrows, take_next_known}
 use Rattle.plain_betti.proofs.arrows.arrows_of.Goals as goal
 

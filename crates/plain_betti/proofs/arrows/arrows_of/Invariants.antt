@@ -1,6 +1,6 @@
 use Rattle.std.proofs.Common.{◌≡◌, map, take, All}
 use Rattle.plain_bases.specs.View.{arrow_of, FitsCells}
-use Rattle.sheaf_data.specs.Betti.{arrows_of, numbered_cells}
+use Rattle.sheaf_data.specs.Arrows.{arrows_of, numbered_cells}
 use Rattle.plain_betti.proofs.arrows.arrows_of.Given as goal
 
 abbrev pub invariant-loop-place : goal.invariant-loop-place

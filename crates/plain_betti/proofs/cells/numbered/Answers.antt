@@ -1,6 +1,6 @@
 use Rattle.std.proofs.Common.{◌∙◌, arith}
 use Rattle.std.proofs.lemmas.List.{take_all}
-use Rattle.sheaf_data.specs.Betti.{numbered_cells}
+use Rattle.sheaf_data.specs.Arrows.{numbered_cells}
 use Rattle.plain_betti.proofs.CellLaws.{length-numbered_cells}
 use Rattle.plain_betti.proofs.cells.numbered.Goals as goal
 

@@ -1,5 +1,5 @@
 use Rattle.std.proofs.Common.{◌≡◌, take}
-use Rattle.sheaf_data.specs.Betti.{numbered_cells}
+use Rattle.sheaf_data.specs.Arrows.{numbered_cells}
 use Rattle.plain_betti.proofs.cells.numbered.Given as goal
 
 abbrev pub invariant-loop-i : goal.invariant-loop-i

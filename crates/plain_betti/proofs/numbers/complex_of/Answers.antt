@@ -4,7 +4,7 @@ use Rattle.cochain_vec.specs.Complexes.{total_size}
 use Rattle.plain_bases.specs.declared.complex.Arrow.{Arrow}
 use Rattle.plain_bases.specs.View.{FitsCells}
 use Rattle.sheaf_data.specs.Sheaves.{SheafData}
-use Rattle.sheaf_data.specs.Betti.{numbered_cells}
+use Rattle.sheaf_data.specs.Arrows.{numbered_cells}
 use Rattle.plain_betti.proofs.CellLaws.{few_coordinates}
 use Rattle.plain_betti.proofs.numbers.complex_of.Goals as goal
 

@@ -1,7 +1,8 @@
-use Rattle.std.proofs.Common.{◌≡◌, ◌+◌, ◌∷◌, ◌++◌, ◌^◌, ◌<◌, [], take, All, sym, ◌∙◌, subst}
+use Rattle.std.proofs.Common.{◌≡◌, ◌+◌, ◌∷◌, ◌++◌, ◌^◌, ◌<◌, [], take, All, sym, ap, ◌∙◌, subst, arith}
 use Rattle.reply_text.specs.Counts.{AreCounted}
+use Rattle.reply_text.specs.Parts.{lines_text}
 use Rattle.reply_text.proofs.Counting.{take_next}
-use Rattle.reply_text.proofs.Naming.{ordered-more}
+use Rattle.reply_text.proofs.Naming.{ordered-more, all-placed}
 use Rattle.reply_text.proofs.Bounds.{counts-fit}
 use Rattle.reply_text.proofs.order.put_order.Goals as goal
 
@@ -33,3 +34,8 @@ loop-event-preserved c =
           (c.count_event.ensures.counted (take i events) inv.1),
       c.count_event.ensures.len ∙ inv.2,
     )
+
+pub returns : goal.returns
+returns c =
+    c.loop-event.invariant.0 ∙ ap (λ lines. c.args.out.now.items ++ lines_text lines)
+    (all-placed c.args.events.now c.loop-event.event-index (omega arith))

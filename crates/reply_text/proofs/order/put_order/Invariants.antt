@@ -1,6 +1,5 @@
 use Rattle.std.proofs.Common.{◌≡◌, ◌++◌, [], take, length}
-use Rattle.reply_text.specs.Parts.{lines_text}
-use Rattle.reply_text.specs.Transcripts.{order_lines}
+use Rattle.reply_text.specs.Parts.{lines_text, order_lines}
 use Rattle.reply_text.specs.Counts.{AreCounted}
 use Rattle.reply_text.proofs.order.put_order.Given as goal
 

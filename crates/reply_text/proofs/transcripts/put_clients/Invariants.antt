@@ -1,6 +1,5 @@
 use Rattle.std.proofs.Common.{◌≡◌, ◌++◌, take}
-use Rattle.reply_text.specs.Parts.{lines_text}
-use Rattle.reply_text.specs.Transcripts.{clients_lines}
+use Rattle.reply_text.specs.Parts.{lines_text, clients_lines}
 use Rattle.reply_text.proofs.transcripts.put_clients.Given as goal
 
 abbrev pub invariant-loop-script : goal.invariant-loop-script
