@@ -16,11 +16,10 @@ use Rattle.sheaf_text.specs.Readings as readings
 use Rattle.sheaf_text.specs.declared.input.Input.{Input}
 use Rattle.sheaf_text.proofs.Inputs.{input_value-injective}
 use Rattle.sheaf_run.specs.declared.job.Job.{Job}
-use Rattle.sheaf_run.specs.declared.job.Job.TheVariants.{Solve, Check}
 use Rattle.sheaf_run.specs.declared.status.Status.{Status}
 use Rattle.sheaf_run.specs.declared.status.Status.TheVariants.{Done, ReadFault, WriteFault, NoMemory, BadComplex}
 use Rattle.sheaf_run.specs.declared.status.Status.TheVariants.{BadSheaf}
-use Rattle.sheaf_run.specs.Answers.{Outcome, IsAnswer, DraftIsDue, ReadingIsDue, IsDue, refusal, AnswersDraft}
+use Rattle.sheaf_run.specs.Answers.{Outcome, IsAnswer, DraftIsDue, IsDue, refusal, AnswersDraft}
 use Rattle.sheaf_run.specs.Answers.{AnswersReading, AnswersJob}
 use Rattle.sheaf_run.specs.Runs.{IsSent, IsRun, IsServed}
 use Rattle.sheaf_run.specs.Views.{SourceView, SinkView}
@@ -67,31 +66,20 @@ draft_due_only d _ other h due = absurd h
 
 -- ---- a reading is due what its input is due
 
-due_of_reading : (job : Job) (r : Reading) (a : Outcome) → AnswersReading job r a → ReadingIsDue r a.status
+due_of_reading : (job : Job) (r : Reading) (a : Outcome) → AnswersReading job r a → IsDue job r a.status
 due_of_reading job (readings.Good v) a found =
     (found.0, found.1, due_of_draft job found.0.draft found.0.scripts a found.2)
 due_of_reading job (readings.BadLine line cause) a is = ap (λ (o : Outcome). o.status) is
 due_of_reading job (readings.Limit line which) a is = ap (λ (o : Outcome). o.status) is
 
 reading_due_only : (job : Job) (r : Reading) (a : Outcome) → AnswersReading job r a → (status : Status)
-    → ReadingIsDue r status → a.status ≡ status
+    → IsDue job r status → a.status ≡ status
 reading_due_only job (readings.Good v) a found status due =
     draft_due_only found.0.draft a.status status (due_of_draft job found.0.draft found.0.scripts a found.2)
     (subst (λ (i : Input). DraftIsDue i.draft status)
     (input_value-injective due.0 found.0 (sym due.1 ∙ found.1)) due.2)
 reading_due_only job (readings.BadLine line cause) a is status due = ap (λ (o : Outcome). o.status) is ∙ sym due
 reading_due_only job (readings.Limit line which) a is status due = ap (λ (o : Outcome). o.status) is ∙ sym due
-
--- under each job bytes are due what their reading is due
-due_as_read : (job : Job) (bytes : List ℕ) (status : Status) → ReadingIsDue (reading bytes) status
-    → IsDue job bytes status
-due_as_read Solve bytes status due = due
-due_as_read Check bytes status due = due
-
-read_as_due : (job : Job) (bytes : List ℕ) (status : Status) → IsDue job bytes status
-    → ReadingIsDue (reading bytes) status
-read_as_due Solve bytes status due = due
-read_as_due Check bytes status due = due
 
 -- ---- what is answered
 
@@ -103,12 +91,11 @@ HasOutcome job left sink sink_new result =
 -- what is answered is what the bytes are due
 pub exact : (job : Job) (left : Option (List ℕ)) (sink sink_new : SinkView) (result : Status)
     → HasOutcome job left sink sink_new result
-    → IfSome left (λ bytes. (status : Status) → (result ≡ status) ↔ IsDue job bytes status)
+    → IfSome left (λ bytes. (status : Status) → (result ≡ status) ↔ IsDue job (reading bytes) status)
 exact job None sink sink_new result answered = tt
 exact job (Some bytes) sink sink_new result (a, right, sent) = λ status. (
-  λ e. due_as_read job bytes status
-      (subst (ReadingIsDue (reading bytes)) (sym sent.status ∙ e) (due_of_reading job (reading bytes) a right)),
-  λ due. sent.status ∙ reading_due_only job (reading bytes) a right status (read_as_due job bytes status due),
+  λ e. subst (IsDue job (reading bytes)) (sym sent.status ∙ e) (due_of_reading job (reading bytes) a right),
+  λ due. sent.status ∙ reading_due_only job (reading bytes) a right status due,
 )
 
 -- what is done with a reading is right for the job, and nothing is left
@@ -155,26 +142,24 @@ serves job source source_new sink sink_new result done end = by source.left
 -- what the bytes are due is answered, where neither source nor sink failed and memory did not run out
 pub complete : (job : Job) (source source_new : SourceView) (sink sink_new : SinkView) (result : Status)
     → IsRun (AnswersJob (Some job)) source source_new sink sink_new result
-    → IfSome source.left (λ bytes. (status : Status) → IsDue job bytes status
     → ¬ (Rose source.faults source_new.faults) → ¬ (Rose sink.faults sink_new.faults)
+    → IfSome source.left (λ bytes. (status : Status) → IsDue job (reading bytes) status
     → (result ≡ status) ⊎ (result ≡ NoMemory))
-complete job source source_new sink sink_new result run = by source.left run.answered
+complete job source source_new sink sink_new result run no_read no_write = by source.left run.answered
   where
-    due : (bytes : List ℕ) (r status : Status) → IsDue job bytes status
+    due : (bytes : List ℕ) (r status : Status) → IsDue job (reading bytes) status
         → (IsAnswer r → HasOutcome job (Some bytes) sink sink_new r)
         → (r ≡ ReadFault → ⊥) → (r ≡ WriteFault → ⊥) → (r ≡ status) ⊎ (r ≡ NoMemory)
-    due bytes ReadFault status is answered no_read no_write = absurd (no_read refl)
-    due bytes WriteFault status is answered no_read no_write = absurd (no_write refl)
-    due bytes NoMemory status is answered no_read no_write = inr refl
-    due bytes _ status is answered no_read no_write =
+    due bytes ReadFault status is answered not_read not_write = absurd (not_read refl)
+    due bytes WriteFault status is answered not_read not_write = absurd (not_write refl)
+    due bytes NoMemory status is answered not_read not_write = inr refl
+    due bytes _ status is answered not_read not_write =
         let known = answered tt in
-        inl (known.2.status
-        ∙ reading_due_only job (reading bytes) known.0 known.1 status (read_as_due job bytes status is))
+        inl (known.2.status ∙ reading_due_only job (reading bytes) known.0 known.1 status is)
 
     by : (left : Option (List ℕ)) → (IsAnswer result → HasOutcome job left sink sink_new result)
-        → IfSome left (λ bytes. (status : Status) → IsDue job bytes status
-        → ¬ (Rose source.faults source_new.faults) → ¬ (Rose sink.faults sink_new.faults)
+        → IfSome left (λ bytes. (status : Status) → IsDue job (reading bytes) status
         → (result ≡ status) ⊎ (result ≡ NoMemory))
     by None answered = tt
-    by (Some bytes) answered = λ status is no_read no_write.
+    by (Some bytes) answered = λ status is.
         due bytes result status is answered (λ e. no_read (run.read e)) (λ e. no_write (run.write e))

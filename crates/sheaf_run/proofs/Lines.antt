@@ -1,16 +1,15 @@
 -- Lines of words and numbers, written number by number.
 use Rattle.std.proofs.Common.{Result, Ok, Err, OnErr, ◌≡◌, ℕ, zero, suc, ◌<◌, List, [], ◌∷◌, ◌++◌, length, get_or, take}
-use Rattle.std.proofs.Common.{drop, Option, refl, sym, ap, ◌∙◌, subst, append_assoc, arith}
+use Rattle.std.proofs.Common.{drop, map, Option, refl, sym, ap, ◌∙◌, subst, append_assoc, append-nil, arith}
+use Rattle.std.specs.List.{join_with_byte}
 use Rattle.std.specs.Prelude.{codes, decimal}
 use Rattle.io_edge.specs.Bytes.{Took, TookPrefix}
 use Rattle.io_edge.proofs.Known.{took_prefix_then, took_prefix_longer}
-use Rattle.std.proofs.Common.{append-nil, map}
-use Rattle.std.specs.List.{join_with_byte}
 use Rattle.reply_text.specs.Lines.{line_text}
-use Rattle.sheaf_run.specs.Texts.{spaced_numbers, text_of_parts}
-use Rattle.sheaf_run.specs.Replies.{Replies}
-use Rattle.sheaf_run.specs.Views.{SinkView}
-use Rattle.sheaf_run.specs.declared.status.Status.{Status}
+use Rattle.sheaf_text.specs.declared.fault.LineCause.{LineCause}
+use Rattle.sheaf_run.specs.Answers.{bad_line}
+use Rattle.sheaf_run.specs.Parts.{spaced_numbers, text_of_parts}
+use Rattle.sheaf_run.specs.Words.{cause_word}
 
 -- the numbers before one, that one, and those after it
 spaced-split : (numbers : List ℕ) (i : ℕ) → i < length numbers
@@ -37,33 +36,28 @@ front_of_numbers old new newer numbers i l took front =
     (took_prefix_longer old newer (before ++ own) (spaced_numbers (drop (suc i) numbers))
     (took_prefix_then old new newer before own took front))
 
+-- words joined, where all but the first are numbers
+join-numbers : (words : List ℕ) (numbers : List ℕ) → words ++ spaced_numbers numbers
+    ≡ join_with_byte 32 (words ∷ map decimal numbers)
+join-numbers words [] = append-nil words
+join-numbers words (n ∷ numbers) = ap (λ rest. words ++ 32 ∷ rest) (join-numbers (decimal n) numbers)
+
+-- a line of words and then numbers
+pub line_of_numbers : (words : List ℕ) (numbers : List ℕ) → text_of_parts words numbers (codes "\n")
+    ≡ line_text (words ∷ map decimal numbers)
+line_of_numbers words numbers = ap (λ text. text ++ 10 ∷ []) (join-numbers words numbers)
+
+-- the line of a line that is refused
+pub line_of_cause : (line : ℕ) (cause : LineCause)
+    → text_of_parts (codes "bad line") (line ∷ []) (codes " " ++ (cause_word cause ++ codes "\n"))
+    ≡ (bad_line line cause).text
+line_of_cause line cause =
+    let digits = decimal line in
+    let end = cause_word cause in
+    ap (λ rest. codes "bad line " ++ rest)
+    (ap (λ front. front ++ 32 ∷ (end ++ 10 ∷ [])) (append-nil digits) ∙ sym (append_assoc digits (32 ∷ end) (10 ∷ [])))
+
 -- what holds anyway holds on an error
 pub on_err : {T E P : Type 0} (r : Result T E) → P → OnErr r P
 on_err (Ok x) p = tt
 on_err (Err e) p = p
-
--- a first word and numbers, as a line
-join-numbers : (word : List ℕ) (numbers : List ℕ) → join_with_byte 32 (word ∷ map decimal numbers) ≡ word
-    ++ spaced_numbers numbers
-join-numbers word [] = sym (append-nil word)
-join-numbers word (n ∷ numbers) = ap (λ rest. word ++ 32 ∷ rest) (join-numbers (decimal n) numbers)
-
-pub line_of_parts : (word : List ℕ) (numbers : List ℕ) → text_of_parts word numbers (codes "\n")
-    ≡ line_text (word ∷ map decimal numbers)
-line_of_parts word numbers = ap (λ text. text ++ 10 ∷ []) (sym (join-numbers word numbers))
-
--- a line that is refused
-pub refused_line : (line : ℕ) (cause : List ℕ)
-    → text_of_parts (codes "bad line") (line ∷ []) (codes " " ++ (cause ++ codes "\n"))
-    ≡ line_text (codes "bad line" ∷ decimal line ∷ cause ∷ [])
-refused_line line cause =
-    ap (λ text. codes "bad line " ++ text)
-    (ap (λ digits. digits ++ 32 ∷ (cause ++ 10 ∷ [])) (append-nil (decimal line))
-    ∙ sym (append_assoc (decimal line) (32 ∷ cause) (10 ∷ [])))
-
--- replies with the same text
-pub replies_same : (status : Status) (text same : List ℕ) (sink sink_new : SinkView) (result : Status) → text ≡ same
-    → Replies (λ a. a ≡ record { status = status; text = text }) sink sink_new result
-    → Replies (λ a. a ≡ record { status = status; text = same }) sink sink_new result
-replies_same status text same sink sink_new result e replies =
-    subst (λ t. Replies (λ a. a ≡ record { status = status; text = t }) sink sink_new result) e replies

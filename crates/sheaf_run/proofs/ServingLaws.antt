@@ -2,7 +2,8 @@
 use Rattle.std.proofs.Common.{◌≡◌, ℕ, ◌+◌, Bool, true, false, ◌==◌, if◌then◌else◌, nat_lt, List, [], ◌∷◌, ◌++◌}
 use Rattle.std.proofs.Common.{length, slice_get, slice_index_or, Some, refl, sym, ap, ap₂, subst}
 use Rattle.std.proofs.Common.{◌∙◌, arith, length-append, All}
-use Rattle.std.specs.Prelude.{unwrap_or}
+use Rattle.std.specs.Prelude.{unwrap_or, nat_eq}
+use Rattle.std.specs.Map.{update}
 use Rattle.std.proofs.lemmas.List.Elements.{All-weaker}
 use Rattle.std.proofs.lemmas.Option.{slice_get_within, get_or_from_slice_get}
 use Rattle.std.proofs.lemmas.Bool.{eqb-true, eqb-false, eq-eqb, ltb-true, ltb-false, lt-ltb, le-ltb}
@@ -25,8 +26,9 @@ use Rattle.sheaf_words.specs.declared.event.Event.{Event}
 use Rattle.sheaf_words.specs.declared.event.Event.TheVariants.{Edit, Ask, Reply}
 use Rattle.edit_versions.specs.Verdicts.{IsVerdict, IsEdited}
 use Rattle.core_machine.specs.Replies.{IsRightReply}
-use Rattle.core_machine.specs.Machine.{Lane, State, free_lane, waiting_lane, first_state, command_at, with_lane}
-use Rattle.core_machine.specs.Machine.{with_pairs, EditStep, AskStep, ReplyStep, IsLegalAndWhole}
+use Rattle.core_machine.specs.Machine.{Lane, State, free_lane, waiting_lane, command_at, with_lane, EditStep, AskStep}
+use Rattle.core_machine.specs.Machine.{ReplyStep, IsLegalAndWhole}
+use Rattle.core_machine.specs.Legal.{first_state}
 use Rattle.core_machine.proofs.CountLaws.{leads-more}
 use Rattle.sheaf_text.specs.Answers.{IsServable, AreServable}
 use Rattle.sheaf_run.specs.Sessions.{Progress, IsSessionCommand, IsSheafAfter, IsJudged, position_of, IsProgress}
@@ -167,7 +169,7 @@ answer-step scripts start c i p q r comes right h =
     let asking : State Field = record {
       sheaves = h.state.sheaves;
       lanes = with_lane h.state.lanes c (waiting_lane i v);
-      pairs = with_pairs h.state.pairs v (unwrap_or (h.state.pairs v) []);
+      pairs = update nat_eq h.state.pairs v (Some (unwrap_or (h.state.pairs v) []));
     } in
     let after : State Field = record {
       sheaves = h.state.sheaves;

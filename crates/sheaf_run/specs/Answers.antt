@@ -1,7 +1,6 @@
 -- What the words and the bytes of the input are answered.
-use Rattle.std.specs.Prelude.{◌≡◌, ◌⊎◌, ℕ, List, [], ◌∷◌, ◌++◌, Option, Some, None, length, sum_by, codes, decimal}
+use Rattle.std.specs.Prelude.{◌≡◌, ◌⊎◌, ℕ, List, [], ◌∷◌, Option, Some, None, length, map, sum_by, codes, decimal}
 use Rattle.std.specs.Prelude.{if◌then◌else◌}
-use Rattle.std.specs.List.{flat_map}
 use Rattle.std.specs.Str.{bytes_eq}
 use Rattle.field_table.specs.declared.field.Field.{Field}
 use Rattle.field_table.specs.Table.{ops_of}
@@ -39,12 +38,7 @@ abbrev pub IsAnswer : Status → Type 0
 IsAnswer ReadFault = ⊥
 IsAnswer WriteFault = ⊥
 IsAnswer NoMemory = ⊥
-IsAnswer Done = Unit {0}
-IsAnswer BadWords = Unit {0}
-IsAnswer BadLine = Unit {0}
-IsAnswer BadComplex = Unit {0}
-IsAnswer BadSheaf = Unit {0}
-IsAnswer Limit = Unit {0}
+IsAnswer _ = Unit {0}
 
 -- the job that the words ask for: one word, and nothing else
 abbrev pub job_of : List (List ℕ) → Option Job
@@ -65,20 +59,18 @@ bad_line line cause =
 -- a limit that is passed, and the number of the line
 abbrev pub over_limit : ℕ → Which → Outcome
 over_limit line which =
-    record { status = Limit; text = line_text ((codes "limit " ++ limit_word which) ∷ decimal line ∷ []) }
+    record { status = Limit; text = line_text (codes "limit" ∷ limit_word which ∷ decimal line ∷ []) }
 
 -- what is wrong with a draft that is no sheaf
 abbrev pub refusal : SealFault → Outcome
 refusal (Complex (EdgeEnds t)) =
     record { status = BadComplex; text = line_text (codes "bad complex edge" ∷ decimal t ∷ []) }
-refusal (Complex (Middles s u count)) = record {
-  status = BadComplex;
-  text = line_text (codes "bad complex middles" ∷ decimal s ∷ decimal u ∷ decimal count ∷ []);
-}
+refusal (Complex (Middles s u count)) =
+    record { status = BadComplex; text = line_text (codes "bad complex middles" ∷ map decimal (s ∷ u ∷ count ∷ [])) }
 refusal (Complex (Signs s u)) =
-    record { status = BadComplex; text = line_text (codes "bad complex signs" ∷ decimal s ∷ decimal u ∷ []) }
+    record { status = BadComplex; text = line_text (codes "bad complex signs" ∷ map decimal (s ∷ u ∷ [])) }
 refusal (Noncommuting s u) =
-    record { status = BadSheaf; text = line_text (codes "bad sheaf square" ∷ decimal s ∷ decimal u ∷ []) }
+    record { status = BadSheaf; text = line_text (codes "bad sheaf square" ∷ map decimal (s ∷ u ∷ [])) }
 
 -- what is written of a sheaf and the scripts of its clients: under `solve` the transcript of one legal order of all
 -- commands, whole; under `check` how many cells and faces there are, how many clients, and how many commands
@@ -86,8 +78,8 @@ abbrev pub IsTextOf : Job → SheafData Field → List (List Command) → List �
 IsTextOf Solve d scripts text =
     (events : List Event) × IsLegalAndWhole (ops_of d.field) scripts d events × (text ≡ transcript scripts events)
 IsTextOf Check d scripts text =
-    text ≡ line_text (codes "good" ∷ decimal (length d.complex.dims) ∷ decimal (length d.complex.faces)
-    ∷ decimal (length scripts) ∷ decimal (sum_by length scripts) ∷ [])
+    text ≡ line_text (codes "good" ∷ map decimal (length d.complex.dims ∷ length d.complex.faces ∷ length scripts
+    ∷ sum_by length scripts ∷ []))
 
 -- a draft that is no sheaf is refused with its first fault; a sheaf is answered with such a text
 abbrev pub AnswersDraft : Job → SheafData Field → List (List Command) → Outcome → Type 0
@@ -116,12 +108,9 @@ DraftIsDue d BadSheaf = HasRegularIncidences d.complex
     × ((s : ℕ) × (u : ℕ) × (¬ Commutes (ops_of d.field) d.complex d.blocks s u))
 DraftIsDue d _ = ⊥
 
--- that of the input that the bytes are read as; of a line that is refused or passes a limit the status that says so
-abbrev pub ReadingIsDue : Reading → Status → Type 0
-ReadingIsDue (readings.Good v) status = (i : Input) × (v ≡ input_value i) × DraftIsDue i.draft status
-ReadingIsDue (readings.BadLine line cause) status = status ≡ BadLine
-ReadingIsDue (readings.Limit line which) status = status ≡ Limit
-
--- the status that the bytes are due under a job: for now the same under each
-abbrev pub IsDue : Job → List ℕ → Status → Type 0
-IsDue job bytes status = ReadingIsDue (reading bytes) status
+-- under each job the same for now: the status that is due the input that bytes are read as; for a line that is refused
+-- or passes a limit the one that says so
+abbrev pub IsDue : Job → Reading → Status → Type 0
+IsDue job (readings.Good v) status = (i : Input) × (v ≡ input_value i) × DraftIsDue i.draft status
+IsDue job (readings.BadLine line cause) status = status ≡ BadLine
+IsDue job (readings.Limit line which) status = status ≡ Limit

@@ -1,6 +1,6 @@
 pub mod Words
-pub mod Texts
 pub mod Answers
+pub mod Parts
 pub mod Views
 pub mod Runs
 pub mod Replies

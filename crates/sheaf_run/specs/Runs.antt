@@ -64,10 +64,11 @@ pub record Serves (job : Option Job) (source source_new : SourceView) (sink sink
   pub refusal : result ≡ BadWords → IsSent bad_words sink sink_new result
   -- With accepted words each status comes exactly where the bytes are due it.
   pub exact : IsAnswer result
-      → IfSome job (λ j. IfSome source.left (λ bytes. (status : Status) → (result ≡ status) ↔ IsDue j bytes status))
+      → IfSome job (λ j. IfSome source.left (λ bytes. (status : Status)
+      → (result ≡ status) ↔ IsDue j (reading bytes) status))
   -- With no fault refused words are answered so, and bytes are answered the status that they are due unless memory runs
   -- out.
   pub complete_words : job ≡ None → ¬ (Rose sink.faults sink_new.faults) → result ≡ BadWords
-  pub complete : IfSome job (λ j. IfSome source.left (λ bytes. (status : Status) → IsDue j bytes status
+  pub complete : IfSome job (λ j. IfSome source.left (λ bytes. (status : Status) → IsDue j (reading bytes) status
       → ¬ (Rose source.faults source_new.faults) → ¬ (Rose sink.faults sink_new.faults)
       → (result ≡ status) ⊎ (result ≡ NoMemory)))

@@ -1,9 +1,9 @@
 ghost use Rattle.std.specs.Prelude.{◌≡◌, ◌⊎◌, ◌∷◌, ◌++◌, ◌≤◌, codes, decimal, map, OnOk, OnErr};
 ghost use Rattle.io_edge.specs.Faults.{HasCause};
 ghost use Rattle.io_edge.specs.Bytes.{Took, TookPrefix, IsFlushed};
-ghost use Rattle.sheaf_run.specs.Answers.{IsAnswer};
-ghost use Rattle.sheaf_run.specs.Texts.{spaced_numbers, text_of_parts};
 ghost use Rattle.reply_text.specs.Lines.{line_text};
+ghost use Rattle.sheaf_run.specs.Answers.{IsAnswer};
+ghost use Rattle.sheaf_run.specs.Parts.{spaced_numbers, text_of_parts};
 ghost use Rattle.sheaf_run.specs.Replies.{Replies};
 ghost use Rattle.sheaf_run.specs.Views.{sink_view};
 
@@ -102,10 +102,7 @@ pub fn send_text<K: Sink>(
 /// The same for a line of words and then numbers.
 pub fn send_line<K: Sink>(sink: &mut K, status: Status, words: &[u8], numbers: &[usize]) -> Status
     requires { IsAnswer status }
-    ensures { Replies (λ a. a ≡ record {
-      status = status;
-      text = line_text (words.now ∷ map decimal numbers.now);
-    })
+    ensures { Replies (λ a. a ≡ record { status = status; text = line_text (words.now ∷ map decimal numbers.now) })
         (sink_view K.taken K.flushed K.fault_count sink.old)
         (sink_view K.taken K.flushed K.fault_count sink.new) result }
 {

@@ -58,9 +58,9 @@ right k kind ws e =
     record { stands = holds _ a.0; counted = holds _ b.0; numerals = holds _ c.0; fits = c.1 }
 
 record FaceFits (k : Known) (ws : List (List ℕ)) : Type 0 where
-  pub no_fault : face_fault (record { dims = k.dims; faces = k.faces }) (face_in ws) ≡ None
-  pub full : is_full k.stalks (face_in ws) (length (drop 4 ws)) ≡ true
-  pub below : are_below k.order (drop 4 ws) ≡ true
+  pub no_fault : face_fault (record { dims = k.input.dims; faces = k.input.faces }) (face_in ws) ≡ None
+  pub full : is_full k.input.stalks (face_in ws) (length (drop 4 ws)) ≡ true
+  pub below : are_below k.input.order (drop 4 ws) ≡ true
 
 no_fault : (k : Known) (ws : List (List ℕ)) (f : Option FaceFault) → incidence_refusal k ws f ≡ None → (f ≡ None)
     × (entries_refusal k ws ≡ None)
@@ -70,9 +70,9 @@ no_fault k ws None e = (refl, e)
 face_fits : (k : Known) (ws : List (List ℕ)) → face_refusal k ws ≡ None → FaceFits k ws
 face_fits k ws e =
     let a = passes (not (is_sign (word ws 3))) _ _ e in
-    let b = no_fault k ws (face_fault (record { dims = k.dims; faces = k.faces }) (face_in ws)) a.1 in
-    let c = passes (not (is_full k.stalks (face_in ws) (length (drop 4 ws)))) _ _ b.1 in
-    let d = passes (not (are_below k.order (drop 4 ws))) _ _ c.1 in
+    let b = no_fault k ws (face_fault (record { dims = k.input.dims; faces = k.input.faces }) (face_in ws)) a.1 in
+    let c = passes (not (is_full k.input.stalks (face_in ws) (length (drop 4 ws)))) _ _ b.1 in
+    let d = passes (not (are_below k.input.order (drop 4 ws))) _ _ c.1 in
     record { no_fault = b.0; full = holds _ c.0; below = holds _ d.0 }
 
 -- ---- where a line stands

@@ -15,8 +15,9 @@ use Rattle.square_check.specs.Squares.{HaveShapes}
 use Rattle.sheaf_data.specs.Sheaves.{AreBlocks}
 use Rattle.sheaf_text.specs.Cut.{value_of}
 use Rattle.sheaf_text.specs.Lines.{face_in}
-use Rattle.sheaf_text.specs.Forms.{are_below}
-use Rattle.sheaf_text.specs.Parts.{AreDraftParts, IsClosed, TakesFace, AddsFace, entries_of}
+use Rattle.dense_blocks.specs.Blocks.{WrittenMatrix, written_matrix}
+use Rattle.sheaf_text.specs.Forms.{are_below, matrix_in}
+use Rattle.sheaf_text.specs.Parts.{AreDraftParts, IsClosed, TakesFace, AddsFace, matrices_of}
 use Rattle.sheaf_text.specs.declared.parts.Parts.{Parts}
 
 -- what stands at a place of a list with one more at its end
@@ -77,6 +78,10 @@ blocks_more p ws b parts takes is = record {
       (below_all (order_of p.field) (drop 4 ws) takes.below));
 }
 
+matrix_of : (p : Parts) (ws : List (List ℕ)) (b : Block) → IsBlockOf p ws b → written_matrix b
+    ≡ matrix_in p.stalks.items ws
+matrix_of p ws b is = λ x. record { rows = is.rows_are x; cols = is.cols_are x; entries = is.entries_are x }
+
 -- the parts with a face more, and its block
 pub adds_face : (old new : Parts) (ws : List (List ℕ)) (b : Block) → AreDraftParts old → IsClosed old → TakesFace old ws
     → IsBlockOf old ws b
@@ -92,8 +97,8 @@ adds_face old new ws b parts closed takes is complex blocks field dims stalks to
   };
   closed = rw (complex, dims) closed;
   faces_more = rw complex refl;
-  entries_more = rw blocks (map-append (λ (c : Block). c.entries) old.blocks.items (b ∷ [])
-      ∙ ap (λ es. entries_of old ++ es ∷ []) is.entries_are);
+  matrices_more = rw blocks (map-append written_matrix old.blocks.items (b ∷ [])
+      ∙ ap (λ (m : WrittenMatrix). matrices_of old ++ m ∷ []) (matrix_of old ws b is));
   field_same = field;
   cells = record { dims_same = rw dims refl; stalks_same = rw stalks refl };
 }

@@ -15,10 +15,10 @@ use Rattle.sheaf_words.specs.declared.query.Query.TheVariants.{Betti}
 use Rattle.sheaf_words.specs.declared.edit.Set.{Set}
 use Rattle.sheaf_text.specs.Cut.{words}
 use Rattle.sheaf_text.specs.Lines.{word, is_skipped, kind_of}
-use Rattle.sheaf_text.specs.Grammar.{Known, refusal, kind_refusal, is_ended}
-use Rattle.sheaf_text.specs.Readings.{InputValue, Reading, Good, BadLine, input_value, command_with_set, advance}
+use Rattle.sheaf_text.specs.Grammar.{InputValue, Known, refusal, kind_refusal, is_ended}
+use Rattle.sheaf_text.specs.Readings.{Reading, Good, BadLine, input_value, command_with_set, advance}
 use Rattle.sheaf_text.specs.Readings.{nothing_known, reading_at_end, go_on, run}
-use Rattle.sheaf_text.specs.Forms.{content_refusal, known_after, set_of, onto_last, into_script, into_last, input_of}
+use Rattle.sheaf_text.specs.Forms.{content_refusal, known_after, set_of, onto_last, into_script, into_last}
 use Rattle.sheaf_text.specs.Forms.{contents}
 use Rattle.sheaf_text.specs.Answers.{Gives, IsServable, AreServable}
 use Rattle.sheaf_text.specs.declared.fault.LineCause.TheVariants as causes
@@ -184,26 +184,27 @@ change_more dims scripts counted line s few = record {
 }
 
 abbrev AreFewKnown : List ℕ → Known → ℕ → Type 0
-AreFewKnown dims k line = AreFewAt dims k.scripts k.commands line
+AreFewKnown dims k line = AreFewAt dims k.input.scripts k.commands line
 
 kind_keeps : (dims : List ℕ) (k : Known) (line : ℕ) (kind : Kind) (ws : List (List ℕ)) → kind_refusal k kind ws ≡ None
     → AreFewKnown dims k line → AreFewKnown dims (advance k (Some kind) ws) (line + 1)
 kind_keeps dims k line kinds.Client ws e few =
-    client_more dims k.scripts k.commands (line + 1)
-    (leb-false _ _ (passes (nat_le 8 (length k.scripts)) (Over limits.Clients) None e).0)
-    (line_more dims k.scripts k.commands line few)
+    client_more dims k.input.scripts k.commands (line + 1)
+    (leb-false _ _ (passes (nat_le 8 (length k.input.scripts)) (Over limits.Clients) None e).0)
+    (line_more dims k.input.scripts k.commands line few)
 kind_keeps dims k line kinds.Betti ws e few =
-    command_more dims k.scripts k.commands (line + 1) (Ask Betti) tt
+    command_more dims k.input.scripts k.commands (line + 1) (Ask Betti) tt
     (leb-false _ _ (passes (nat_le 4096 k.commands) (Over limits.Commands) None e).0)
-    (line_more dims k.scripts k.commands line few)
+    (line_more dims k.input.scripts k.commands line few)
 kind_keeps dims k line kinds.Edit ws e few =
-    command_more dims k.scripts k.commands (line + 1) (Change (record { sets = [] })) (omega arith)
+    command_more dims k.input.scripts k.commands (line + 1) (Change (record { sets = [] })) (omega arith)
     (leb-false _ _ (passes (nat_le 4096 k.commands) (Over limits.Commands) None e).0)
-    (line_more dims k.scripts k.commands line few)
-kind_keeps dims k line kinds.Stalk ws e few = change_more dims k.scripts k.commands line (set_of kinds.Stalk ws) few
-kind_keeps dims k line kinds.Restrict ws e few = change_more dims k.scripts k.commands line
+    (line_more dims k.input.scripts k.commands line few)
+kind_keeps dims k line kinds.Stalk ws e few =
+    change_more dims k.input.scripts k.commands line (set_of kinds.Stalk ws) few
+kind_keeps dims k line kinds.Restrict ws e few = change_more dims k.input.scripts k.commands line
     (set_of kinds.Restrict ws) few
-kind_keeps dims k line kind ws e few = line_more dims k.scripts k.commands line few
+kind_keeps dims k line kind ws e few = line_more dims k.input.scripts k.commands line few
 
 content_keeps : (dims : List ℕ) (k : Known) (line : ℕ) (kind : Option Kind) (ws : List (List ℕ))
     → content_refusal k kind ws ≡ None
@@ -219,16 +220,16 @@ line_keeps : (dims : List ℕ) (k : Known) (line : ℕ) (ws : List (List ℕ)) (
 unfolding known_after
 line_keeps dims k line ws true is e few =
     subst (λ (j : Known). AreFewKnown dims j (line + 1)) (sym (known_after-skipped k ws is))
-    (line_more dims k.scripts k.commands line few)
+    (line_more dims k.input.scripts k.commands line few)
 line_keeps dims k line ws false is e few =
     content_keeps dims k line (kind_of (word ws 0)) ws (sym (refusal-content k ws is) ∙ e) few
 
 -- ---- all lines
 
 scripts-ending : (k : Known) (line : ℕ) (v : InputValue) (b : Bool) → is_ended k.stage ≡ b → reading_at_end k line
-    ≡ Good v → v.scripts ≡ k.scripts
-scripts-ending k line v true e is = let same : Good (input_of k) ≡ Good v = sym (rw e refl) ∙ is in let value :
-    input_of k ≡ v = cc in sym (ap (λ (w : InputValue). w.scripts) value)
+    ≡ Good v → v.scripts ≡ k.input.scripts
+scripts-ending k line v true e is = let same : Good k.input ≡ Good v = sym (rw e refl) ∙ is in let value :
+    k.input ≡ v = cc in sym (ap (λ (w : InputValue). w.scripts) value)
 scripts-ending k line v false e is = let same : BadLine (line + 1) causes.End ≡ Good v = sym (rw e refl)
     ∙ is in absurd cc
 
@@ -248,7 +249,7 @@ few-run dims k line [] v short few e =
       clients = few.clients;
       commands = omega (arith, few.commands, few.most);
       each = All-weaker (All (IsServable dims line)) (All (IsServable dims 1000000000))
-          (all_more_changes dims line 1000000000 (omega arith)) k.scripts few.changes;
+          (all_more_changes dims line 1000000000 (omega arith)) k.input.scripts few.changes;
     })
 few-run dims k line (ws ∷ more) v short few e =
     let next = known_after k ws in

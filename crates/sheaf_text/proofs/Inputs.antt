@@ -3,7 +3,8 @@ use Rattle.std.proofs.Common.{◌≡◌, List, [], ◌∷◌, map, refl, ap, ap�
 use Rattle.dense_blocks.specs.declared.block.Block.{Block}
 use Rattle.dense_blocks.proofs.SameBlocks.{same_block}
 use Rattle.field_table.proofs.Known.{order_of-injective}
-use Rattle.sheaf_text.specs.Readings.{InputValue, input_value}
+use Rattle.sheaf_text.specs.Grammar.{InputValue}
+use Rattle.sheaf_text.specs.Readings.{input_value}
 use Rattle.dense_blocks.specs.Blocks.{WrittenMatrix, written_matrix}
 use Rattle.sheaf_text.specs.declared.input.Input.{Input}
 

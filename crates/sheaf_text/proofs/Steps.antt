@@ -1,19 +1,15 @@
 -- One line of the reading, and its end.
-use Rattle.std.proofs.Common.{◌≡◌, ℕ, suc, true, false, List, [], ◌∷◌, map, refl, sym, ap, subst, ◌∙◌, arith, Option}
+use Rattle.std.proofs.Common.{◌≡◌, ℕ, true, false, List, [], ◌∷◌, refl, sym, ap, subst, ◌∙◌, arith, Option}
 use Rattle.std.proofs.Common.{Some, None, length, inl, inr}
 use Rattle.std.specs.Prelude.{◌==◌, ◌||◌, slice_index}
 use Rattle.std.proofs.lemmas.Bool.{eqb-true, or_cases}
-use Rattle.dense_blocks.specs.declared.block.Block.{Block}
-use Rattle.cell_complex.specs.declared.face.Face.{Face}
 use Rattle.field_table.specs.declared.field.Field.{Field}
-use Rattle.square_check.specs.Squares.{HaveShapes}
 use Rattle.sheaf_data.specs.Sheaves.{SheafData}
 use Rattle.sheaf_words.specs.declared.query.Command.{Command}
 use Rattle.sheaf_text.specs.Lines.{word, is_skipped, kind_of}
 use Rattle.sheaf_text.specs.Grammar.{Known, refusal, is_ended}
 use Rattle.sheaf_text.specs.Readings.{Reading, Good, go_on, advance, input_value, reading_at_end}
-use Rattle.dense_blocks.specs.Blocks.{written_matrix}
-use Rattle.sheaf_text.specs.Forms.{content_refusal, refused_reading, known_after, blocks_of}
+use Rattle.sheaf_text.specs.Forms.{content_refusal, refused_reading, known_after}
 use Rattle.sheaf_text.specs.Answers.{GivesFault}
 use Rattle.sheaf_text.specs.Parts.{IsClosed, IsDraftOf}
 use Rattle.sheaf_text.specs.State.{known_by, AreAtStage, IsSoundState, IsReady, IsFound, TakesKind, TakesLine}
@@ -93,16 +89,6 @@ is_ended-true : (s : Stage) → is_ended s ≡ true → s ≡ stages.Ended
 is_ended-true stages.Ended e = refl
 is_ended-true s e = absurd cc
 
-blocks_of-shapes : (stalks : List ℕ) (faces : List Face) (blocks : List Block) → HaveShapes stalks faces blocks
-    → blocks_of stalks faces (map (λ (b : Block). b.entries) blocks) ≡ map written_matrix blocks
-blocks_of-shapes stalks [] [] h = refl
-blocks_of-shapes stalks [] (b ∷ blocks) h = let n = h.count in absurd (omega arith)
-blocks_of-shapes stalks (f ∷ faces) [] h = let n = h.count in absurd (omega arith)
-blocks_of-shapes stalks (f ∷ faces) (b ∷ blocks) h =
-    let rest = blocks_of-shapes stalks faces blocks
-    (record { count = omega (arith, h.count); cols = λ p. h.cols (suc p); rows = λ p. h.rows (suc p) }) in
-    rw (← h.rows 0 f b refl refl, ← h.cols 0 f b refl refl, rest) refl
-
 pub ending-good : (s : State) (d : SheafData Field) (scripts : List (List Command)) (line : ℕ) → IsSoundState s
     → is_ended s.stage ≡ true → IsDraftOf s.parts d → scripts ≡ s.scripts.ended.items → reading_at_end (known_by s) line
     ≡ Good (input_value (record { draft = d; scripts = scripts }))
@@ -117,5 +103,4 @@ ending-good s d scripts line sound e draft is =
       draft.stalks_are,
       draft.blocks_are,
       closed,
-      blocks_of-shapes s.parts.stalks.items s.parts.complex.faces s.parts.blocks.items sound.parts.blocks.shapes,
     ) refl

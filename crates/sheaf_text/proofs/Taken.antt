@@ -54,7 +54,8 @@ takes_edit old scripts ws sound closed at a = record {
 
 -- what is known after a change more
 abbrev with_set : Known → Set → Known
-with_set k s = record k { stage = stages.InEdit; scripts = into_last k.scripts s }
+with_set k s =
+    record k { stage = stages.InEdit; input = record k.input { scripts = into_last k.input.scripts s } }
 
 with_set-advances : (k : Known) (kind : Kind) (ws : List (List ℕ)) → is_set_kind kind ≡ true
     → with_set k (set_of kind ws) ≡ advance k (Some kind) ws

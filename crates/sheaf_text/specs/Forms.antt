@@ -1,5 +1,5 @@
 -- Parts of the grammar and of the reading, as the reader's functions and the proofs name them.
-use Rattle.std.specs.Prelude.{◌≡◌, ◌<◌, ◌*◌, ℕ, Bool, true, false, List, [], ◌∷◌, ◌++◌, drop, length, map, zip, not}
+use Rattle.std.specs.Prelude.{◌≡◌, ◌<◌, ◌*◌, ℕ, Bool, true, false, List, [], ◌∷◌, ◌++◌, drop, length, map, not}
 use Rattle.std.specs.Prelude.{Option, Some, None, is_some, ◌==◌, ◌||◌, nat_le, nat_lt}
 use Rattle.std.specs.Prelude.{slice_index, if◌then◌else◌, codes}
 use Rattle.std.specs.List.{list_all, list_any}
@@ -18,7 +18,7 @@ use Rattle.sheaf_words.specs.declared.edit.Set.TheVariants as sets
 use Rattle.sheaf_text.specs.Cut.{words, word_number, value_of}
 use Rattle.sheaf_text.specs.Lines.{word, value, kind_of, numerals}
 use Rattle.sheaf_text.specs.Grammar.{Known, cause_of, entries_refusal, placed_refusal, is_ended}
-use Rattle.sheaf_text.specs.Readings.{Reading, BadLine, Limit, InputValue, with_last, command_with_set, advance}
+use Rattle.sheaf_text.specs.Readings.{Reading, BadLine, Limit, with_last, command_with_set, advance}
 use Rattle.sheaf_text.specs.declared.line.Kind.{Kind}
 use Rattle.sheaf_text.specs.declared.line.Kind.TheVariants as kinds
 use Rattle.sheaf_text.specs.declared.fault.LineCause.TheVariants as causes
@@ -72,7 +72,7 @@ abbrev pub incidence_refusal : Known → List (List ℕ) → Option FaceFault �
 incidence_refusal k ws fault = option_map_or (λ f. Some (Bad (cause_of f))) fault (entries_refusal k ws)
 
 abbrev pub client_refusal : Known → Option Refusal
-client_refusal k = if nat_le 8 (length k.scripts) then Some (Over limits.Clients) else None
+client_refusal k = if nat_le 8 (length k.input.scripts) then Some (Over limits.Clients) else None
 
 abbrev pub command_refusal : Known → Option Refusal
 command_refusal k = if nat_le 4096 k.commands then Some (Over limits.Commands) else None
@@ -114,23 +114,12 @@ into_script script s = with_last (command_with_set s) script
 abbrev pub into_last : List (List Command) → Set → List (List Command)
 into_last scripts s = with_last (with_last (command_with_set s)) scripts
 
--- the restrictions of the faces, each from stalk to stalk
-abbrev pub blocks_of : List ℕ → List Face → List (List ℕ) → List WrittenMatrix
-blocks_of stalks faces entries = map (λ (b : Face × List ℕ). record {
-  rows = slice_index stalks b.0.t;
-  cols = slice_index stalks b.0.s;
-  entries = b.1;
-}) (zip faces entries)
-
--- the input that is known
-abbrev pub input_of : Known → InputValue
-input_of k = record {
-  order = k.order;
-  dims = k.dims;
-  faces = k.faces;
-  stalks = k.stalks;
-  blocks = blocks_of k.stalks k.faces k.entries;
-  scripts = k.scripts;
+-- the restriction of a face, from stalk to stalk
+abbrev pub matrix_in : List ℕ → List (List ℕ) → WrittenMatrix
+matrix_in stalks ws = record {
+  rows = slice_index stalks (value ws 2);
+  cols = slice_index stalks (value ws 1);
+  entries = map value_of (drop 4 ws);
 }
 
 abbrev pub refused_reading : ℕ → Refusal → Reading

@@ -8,6 +8,7 @@ use Rattle.cell_complex.specs.declared.face.Face.{Face}
 use Rattle.cell_complex.specs.declared.fault.FaceFault.{FaceFault}
 use Rattle.cell_complex.specs.declared.fault.FaceFault.TheVariants.{UnknownCell, WrongDims, TwiceFace}
 use Rattle.cell_complex.specs.Verdicts.{face_fault}
+use Rattle.dense_blocks.specs.Blocks.{WrittenMatrix}
 use Rattle.field_table.specs.Table.{orders}
 use Rattle.sheaf_words.specs.declared.query.Command.{Command}
 use Rattle.sheaf_text.specs.Cut.{word_number, value_of}
@@ -22,17 +23,20 @@ use Rattle.sheaf_text.specs.declared.fault.Which.TheVariants as limits
 use Rattle.sheaf_text.specs.declared.fault.Refusal.{Refusal}
 use Rattle.sheaf_text.specs.declared.fault.Refusal.TheVariants.{Bad, Over}
 
--- what the earlier lines say: where they end, the order of the field, the cells with their stalks, the faces with their
--- entries, the scripts of the clients, and how many commands there are
-pub record Known : Type 0 where
-  pub stage : Stage
+-- an input as a plain value
+pub record InputValue : Type 0 where
   pub order : ℕ
   pub dims : List ℕ
-  pub stalks : List ℕ
   pub faces : List Face
-  pub entries : List (List ℕ)
+  pub stalks : List ℕ
+  pub blocks : List WrittenMatrix
   pub scripts : List (List Command)
+
+-- what the earlier lines say: where they end, how many commands there are, and the input so far
+pub record Known : Type 0 where
+  pub stage : Stage
   pub commands : ℕ
+  pub input : InputValue
 
 -- ---- one kind of line, whose words have the right form
 
@@ -40,8 +44,8 @@ abbrev pub cell_refusal : Known → List (List ℕ) → Option Refusal
 cell_refusal k ws =
     if nat_lt 15 (value ws 1) then Some (Over limits.Dimension)
     else if nat_lt 16 (value ws 2) then Some (Over limits.Stalk)
-    else if nat_le 4096 (length k.dims) then Some (Over limits.Cells)
-    else if nat_lt 4096 (sum k.stalks + value ws 2) then Some (Over limits.Total)
+    else if nat_le 4096 (length k.input.dims) then Some (Over limits.Cells)
+    else if nat_lt 4096 (sum k.input.stalks + value ws 2) then Some (Over limits.Total)
     else None
 
 abbrev pub cause_of : FaceFault → LineCause
@@ -52,23 +56,23 @@ cause_of (TwiceFace s t) = causes.Twice
 -- the entries of a face are as many as its restriction, from stalk to stalk, has
 abbrev pub entries_refusal : Known → List (List ℕ) → Option Refusal
 entries_refusal k ws =
-    if not (length (drop 4 ws) == slice_index k.stalks (value ws 2) * slice_index k.stalks (value ws 1))
+    if not (length (drop 4 ws) == slice_index k.input.stalks (value ws 2) * slice_index k.input.stalks (value ws 1))
     then Some (Bad causes.Shape)
-    else if not (list_all (λ w. nat_lt (value_of w) k.order) (drop 4 ws)) then Some (Bad causes.Entry)
-    else if nat_le 32768 (length k.faces) then Some (Over limits.Faces)
+    else if not (list_all (λ w. nat_lt (value_of w) k.input.order) (drop 4 ws)) then Some (Bad causes.Entry)
+    else if nat_le 32768 (length k.input.faces) then Some (Over limits.Faces)
     else None
 
 abbrev pub face_refusal : Known → List (List ℕ) → Option Refusal
 face_refusal k ws =
     if not (bytes_eq (word ws 3) (codes "+") || bytes_eq (word ws 3) (codes "-")) then Some (Bad causes.Sign)
     else option_map_or (λ fault. Some (Bad (cause_of fault)))
-    (face_fault (record { dims = k.dims; faces = k.faces }) (face_in ws)) (entries_refusal k ws)
+    (face_fault (record { dims = k.input.dims; faces = k.input.faces }) (face_in ws)) (entries_refusal k ws)
 
 abbrev pub kind_refusal : Known → Kind → List (List ℕ) → Option Refusal
 kind_refusal k kinds.Field ws = if list_any (λ q. value ws 1 == q) orders then None else Some (Bad causes.Field)
 kind_refusal k kinds.Cell ws = cell_refusal k ws
 kind_refusal k kinds.Face ws = face_refusal k ws
-kind_refusal k kinds.Client ws = if nat_le 8 (length k.scripts) then Some (Over limits.Clients) else None
+kind_refusal k kinds.Client ws = if nat_le 8 (length k.input.scripts) then Some (Over limits.Clients) else None
 kind_refusal k kinds.Betti ws = if nat_le 4096 k.commands then Some (Over limits.Commands) else None
 kind_refusal k kinds.Edit ws = if nat_le 4096 k.commands then Some (Over limits.Commands) else None
 kind_refusal k kind ws = None

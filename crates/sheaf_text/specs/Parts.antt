@@ -6,9 +6,9 @@ use Rattle.dense_blocks.specs.declared.block.Block.{Block}
 use Rattle.field_table.specs.Table.{order_of, ops_of}
 use Rattle.field_table.specs.declared.field.Field.{Field}
 use Rattle.sheaf_data.specs.Sheaves.{SheafData, AreStalks, AreBlocks}
-use Rattle.sheaf_text.specs.Cut.{value_of}
 use Rattle.sheaf_text.specs.Lines.{face_in}
-use Rattle.sheaf_text.specs.Forms.{are_below, is_full}
+use Rattle.dense_blocks.specs.Blocks.{WrittenMatrix, written_matrix}
+use Rattle.sheaf_text.specs.Forms.{are_below, is_full, matrix_in}
 use Rattle.sheaf_text.specs.declared.parts.Parts.{Parts}
 
 -- cells with stalks, and a block of scalars for each face of the complex, from stalk to stalk
@@ -26,9 +26,9 @@ IsOpen p = p.complex.faces ≡ []
 abbrev pub IsClosed : Parts → Type 0
 IsClosed p = p.complex.dims ≡ p.dims.items
 
--- the entries of each block
-abbrev pub entries_of : Parts → List (List ℕ)
-entries_of p = map (λ (b : Block). b.entries) p.blocks.items
+-- the blocks, as plain values
+abbrev pub matrices_of : Parts → List WrittenMatrix
+matrices_of p = map written_matrix p.blocks.items
 
 -- two of parts that differ at most where it is said
 pub record SameCells (old new : Parts) : Type 0 where
@@ -78,7 +78,7 @@ pub record AddsFace (old new : Parts) (ws : List (List ℕ)) : Type 0 where
   pub parts : AreDraftParts new
   pub closed : IsClosed new
   pub faces_more : new.complex.faces ≡ old.complex.faces ++ face_in ws ∷ []
-  pub entries_more : entries_of new ≡ entries_of old ++ map value_of (drop 4 ws) ∷ []
+  pub matrices_more : matrices_of new ≡ matrices_of old ++ matrix_in old.stalks.items ws ∷ []
   pub field_same : new.field ≡ old.field
   pub cells : SameCells old new
 

@@ -1,9 +1,9 @@
 -- The reading of bytes: each line is judged by what the lines before it say, and the first that is refused decides.
-use Rattle.std.specs.Prelude.{ℕ, ◌+◌, List, [], ◌∷◌, ◌++◌, drop, length, map, zip, Option, Some, None, nat_lt}
+use Rattle.std.specs.Prelude.{ℕ, ◌+◌, List, [], ◌∷◌, ◌++◌, drop, length, map, Option, Some, None, nat_lt}
 use Rattle.std.specs.Prelude.{slice_index, if◌then◌else◌}
 use Rattle.std.specs.Str.Lines.{lines}
 use Rattle.cell_complex.specs.declared.face.Face.{Face}
-use Rattle.dense_blocks.specs.Blocks.{WrittenMatrix, written_matrix}
+use Rattle.dense_blocks.specs.Blocks.{written_matrix}
 use Rattle.field_table.specs.Table.{order_of}
 use Rattle.sheaf_words.specs.declared.query.Command.{Command}
 use Rattle.sheaf_words.specs.declared.query.Command.TheVariants.{Change, Ask}
@@ -12,7 +12,7 @@ use Rattle.sheaf_words.specs.declared.edit.Set.{Set}
 use Rattle.sheaf_words.specs.declared.edit.Set.TheVariants.{Stalk, Restrict}
 use Rattle.sheaf_text.specs.Cut.{words, value_of}
 use Rattle.sheaf_text.specs.Lines.{word, value, kind_of, face_in}
-use Rattle.sheaf_text.specs.Grammar.{Known, refusal, is_ended}
+use Rattle.sheaf_text.specs.Grammar.{InputValue, Known, refusal, is_ended}
 use Rattle.sheaf_text.specs.declared.input.Input.{Input}
 use Rattle.sheaf_text.specs.declared.line.Kind.{Kind}
 use Rattle.sheaf_text.specs.declared.line.Kind.TheVariants as kinds
@@ -23,15 +23,6 @@ use Rattle.sheaf_text.specs.declared.fault.Which.{Which}
 use Rattle.sheaf_text.specs.declared.fault.Which.TheVariants as limits
 use Rattle.sheaf_text.specs.declared.fault.Refusal.{Refusal}
 use Rattle.sheaf_text.specs.declared.fault.Refusal.TheVariants.{Bad, Over}
-
--- an input as a plain value
-pub record InputValue : Type 0 where
-  pub order : ℕ
-  pub dims : List ℕ
-  pub faces : List Face
-  pub stalks : List ℕ
-  pub blocks : List WrittenMatrix
-  pub scripts : List (List Command)
 
 -- the plain value of an input
 abbrev pub input_value : Input → InputValue
@@ -62,40 +53,52 @@ abbrev pub command_with_set : Set → Command → Command
 command_with_set s (Change e) = Change (record { sets = e.sets ++ s ∷ [] })
 command_with_set s (Ask q) = Ask q
 
--- what is known after a line of this kind: a client begins a script, a command goes to the end of the last script, and
--- a change to the end of the last edit
+-- what is known after a line of this kind: the block of a face goes from stalk to stalk, a client begins a script, a
+-- command goes to the end of the last script, and a change to the end of the last edit
 abbrev pub advance : Known → Option Kind → List (List ℕ) → Known
 advance k None ws = k
-advance k (Some kinds.Field) ws = record k { stage = stages.Cells; order = value ws 1 }
+advance k (Some kinds.Field) ws = record k { stage = stages.Cells; input = record k.input { order = value ws 1 } }
 advance k (Some kinds.Cell) ws = record k {
   stage = stages.Cells;
-  dims = k.dims ++ value ws 1 ∷ [];
-  stalks = k.stalks ++ value ws 2 ∷ [];
+  input = record k.input { dims = k.input.dims ++ value ws 1 ∷ []; stalks = k.input.stalks ++ value ws 2 ∷ [] };
 }
 advance k (Some kinds.Face) ws = record k {
   stage = stages.Faces;
-  faces = k.faces ++ face_in ws ∷ [];
-  entries = k.entries ++ map value_of (drop 4 ws) ∷ [];
+  input = record k.input {
+    faces = k.input.faces ++ face_in ws ∷ [];
+    blocks = k.input.blocks ++ record {
+      rows = slice_index k.input.stalks (value ws 2);
+      cols = slice_index k.input.stalks (value ws 1);
+      entries = map value_of (drop 4 ws);
+    } ∷ [];
+  };
 }
-advance k (Some kinds.Client) ws = record k { stage = stages.InClient; scripts = k.scripts ++ [] ∷ [] }
+advance k (Some kinds.Client) ws =
+    record k { stage = stages.InClient; input = record k.input { scripts = k.input.scripts ++ [] ∷ [] } }
 advance k (Some kinds.Betti) ws = record k {
   stage = stages.InClient;
-  scripts = with_last (λ script. script ++ Ask Betti ∷ []) k.scripts;
   commands = k.commands + 1;
+  input = record k.input { scripts = with_last (λ script. script ++ Ask Betti ∷ []) k.input.scripts };
 }
 advance k (Some kinds.Edit) ws = record k {
   stage = stages.InEdit;
-  scripts = with_last (λ script. script ++ Change (record { sets = [] }) ∷ []) k.scripts;
   commands = k.commands + 1;
+  input = record k.input {
+    scripts = with_last (λ script. script ++ Change (record { sets = [] }) ∷ []) k.input.scripts;
+  };
 }
 advance k (Some kinds.Stalk) ws = record k {
   stage = stages.InEdit;
-  scripts = with_last (with_last (command_with_set (Stalk (value ws 1) (value ws 2)))) k.scripts;
+  input = record k.input {
+    scripts = with_last (with_last (command_with_set (Stalk (value ws 1) (value ws 2)))) k.input.scripts;
+  };
 }
 advance k (Some kinds.Restrict) ws = record k {
   stage = stages.InEdit;
-  scripts = with_last (with_last (command_with_set
-      (Restrict (value ws 1) (value ws 2) (map value_of (drop 3 ws))))) k.scripts;
+  input = record k.input {
+    scripts = with_last (with_last (command_with_set
+        (Restrict (value ws 1) (value ws 2) (map value_of (drop 3 ws))))) k.input.scripts;
+  };
 }
 advance k (Some kinds.Commit) ws = record k { stage = stages.InClient }
 advance k (Some kinds.Done) ws = record k { stage = stages.Ended }
@@ -103,32 +106,15 @@ advance k (Some kinds.Done) ws = record k { stage = stages.Ended }
 abbrev pub nothing_known : Known
 nothing_known = record {
   stage = stages.Start;
-  order = 2;
-  dims = [];
-  stalks = [];
-  faces = [];
-  entries = [];
-  scripts = [];
   commands = 0;
+  input = record { order = 2; dims = []; faces = []; stalks = []; blocks = []; scripts = [] };
 }
 
 -- ---- the reading
 
--- at the end of the lines; the block of a face goes from stalk to stalk
+-- at the end of the lines
 abbrev pub reading_at_end : Known → ℕ → Reading
-reading_at_end k line =
-    if is_ended k.stage then Good (record {
-      order = k.order;
-      dims = k.dims;
-      faces = k.faces;
-      stalks = k.stalks;
-      blocks = map (λ (b : Face × List ℕ). record {
-        rows = slice_index k.stalks b.0.t;
-        cols = slice_index k.stalks b.0.s;
-        entries = b.1;
-      }) (zip k.faces k.entries);
-      scripts = k.scripts;
-    }) else BadLine (line + 1) causes.End
+reading_at_end k line = if is_ended k.stage then Good k.input else BadLine (line + 1) causes.End
 
 -- a refused line decides; else the lines after it do
 abbrev pub go_on : Option Refusal → ℕ → Reading → Reading

@@ -7,7 +7,7 @@ use Rattle.sheaf_text.specs.Grammar.{Known, refusal, placed_refusal}
 use Rattle.sheaf_text.specs.Readings.{Reading, go_on, advance, nothing_known}
 use Rattle.sheaf_text.specs.Forms.{content_refusal, known_after}
 use Rattle.sheaf_text.specs.Answers.{GivesFault}
-use Rattle.sheaf_text.specs.Parts.{AreDraftParts, IsOpen, IsClosed, entries_of}
+use Rattle.sheaf_text.specs.Parts.{AreDraftParts, IsOpen, IsClosed, matrices_of}
 use Rattle.sheaf_text.specs.declared.fault.TextFault.{TextFault}
 use Rattle.sheaf_text.specs.declared.line.Kind.{Kind}
 use Rattle.sheaf_text.specs.declared.line.Kind.TheVariants as kinds
@@ -27,13 +27,15 @@ scripts_at stage s = s.ended.items
 abbrev pub known_by : State → Known
 known_by s = record {
   stage = s.stage;
-  order = order_of s.parts.field;
-  dims = s.parts.dims.items;
-  stalks = s.parts.stalks.items;
-  faces = s.parts.complex.faces;
-  entries = entries_of s.parts;
-  scripts = scripts_at s.stage s.scripts;
   commands = s.scripts.count;
+  input = record {
+    order = order_of s.parts.field;
+    dims = s.parts.dims.items;
+    faces = s.parts.complex.faces;
+    stalks = s.parts.stalks.items;
+    blocks = matrices_of s.parts;
+    scripts = scripts_at s.stage s.scripts;
+  };
 }
 
 -- before the first face there are no faces, and after the last cell the complex has all cells

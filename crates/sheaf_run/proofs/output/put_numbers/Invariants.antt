@@ -1,6 +1,6 @@
 use Rattle.std.proofs.Common.{◌≤◌, take}
 use Rattle.io_edge.specs.Bytes.{Took}
-use Rattle.sheaf_run.specs.Texts.{spaced_numbers}
+use Rattle.sheaf_run.specs.Parts.{spaced_numbers}
 use Rattle.sheaf_run.proofs.output.put_numbers.Given as goal
 
 abbrev pub invariant-loop-number : goal.invariant-loop-number

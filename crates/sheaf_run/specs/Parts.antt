@@ -1,4 +1,4 @@
--- Texts as they are written: words, numbers and the rest.
+-- Parts of lines, as they are written.
 use Rattle.std.specs.Prelude.{ℕ, List, ◌++◌, codes, decimal}
 use Rattle.std.specs.List.{flat_map}
 
