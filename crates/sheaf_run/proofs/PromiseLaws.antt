@@ -50,7 +50,7 @@ serves_no_job source sink sink_new result no_memory replies = record {
       subst (λ (a : Outcome). IsSent a sink sink_new result) s.1 s.2;
   exact = λ h. tt;
   complete_words = λ e no_write. words result replies.no_read (λ f. no_write (replies.rose f)) no_memory status;
-  complete = tt;
+  complete = λ no_read no_write. tt;
 }
   where
     right : (left : Option (List ℕ)) → IfSome left (λ bytes. (a : Outcome) → (a ≡ bad_words) → AnswersJob None bytes a)

@@ -69,6 +69,6 @@ pub record Serves (job : Option Job) (source source_new : SourceView) (sink sink
   -- With no fault refused words are answered so, and bytes are answered the status that they are due unless memory runs
   -- out.
   pub complete_words : job ≡ None → ¬ (Rose sink.faults sink_new.faults) → result ≡ BadWords
-  pub complete : IfSome job (λ j. IfSome source.left (λ bytes. (status : Status) → IsDue j (reading bytes) status
-      → ¬ (Rose source.faults source_new.faults) → ¬ (Rose sink.faults sink_new.faults)
+  pub complete : ¬ (Rose source.faults source_new.faults) → ¬ (Rose sink.faults sink_new.faults)
+      → IfSome job (λ j. IfSome source.left (λ bytes. (status : Status) → IsDue j (reading bytes) status
       → (result ≡ status) ⊎ (result ≡ NoMemory)))
