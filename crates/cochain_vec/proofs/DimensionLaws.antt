@@ -47,7 +47,7 @@ module _ (K : Ops) (F : IsField K) where
               ∙ sym (coboundary-plus K F C fits k s.0 t.0 hs ht),
         )
 
-    pub multiple-coboundary : (k c : ℕ) (v : List ℕ) → IsCoboundary K C k v → IsCoboundary K C k (multiple K c v)
+    multiple-coboundary : (k c : ℕ) (v : List ℕ) → IsCoboundary K C k v → IsCoboundary K C k (multiple K c v)
     multiple-coboundary zero c v s = ap (multiple K c) s ∙ multiple-zeros K F c (coordinates C 0)
     multiple-coboundary (suc k) c v s =
         let n = coordinates C k in (

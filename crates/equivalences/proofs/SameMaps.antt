@@ -23,8 +23,8 @@ module _ (K : Ops) (v v' : BlockComplex) (same : HaveSameMatrices v v') (x y : �
   was-live : (c : ℕ) → has c (cells w.live) ≡ true → has c (cells v.live) ≡ true
   was-live c h = (both-before K v x y a w removal c c (record { from = h; to = h })).from
 
-  pub left-same : HaveSameMatrices w w'
-  left-same = removal-one K v' x y a w w' (removal-same-before K v v' x y a w same removal) removal'
+  pub rest-same : HaveSameMatrices w w'
+  rest-same = removal-one K v' x y a w w' (removal-same-before K v v' x y a w same removal) removal'
 
   abbrev r : Removal
   r = record { x = x; y = y; inverse = a; rest = w }
@@ -36,7 +36,7 @@ module _ (K : Ops) (v v' : BlockComplex) (same : HaveSameMatrices v v') (x y : �
   C-same = sym (same-complex v v' same)
 
   D-same : complex_of w ≡ complex_of w'
-  D-same = sym (same-complex w w' left-same)
+  D-same = sym (same-complex w w' rest-same)
 
   -- from x to a cell that is left
   row-same : (t : ℕ) → has t (cells w.live) ≡ true → v.matrix x t ≡ v'.matrix x t

@@ -26,7 +26,7 @@ pub fn composite_exists()
     ensures { CompositeExists }
 {}
 
-/// A law, with nothing to run: and only one.
+/// A law, with nothing to run: the matrices of a composite are the only ones.
 pub fn composite_is_unique()
     ensures { CompositeIsUnique }
 {}
@@ -42,7 +42,7 @@ pub fn pairs_have_composite()
     ensures { PairsHaveComposite }
 {}
 
-/// A law, with nothing to run: it is an equivalence of the block complex and of what is left.
+/// A law, with nothing to run: the composite of pairs is an equivalence of the block complex and of what is left.
 pub fn pairs_give_equivalence()
     ensures { PairsGiveEquivalence }
 {}
@@ -74,7 +74,8 @@ pub fn removals_give_bases()
     ensures { RemovalsGiveBases }
 {}
 
-/// A law, with nothing to run: the same of pairs whose removal leaves no block.
+/// A law, with nothing to run: where the removal of pairs leaves no block, the images of the unit vectors are a basis
+/// of the cohomology of the first complex.
 pub fn pairs_give_bases()
     ensures { PairsGiveBases }
 {}
