@@ -73,7 +73,7 @@ value-multiple K (c ∷ cs) k v s =
     ]
 
 -- parts that are the same at each cell are the same joined
-pub joined-same : (f g : Cell → List ℕ) (cs : List Cell) → All (λ (u : Cell). f u ≡ g u) cs
+pub joined-same : {A : Type 0} (f g : Cell → List A) (cs : List Cell) → All (λ (u : Cell). f u ≡ g u) cs
     → flat_map f cs ≡ flat_map g cs
 joined-same f g [] h = refl
 joined-same f g (c ∷ cs) h =

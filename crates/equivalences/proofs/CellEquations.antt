@@ -100,7 +100,7 @@ module _ (K : Ops) (v : BlockComplex) (r : Removal) (s : IsSetting K v r) where
   abbrev pub IsLeft : ℕ → Type 0
   IsLeft c = has c (cells w.live) ≡ true
 
-  cells-left : left ≡ filter (is_other x y) live
+  pub cells-left : left ≡ filter (is_other x y) live
   cells-left = ap cells removal.live ∙ cells-without x y v.live
 
   pub left-live : (c : ℕ) → IsLeft c → IsLive c × (is_other x y c ≡ true)
@@ -119,7 +119,7 @@ module _ (K : Ops) (v : BlockComplex) (r : Removal) (s : IsSetting K v r) where
   at_x : (u : List ℕ) → Vector K (size y) u → Vector K (size x) u
   at_x u h = subst (λ n. Vector K n u) removal.square h
 
-  M-vector : (s t : ℕ) (z : List ℕ) → Vector K (size t) (image_of K (M s t) z)
+  pub M-vector : (s t : ℕ) (z : List ℕ) → Vector K (size t) (image_of K (M s t) z)
   M-vector s t z = image_of-vector K F (size t) (size s) (M s t) z (M-shape s t)
 
   pub a-vector : (z : List ℕ) → Vector K (size x) (image_of K a z)

@@ -29,7 +29,7 @@ complex_fits K F v is = subst RowsFit (same-complex v (filled v) (same-filled v)
     (full_fits K (filled v) (filled-full K F v is))
 
 -- the same removal, between full block complexes
-abbrev filled_removal : Removal → Removal
+abbrev pub filled_removal : Removal → Removal
 filled_removal r = record { x = r.x; y = r.y; inverse = r.inverse; rest = filled r.rest }
 
 module _ (K : Ops) (F : IsField K) (v : BlockComplex) (r : Removal) (is : IsBlockComplex K v)
@@ -37,13 +37,13 @@ module _ (K : Ops) (F : IsField K) (v : BlockComplex) (r : Removal) (is : IsBloc
   pub rest_is : IsBlockComplex K r.rest
   rest_is = removals.removal_keeps_block_complex K v r.rest r.x r.y r.inverse F is removal
 
-  filled-removal : IsRemoval K (filled v) r.x r.y r.inverse (filled r.rest)
+  pub filled-removal : IsRemoval K (filled v) r.x r.y r.inverse (filled r.rest)
   filled-removal =
       removal-same-before K v (filled v) r.x r.y r.inverse (filled r.rest) (same-filled v)
       (removal-same-after K v r.x r.y r.inverse r.rest (filled r.rest) (same-filled r.rest) removal)
 
   module _ (closed : IsCochainComplex K (complex_of v)) where
-    setting : IsSetting K (filled v) (filled_removal r)
+    pub setting : IsSetting K (filled v) (filled_removal r)
     setting = record {
       field = F;
       full = filled-full K F v is;
@@ -53,7 +53,7 @@ module _ (K : Ops) (F : IsField K) (v : BlockComplex) (r : Removal) (is : IsBloc
     }
 
     -- the maps are those of the filled removal, and so are the complexes
-    removal-equivalent : AreEquivalent K (complex_of v) (complex_of r.rest) (removal_pi K v r) (removal_iota K v r)
+    pub removal-equivalent : AreEquivalent K (complex_of v) (complex_of r.rest) (removal_pi K v r) (removal_iota K v r)
         (removal_h K v r)
     removal-equivalent =
         let q = filled_removal r in
@@ -85,7 +85,7 @@ module _ (K : Ops) (F : IsField K) where
       → RowsFit (complex_of (rest_of v rs))
   last_fits v rs is h = complex_fits K F (rest_of v rs) (last_is v rs is h)
 
-  removals-equivalent : (v : BlockComplex) (rs : List Removal) → IsBlockComplex K v
+  pub removals-equivalent : (v : BlockComplex) (rs : List Removal) → IsBlockComplex K v
       → IsCochainComplex K (complex_of v) → AreRemovals K v rs
       → AreEquivalent K (complex_of v) (complex_of (rest_of v rs)) (removals_pi K v rs) (removals_iota K v rs)
       (removals_h K v rs)

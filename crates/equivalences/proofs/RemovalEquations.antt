@@ -98,16 +98,16 @@ module _ (K : Ops) (v : BlockComplex) (r : Removal) (p : IsSetting K v r) where
   rises : IsRising (cells v.live)
   rises = full.rising
 
-  rises_rest : IsRising (cells w.live)
+  pub rises_rest : IsRising (cells w.live)
   rises_rest = rest_full.rising
 
-  left-live : (c : ℕ) → IsLeft c → IsLive c
+  pub left-live : (c : ℕ) → IsLeft c → IsLive c
   left-live c h = (at_cells.left-live K v r p c h).0
 
-  left-size : (c : ℕ) → IsLeft c → size_of w.live c ≡ size c
+  pub left-size : (c : ℕ) → IsLeft c → size_of w.live c ≡ size c
   left-size c h = removals.left-size K F v full x y a w removal c h
 
-  left-degree : (c : ℕ) → IsLeft c → degree_of w.live c ≡ degree c
+  pub left-degree : (c : ℕ) → IsLeft c → degree_of w.live c ≡ degree c
   left-degree c h =
       ap (λ live. degree_of live c) removal.live ∙ of_cell-without x y (λ l. l.1) v.live c
       (at_cells.left-live K v r p c h).1
@@ -208,7 +208,7 @@ module _ (K : Ops) (v : BlockComplex) (r : Removal) (p : IsSetting K v r) where
         → All P (of_degree k v.live)
     each = each-of_degree v rises k
 
-    each-left : (P : Cell → Type 0) → ((t : Cell) → IsLeft t.cell → degree t.cell ≡ k → size t.cell ≡ t.size → P t)
+    pub each-left : (P : Cell → Type 0) → ((t : Cell) → IsLeft t.cell → degree t.cell ≡ k → size t.cell ≡ t.size → P t)
         → All P (of_degree k w.live)
     each-left P f = each-of_degree w rises_rest k P
         (λ t h e is. f t h (sym (left-degree t.cell h) ∙ e) (sym (left-size t.cell h) ∙ is))
@@ -224,14 +224,14 @@ module _ (K : Ops) (v : BlockComplex) (r : Removal) (p : IsSetting K v r) where
       value-vector-here c h e = value-size v rises k K z c hz h e
 
       -- the values, and zero at cells of other degrees
-      spread : ℕ → List ℕ
+      pub spread : ℕ → List ℕ
       spread c = cond (eqb (degree c) k) (value c) (zeros (size c))
 
-      spread-here : (c : ℕ) → degree c ≡ k → spread c ≡ value c
+      pub spread-here : (c : ℕ) → degree c ≡ k → spread c ≡ value c
       unfolding spread
       spread-here c e = ap (λ b. cond b (value c) (zeros (size c))) (eq-eqb (degree c) k e)
 
-      spread-vector : (c : ℕ) → IsLive c → Vector K (size c) (spread c)
+      pub spread-vector : (c : ℕ) → IsLive c → Vector K (size c) (spread c)
       unfolding spread
       spread-vector c h = go (eqb (degree c) k) (eqb-true (degree c) k)
         where
@@ -315,10 +315,10 @@ module _ (K : Ops) (v : BlockComplex) (r : Removal) (p : IsSetting K v r) where
           (λ t h e is. subst (Vector K t.size) (sym (iota-ext t is))
           (with-size t (ext below t.cell) is (ext-vector t.cell h e)))
 
-      iota-cochain : Vector K (coordinates C k) (removal_iota K v r k z)
+      pub iota-cochain : Vector K (coordinates C k) (removal_iota K v r k z)
       iota-cochain = joined-vector K F iota (of_degree k v.live) iota-parts
 
-      iota-value : (t : ℕ) → IsLive t → degree t ≡ k → cochain_value v k (removal_iota K v r k z) t ≡ ext below t
+      pub iota-value : (t : ℕ) → IsLive t → degree t ≡ k → cochain_value v k (removal_iota K v r k z) t ≡ ext below t
       iota-value t h e =
           value-part v rises k K iota t (ext below t) iota-parts h e (ext-vector t h e)
           (λ c is same. iota-ext c same ∙ ap (ext below) is)
@@ -498,10 +498,10 @@ module _ (K : Ops) (v : BlockComplex) (r : Removal) (p : IsSetting K v r) where
         (with-size k t (at_cells.lower K v r p (spread (suc k) z hz) (spread-vector (suc k) z hz) t.cell) is
         (lower-vector t.cell h)))
 
-    h-cochain : Vector K (coordinates C k) (removal_h K v r k z)
+    pub h-cochain : Vector K (coordinates C k) (removal_h K v r k z)
     h-cochain = joined-vector K F lower (of_degree k v.live) lower-parts
 
-    h-value : (t : ℕ) → IsLive t → degree t ≡ k → cochain_value v k (removal_h K v r k z) t
+    pub h-value : (t : ℕ) → IsLive t → degree t ≡ k → cochain_value v k (removal_h K v r k z) t
         ≡ at_cells.lower K v r p (spread (suc k) z hz) (spread-vector (suc k) z hz) t
     h-value t h e =
         value-part v rises k K lower t (at_cells.lower K v r p (spread (suc k) z hz) (spread-vector (suc k) z hz) t)
