@@ -51,8 +51,8 @@ value-vector K (c ∷ cs) z s h =
       | false ↦ value-vector K cs (drop c.size z) s (drop-vector K c.size (total_size cs) z h)
     ]
 
-pub value-plus : (K : Ops) (cs : List Cell) (u v : List ℕ) (s : ℕ) → value_at cs (plus K u v) s ≡ plus K (value_at cs u s)
-    (value_at cs v s)
+pub value-plus : (K : Ops) (cs : List Cell) (u v : List ℕ) (s : ℕ)
+    → value_at cs (plus K u v) s ≡ plus K (value_at cs u s) (value_at cs v s)
 value-plus K [] u v s = refl
 value-plus K (c ∷ cs) u v s =
     elim (eqb c.cell s) as (λ b. cond b (take c.size (plus K u v)) (value_at cs (drop c.size (plus K u v)) s)
