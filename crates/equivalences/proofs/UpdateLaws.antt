@@ -171,7 +171,7 @@ module _ (K : Ops) where
             (cond b (take n z) (value_at rest (drop n z) c)) in
             split-image_of m n (total_size rest) A z h hz
             ∙ ap₂ (plus K) (sym (ap (λ b. term b l.0) (eq-eqb l.0 l.0 refl)))
-            (later (map (drop n) A) (drop n z) (dropped m n (total_size rest) A h)
+            (later (map (drop n) A) (drop n z) (drop-columns m n (total_size rest) A h)
             (drop-vector K n (total_size rest) z hz)
             ∙ sum_over-equal K F m (λ c. image_of K (map (λ row. value_at rest row c) (map (drop n) A))
             (value_at rest (drop n z) c)) (λ c. term (eqb l.0 c) c) (cells ls)
@@ -180,11 +180,11 @@ module _ (K : Ops) where
             ∙ sym (ap (λ b. term b c) (ne_eqb l.0 c (λ e. let bad : false ≡ true = sym absent
             ∙ ap (λ q. has q (cells ls)) e ∙ hc in cc)))))
           where
-            dropped : (m n j : ℕ) (A : List (List ℕ)) → Matrix K m (n + j) A → Matrix K m j (map (drop n) A)
-            dropped zero n j [] h = tt
-            dropped zero n j (a ∷ A) h = absurd h
-            dropped (suc m) n j [] h = absurd h
-            dropped (suc m) n j (a ∷ A) h = (drop-vector K n j a h.0, dropped m n j A h.1)
+            drop-columns : (m n j : ℕ) (A : List (List ℕ)) → Matrix K m (n + j) A → Matrix K m j (map (drop n) A)
+            drop-columns zero n j [] h = tt
+            drop-columns zero n j (a ∷ A) h = absurd h
+            drop-columns (suc m) n j [] h = absurd h
+            drop-columns (suc m) n j (a ∷ A) h = (drop-vector K n j a h.0, drop-columns m n j A h.1)
         go false h hz later =
             let term : ℕ → List ℕ = λ c. image_of K (map (λ row. value_at rest row c) A) (value_at rest z c) in
             let shape : (c : ℕ) → Vector K m (term c) = λ c. image_of-vector K F m (size_at rest c)
@@ -297,9 +297,9 @@ module _ (K : Ops) (u : BlockComplex) (r : Removal) (p : IsSetting K u r) (k : �
     part t = matrix_sum K (rows_at u k A t.cell) (matrix_negative K
         (product K n (M x t.cell) (product K n a (rows_at u k A y))))
 
-    taken-shape : (t : Cell) → size t.cell ≡ t.size
+    away-shape : (t : Cell) → size t.cell ≡ t.size
         → Matrix K t.size n (product K n (M x t.cell) (product K n a (rows_at u k A y)))
-    taken-shape t is = product-rows K F t.size (size x) n (M x t.cell) (product K n a (rows_at u k A y))
+    away-shape t is = product-rows K F t.size (size x) n (M x t.cell) (product K n a (rows_at u k A y))
         (matrix-size K (size t.cell) (size x) (M x t.cell) (M-shape x t.cell) ∙ is) back
 
     rows-shape : (t : Cell) → IsLeft t.cell → degree t.cell ≡ k → size t.cell ≡ t.size
@@ -312,9 +312,9 @@ module _ (K : Ops) (u : BlockComplex) (r : Removal) (p : IsSetting K u r) (k : �
         joined-matrix K part n (of_degree k w.live)
         (on_cochains.each-left K u r p k (λ (t : Cell). Matrix K t.size n (part t))
         (λ t h e is.
-        let taken = product K n (M x t.cell) (product K n a (rows_at u k A y)) in
-        matrix_sum-matrix K F t.size n (rows_at u k A t.cell) (matrix_negative K taken) (rows-shape t h e is)
-        (matrix_negative-matrix K F t.size n taken (taken-shape t is))))
+        let away = product K n (M x t.cell) (product K n a (rows_at u k A y)) in
+        matrix_sum-matrix K F t.size n (rows_at u k A t.cell) (matrix_negative K away) (rows-shape t h e is)
+        (matrix_negative-matrix K F t.size n away (away-shape t is))))
 
     next_pi-image_of : (z : List ℕ) → image_of K (next_pi K u r k n A) z ≡ removal_pi K u r k (image_of K A z)
     next_pi-image_of z =
@@ -327,11 +327,11 @@ module _ (K : Ops) (u : BlockComplex) (r : Removal) (p : IsSetting K u r) (k : �
         (λ (t : Cell). image_of K (part t) z ≡ plus K (cochain_value u k image t.cell)
         (negative K (image_of K (M x t.cell) (image_of K a (cochain_value u k image y)))))
         (λ t h e is.
-        let taken = product K n (M x t.cell) (product K n a (rows_at u k A y)) in
-        matrix_sum-image_of K F t.size n (rows_at u k A t.cell) (matrix_negative K taken) z (rows-shape t h e is)
-        (matrix_negative-matrix K F t.size n taken (taken-shape t is))
+        let away = product K n (M x t.cell) (product K n a (rows_at u k A y)) in
+        matrix_sum-image_of K F t.size n (rows_at u k A t.cell) (matrix_negative K away) z (rows-shape t h e is)
+        (matrix_negative-matrix K F t.size n away (away-shape t is))
         ∙ ap₂ (plus K) (sym (value-image_of K cs A z t.cell))
-        (matrix_negative-image_of K F taken z
+        (matrix_negative-image_of K F away z
         ∙ ap (negative K)
         (product-image_of K F (size x) n (M x t.cell) (product K n a (rows_at u k A y)) z back
         ∙ ap (image_of K (M x t.cell))
@@ -350,9 +350,9 @@ module _ (K : Ops) (u : BlockComplex) (r : Removal) (p : IsSetting K u r) (k : �
     through-shape : (c : ℕ) → Matrix K (size x) (size c) (product K (size c) a (M c y))
     through-shape c = product-matrix K F (size x) (size y) (size c) a (M c y) a-shape (M-shape c y)
 
-    taken-vector : (c : ℕ) → Vector K (size c) (combination K (size c) (cochain_value u k row x)
+    away-vector : (c : ℕ) → Vector K (size c) (combination K (size c) (cochain_value u k row x)
         (product K (size c) a (M c y)))
-    taken-vector c = combination-vector K F (size x) (size c) (cochain_value u k row x) (product K (size c) a (M c y))
+    away-vector c = combination-vector K F (size x) (size c) (cochain_value u k row x) (product K (size c) a (M c y))
         (through-shape c)
 
     value-vector-here : (c : ℕ) → IsLeft c → degree c ≡ k → Vector K (size c) (cochain_value u k row c)
@@ -360,9 +360,9 @@ module _ (K : Ops) (u : BlockComplex) (r : Removal) (p : IsSetting K u r) (k : �
 
     entry-vector : (c : ℕ) → IsLeft c → degree c ≡ k → Vector K (size c) (entry row (size c) c)
     entry-vector c h e =
-        let taken = combination K (size c) (cochain_value u k row x) (product K (size c) a (M c y)) in
-        plus-vector K F (size c) (cochain_value u k row c) (negative K taken) (value-vector-here c h e)
-        (negative-vector K F (size c) taken (taken-vector c))
+        let away = combination K (size c) (cochain_value u k row x) (product K (size c) a (M c y)) in
+        plus-vector K F (size c) (cochain_value u k row c) (negative K away) (value-vector-here c h e)
+        (negative-vector K F (size c) away (away-vector c))
 
     entries : All (λ (s : Cell). Vector K s.size (entry row s.size s.cell)) (of_degree k w.live)
     entries =
@@ -376,16 +376,16 @@ module _ (K : Ops) (u : BlockComplex) (r : Removal) (p : IsSetting K u r) (k : �
         → dot K (cochain_value w k (new_row row) c) g ≡ K.add (dot K (cochain_value u k row c) g)
         (K.neg (dot K (cochain_value u k row x) (image_of K a (image_of K (M c y) g))))
     new_row-dot c h e g =
-        let taken = combination K (size c) (cochain_value u k row x) (product K (size c) a (M c y)) in
+        let away = combination K (size c) (cochain_value u k row x) (product K (size c) a (M c y)) in
         ap (λ q. dot K q g)
         (value-part w (on_cochains.rises_rest K u r p) k K (λ (s : Cell). entry row s.size s.cell) c
         (entry row (size c) c) entries h (on_cochains.left-degree K u r p c h ∙ e)
         (subst (λ n. Vector K n (entry row (size c) c)) (sym (on_cochains.left-size K u r p c h)) (entry-vector c h e))
         (λ s is same. ap₂ (entry row) (sym same ∙ ap (size_of w.live) is ∙ on_cochains.left-size K u r p c h) is))
-        ∙ plus-dot K F (size c) (cochain_value u k row c) (negative K taken) g (value-vector-here c h e)
-        (negative-vector K F (size c) taken (taken-vector c))
+        ∙ plus-dot K F (size c) (cochain_value u k row c) (negative K away) g (value-vector-here c h e)
+        (negative-vector K F (size c) away (away-vector c))
         ∙ ap (K.add (dot K (cochain_value u k row c) g))
-        (negative-dot K F taken g
+        (negative-dot K F away g
         ∙ ap K.neg
         (combination-dot K F (size x) (size c) (cochain_value u k row x) (product K (size c) a (M c y)) g
         (through-shape c)
@@ -502,9 +502,9 @@ module _ (K : Ops) (u : BlockComplex) (r : Removal) (p : IsSetting K u r) (k : �
         ]
 
     -- h of the removal, under the matrix
-    lowered-image_of : (z : List ℕ) → Vector K (coordinates B (suc k)) z
+    h-image_of : (z : List ℕ) → Vector K (coordinates B (suc k)) z
         → image_of K A (removal_h K u r k z) ≡ image_of K (columns x) (image_of K a (cochain_value u (suc k) z y))
-    lowered-image_of z hz =
+    h-image_of z hz =
         image_of-family (removal_h K u r k z) (on_cochains.h-cochain K u r p k z hz) lower
         (λ c h e. on_cochains.h-value K u r p k z hz c h e)
         (ap (image_of K (columns y)) (at_cells.lower-other K u r p f hf y (at_cells.distinct K u r p))
@@ -548,26 +548,26 @@ module _ (K : Ops) (u : BlockComplex) (r : Removal) (p : IsSetting K u r) (k : �
       inner-shape = product-rows K F (size x) (size_at above y) n a (rows_at u (suc k) P y)
           (matrix-size K (size x) (size y) a a-shape) above-shape
 
-      added-shape : Matrix K m n (product K n (columns x) inner)
-      added-shape = product-rows K F m (size x) n (columns x) inner
+      summand-shape : Matrix K m n (product K n (columns x) inner)
+      summand-shape = product-rows K F m (size x) n (columns x) inner
           (matrix-size K m (size_at cs x) (columns x) (columns-shape x)) inner-shape
 
       next_h-matrix : Matrix K m n (next_h K u r k n H A P)
-      next_h-matrix = matrix_sum-matrix K F m n H (product K n (columns x) inner) hH added-shape
+      next_h-matrix = matrix_sum-matrix K F m n H (product K n (columns x) inner) hH summand-shape
 
       next_h-image_of : (z : List ℕ) → image_of K (next_h K u r k n H A P) z
           ≡ plus K (image_of K H z) (image_of K A (removal_h K u r k (image_of K P z)))
       next_h-image_of z =
-          matrix_sum-image_of K F m n H (product K n (columns x) inner) z hH added-shape
+          matrix_sum-image_of K F m n H (product K n (columns x) inner) z hH summand-shape
           ∙ ap (plus K (image_of K H z))
           (product-image_of K F (size x) n (columns x) inner z inner-shape
           ∙ ap (image_of K (columns x))
           (product-image_of K F (size_at above y) n a (rows_at u (suc k) P y) z above-shape
           ∙ ap (image_of K a) (sym (value-image_of K above P z y)))
-          ∙ sym (lowered-image_of (image_of K P z) (image_of-vector K F (coordinates B (suc k)) n P z hP)))
+          ∙ sym (h-image_of (image_of K P z) (image_of-vector K F (coordinates B (suc k)) n P z hP)))
 
 -- from full block complexes
-full-step : (K : Ops) (v u : BlockComplex) (r : Removal) (pi iota h : ℕ → List (List ℕ)) → IsSetting K u r
+full-next : (K : Ops) (v u : BlockComplex) (r : Removal) (pi iota h : ℕ → List (List ℕ)) → IsSetting K u r
     → ((k : ℕ) → IsMatrix K (coordinates (complex_of u) k) (coordinates (complex_of v) k) (pi k))
     → ((k : ℕ) → IsMatrix K (coordinates (complex_of v) k) (coordinates (complex_of u) k) (iota k))
     → ((k : ℕ) → IsMatrix K (coordinates (complex_of v) k) (coordinates (complex_of v) (suc k)) (h k))
@@ -575,7 +575,7 @@ full-step : (K : Ops) (v u : BlockComplex) (r : Removal) (pi iota h : ℕ → Li
     (λ k. next_pi K u r k (coordinates (complex_of v) k) (pi k))
     (λ k. next_iota K u r k (iota k))
     (λ k. next_h K u r k (coordinates (complex_of v) (suc k)) (h k) (iota k) (pi (suc k)))
-full-step K v u r pi iota h p pi_shape iota_shape h_shape =
+full-next K v u r pi iota h p pi_shape iota_shape h_shape =
     let C = complex_of v in
     let B = complex_of u in
     let D = complex_of r.rest in
@@ -623,7 +623,7 @@ operations_give_next K u F is closed v r pi iota h removal pi_shape iota_shape h
     let removal' = composite_laws.filled-removal K F u r is removal in
     let rising = (composite_laws.rest_is K F u r is removal).rising in
     let s =
-    full-step K v u' q pi iota h (composite_laws.setting K F u r is removal closed) pi_shape iota_shape h_shape in
+    full-next K v u' q pi iota h (composite_laws.setting K F u r is removal closed) pi_shape iota_shape h_shape in
     record {
       pi_is = λ k.
           let n = coordinates C k in
