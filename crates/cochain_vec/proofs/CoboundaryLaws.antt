@@ -51,8 +51,8 @@ value-vector K (c ∷ cs) z s h =
       | false ↦ value-vector K cs (drop c.size z) s (drop-vector K c.size (total_size cs) z h)
     ]
 
-pub value-plus : (K : Ops) (cs : List Cell) (u v : List ℕ) (s : ℕ) → value_at cs (plus K u v) s
-    ≡ plus K (value_at cs u s) (value_at cs v s)
+pub value-plus : (K : Ops) (cs : List Cell) (u v : List ℕ) (s : ℕ)
+    → value_at cs (plus K u v) s ≡ plus K (value_at cs u s) (value_at cs v s)
 value-plus K [] u v s = refl
 value-plus K (c ∷ cs) u v s =
     elim (eqb c.cell s) as (λ b. cond b (take c.size (plus K u v)) (value_at cs (drop c.size (plus K u v)) s)
@@ -73,7 +73,7 @@ value-multiple K (c ∷ cs) k v s =
     ]
 
 -- parts that are the same at each cell are the same joined
-pub joined-same : (f g : Cell → List ℕ) (cs : List Cell) → All (λ (u : Cell). f u ≡ g u) cs
+pub joined-same : {A : Type 0} (f g : Cell → List A) (cs : List Cell) → All (λ (u : Cell). f u ≡ g u) cs
     → flat_map f cs ≡ flat_map g cs
 joined-same f g [] h = refl
 joined-same f g (c ∷ cs) h =

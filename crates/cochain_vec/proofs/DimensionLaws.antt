@@ -1,21 +1,22 @@
 -- Two bases of the cohomology of one degree have the same length.
-use Rattle.std.proofs.Common.{◌≡◌, ◌≢◌, ℕ, zero, suc, ◌<◌, List, [], ◌∷◌, length, All, refl, sym, ap, ap₂, ◌∙◌, subst}
-use Rattle.std.proofs.Common.{arith, suc-le-suc}
+use Rattle.std.proofs.Common.{◌≡◌, ℕ, zero, suc, ◌<◌, List, [], ◌∷◌, length, All, refl, sym, ap, ap₂, ◌∙◌, subst}
+use Rattle.std.proofs.Common.{arith, suc-le-suc, get_or}
+use Rattle.std.proofs.lemmas.List.{ext_get_or}
 use Rattle.dense_blocks.specs.Field.{Ops}
 use Rattle.dense_blocks.specs.FieldLaws.{IsField}
-use Rattle.dense_blocks.specs.Vectors.{zeros, plus, multiple, dot, combination}
-use Rattle.dense_blocks.proofs.Shapes.{Vector, Matrix, to_vector, from_vector, matrix-size, matrix_of_rows}
+use Rattle.dense_blocks.specs.Vectors.{zeros, plus, multiple, combination}
+use Rattle.dense_blocks.proofs.Shapes.{Vector, Matrix, to_vector, from_vector, matrix_of_rows}
 use Rattle.dense_blocks.proofs.VectorLaws.{zeros-vector, zeros-plus, zeros-plus-zeros, plus-vector, multiple-vector}
 use Rattle.dense_blocks.proofs.VectorLaws.{plus-cross, multiple-plus, multiple-zeros, combination-nil}
 use Rattle.dense_blocks.proofs.VectorLaws.{combination-vector, combination-multiple, combination-plus}
 use Rattle.dense_blocks.proofs.VectorLaws.{combination-zeros}
+use Rattle.dense_blocks.proofs.Dependence.{dependent}
 use Rattle.cochain_vec.specs.Complexes.{CellularComplex, coordinates}
 use Rattle.cochain_vec.specs.Shapes.{RowsFit}
-use Rattle.cochain_vec.specs.Cohomology.{IsCocycle, IsCoboundary, IsRepresented, IsBasis}
-use Rattle.cochain_vec.specs.Dimensions.{DimensionsAgree}
+use Rattle.cochain_vec.specs.Cohomology.{IsCocycle, IsCoboundary, IsRepresented, IsBasis, AreDimensions}
+use Rattle.cochain_vec.specs.Dimensions.{HasOneDimension, DimensionsAgree}
 use Rattle.cochain_vec.proofs.CoboundaryLaws.{coboundary-cochain, coboundary-plus, coboundary-multiple}
 use Rattle.cochain_vec.proofs.CoboundaryLaws.{coboundary-zeros}
-use Rattle.dense_blocks.proofs.Dependence.{dependent}
 
 module _ (K : Ops) (F : IsField K) where
   -- coboundaries of one degree are closed under sums and multiples
@@ -43,11 +44,10 @@ module _ (K : Ops) (F : IsField K) where
         let ht = to_vector K n t.0 t.1 in (
           plus K s.0 t.0,
           from_vector K n (plus K s.0 t.0) (plus-vector K F n s.0 t.0 hs ht),
-          ap₂ (plus K) s.2 t.2
-              ∙ sym (coboundary-plus K F C fits k s.0 t.0 hs ht),
+          ap₂ (plus K) s.2 t.2 ∙ sym (coboundary-plus K F C fits k s.0 t.0 hs ht),
         )
 
-    pub multiple-coboundary : (k c : ℕ) (v : List ℕ) → IsCoboundary K C k v → IsCoboundary K C k (multiple K c v)
+    multiple-coboundary : (k c : ℕ) (v : List ℕ) → IsCoboundary K C k v → IsCoboundary K C k (multiple K c v)
     multiple-coboundary zero c v s = ap (multiple K c) s ∙ multiple-zeros K F c (coordinates C 0)
     multiple-coboundary (suc k) c v s =
         let n = coordinates C k in (
@@ -60,7 +60,8 @@ module _ (K : Ops) (F : IsField K) where
       abbrev n : ℕ
       n = coordinates C k
 
-      -- the members of A as combinations of B: the coefficients of each, and each combination of A up to a coboundary
+      -- the members of A as combinations of B, up to coboundaries: a row of coefficients for each, and so for each
+      -- combination of A
       record Expansion (B A : List (List ℕ)) : Type 0 where
         rows : List (List ℕ)
         rows_are : Matrix K (length A) (length B) rows
@@ -109,8 +110,7 @@ module _ (K : Ops) (F : IsField K) where
         expansion [] h = record {
           rows = [];
           rows_are = tt;
-          expands =
-              λ d hd. (zeros n, zeros-coboundary k, nil_expands d);
+          expands = λ d hd. (zeros n, zeros-coboundary k, nil_expands d);
         }
         expansion (x ∷ A) h =
             let sp : IsRepresented K C k B x = b.spans x (h 0 [] (omega arith)) in
@@ -121,6 +121,7 @@ module _ (K : Ops) (F : IsField K) where
               expands = λ d hd. one_expands x A sp below d hd;
             }
 
+      -- else the rows of coefficients would be dependent, and so the members of A, up to a coboundary
       not_longer : (A B : List (List ℕ)) → IsBasis K C k A → IsBasis K C k B → length B < length A → ⊥
       not_longer A B a b l =
           let e : Expansion B A = expansion B b A a.cocycles in
@@ -134,12 +135,21 @@ module _ (K : Ops) (F : IsField K) where
           ∙ zeros-plus K F n x.0 (coboundary-vector k x.0 x.1)))
           x.1))
 
+module _ (K : Ops) (F : IsField K) (C : CellularComplex) (fits : RowsFit C) where
+  one-dimension : (k : ℕ) → HasOneDimension K C k
+  one-dimension k = record { bases = same; dimensions = λ m n a b. sym a.1 ∙ same a.0 b.0 a.2 b.2 ∙ b.1 }
+    where
+      same : (A B : List (List ℕ)) → IsBasis K C k A → IsBasis K C k B → length A ≡ length B
+      same A B a b =
+          let one : length B < length A → ⊥ = not_longer K F C fits k A B a b in
+          let two : length A < length B → ⊥ = not_longer K F C fits k B A b a in
+          omega arith
+
+  one-list : (degrees : ℕ) (a b : List ℕ) → AreDimensions K C degrees a → AreDimensions K C degrees b → a ≡ b
+  one-list degrees a b ha hb =
+      ext_get_or 0 a b (ha.one_each ∙ sym hb.one_each)
+      (λ k l. (one-dimension k).dimensions (get_or a k 0) (get_or b k 0) (ha.dimensions k l)
+      (hb.dimensions k (omega (arith, ha.one_each, hb.one_each))))
+
 pub dimensions_agree : DimensionsAgree
-dimensions_agree K C F fits k =
-    record { bases = same; dimensions = λ m n a b. sym a.1 ∙ same a.0 b.0 a.2 b.2 ∙ b.1 }
-  where
-    same : (A B : List (List ℕ)) → IsBasis K C k A → IsBasis K C k B → length A ≡ length B
-    same A B a b =
-        let one : length B < length A → ⊥ = not_longer K F C fits k A B a b in
-        let two : length A < length B → ⊥ = not_longer K F C fits k B A b a in
-        omega arith
+dimensions_agree K C F fits = (one-dimension K F C fits, one-list K F C fits)

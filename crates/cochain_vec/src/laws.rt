@@ -6,8 +6,8 @@ pub fn empty_cells_change_nothing()
     ensures { EmptyCellsChangeNothing }
 {}
 
-/// A law, with nothing to run: two bases of the cohomology of one degree have the same length, so the dimension of each
-/// degree is one number.
+/// A law, with nothing to run: two bases of the cohomology of one degree have the same length, so only one list of
+/// numbers is that of the dimensions.
 pub fn dims_agree()
     ensures { DimensionsAgree }
 {}

@@ -30,9 +30,9 @@ tail [] = []
 tail (a ∷ v) = v
 
 -- the first entry of each row is zero
-abbrev NoHead : List (List ℕ) → Type 0
-NoHead [] = Unit {0}
-NoHead (r ∷ A) = (head r ≡ 0) × NoHead A
+abbrev ZeroHeads : List (List ℕ) → Type 0
+ZeroHeads [] = Unit {0}
+ZeroHeads (r ∷ A) = (head r ≡ 0) × ZeroHeads A
 
 -- a row with a first entry that is not zero, and the rows before and after it
 record NonzeroHead (A : List (List ℕ)) : Type 0 where
@@ -42,23 +42,24 @@ record NonzeroHead (A : List (List ℕ)) : Type 0 where
   is : A ≡ before ++ (row ∷ after)
   not_zero : head row ≢ 0
 
-find : (A : List (List ℕ)) → NoHead A ⊎ NonzeroHead A
-find [] = inl tt
-find (r ∷ A) = elim (cases_eq (head r) 0) [
-  | inl e ↦ elim (find A) [
+-- each first entry is zero, or there is a row where it is not
+split_at_head : (A : List (List ℕ)) → ZeroHeads A ⊎ NonzeroHead A
+split_at_head [] = inl tt
+split_at_head (r ∷ A) = elim (cases_eq (head r) 0) [
+  | inl e ↦ elim (split_at_head A) [
     | inl h ↦ inl (e, h)
     | inr p ↦ inr (record {
       before = r ∷ p.before;
       row = p.row;
       after = p.after;
       is = ap (λ t. r ∷ t) p.is;
-      not_zero =
-          p.not_zero;
+      not_zero = p.not_zero;
     })
   ]
   | inr n ↦ inr (record { before = []; row = r; after = A; is = refl; not_zero = n })
 ]
 
+-- rows one list after another
 rows-append : (K : Ops) (n : ℕ) (A B : List (List ℕ)) → AreRows K n (A ++ B) → AreRows K n A × AreRows K n B
 rows-append K n [] B h = (tt, h)
 rows-append K n (r ∷ A) B h = let p : AreRows K n A × AreRows K n B = rows-append K n A B h.1 in ((h.0, p.0), p.1)
@@ -71,28 +72,28 @@ one_not_zero : ◌≡◌ {A = ℕ} 1 0 → ⊥
 one_not_zero e = omega arith
 
 module _ (K : Ops) (F : IsField K) where
-  no-head-solves : (n : ℕ) (A : List (List ℕ)) → AreRows K (suc n) A → NoHead A → Annihilate K A (1 ∷ zeros n)
-  no-head-solves n [] h z = tt
-  no-head-solves n ([] ∷ A) h z = absurd h.0
-  no-head-solves n ((a ∷ r) ∷ A) h z = (
+  no-head-kills : (n : ℕ) (A : List (List ℕ)) → AreRows K (suc n) A → ZeroHeads A → Annihilate K A (1 ∷ zeros n)
+  no-head-kills n [] h z = tt
+  no-head-kills n ([] ∷ A) h z = absurd h.0
+  no-head-kills n ((a ∷ r) ∷ A) h z = (
     ap₂ K.add (F.mul_one a h.0.0 ∙ z.0) (dot-zeros K F n r) ∙ F.add_zero 0 (zero_below K F),
-    no-head-solves n A h.1 z.1,
+    no-head-kills n A h.1 z.1,
   )
 
   -- the row r without its first entry, which p takes away
   module _ (n : ℕ) (p0 : ℕ) (p : List ℕ) (p0_is : p0 < K.order) (p_is : Vector K n p) (p0_not : p0 ≢ 0) where
-    reduced : List ℕ → List ℕ
-    reduced r = plus K (tail r) (negative K (multiple K (K.mul (head r) (K.inv p0)) p))
+    without_head : List ℕ → List ℕ
+    without_head r = plus K (tail r) (negative K (multiple K (K.mul (head r) (K.inv p0)) p))
 
-    reduced-rows : (A : List (List ℕ)) → AreRows K (suc n) A → AreRows K n (map reduced A)
-    unfolding reduced
-    reduced-rows [] h = tt
-    reduced-rows ([] ∷ A) h = absurd h.0
-    reduced-rows ((a ∷ r) ∷ A) h = (
+    without_head-rows : (A : List (List ℕ)) → AreRows K (suc n) A → AreRows K n (map without_head A)
+    unfolding without_head
+    without_head-rows [] h = tt
+    without_head-rows ([] ∷ A) h = absurd h.0
+    without_head-rows ((a ∷ r) ∷ A) h = (
       plus-vector K F n r (negative K (multiple K (K.mul a (K.inv p0)) p)) h.0.1
           (negative-vector K F n (multiple K (K.mul a (K.inv p0)) p)
           (multiple-vector K F n (K.mul a (K.inv p0)) p p_is)),
-      reduced-rows A h.1,
+      without_head-rows A h.1,
     )
 
     -- the first unknown, from the others
@@ -103,19 +104,19 @@ module _ (K : Ops) (F : IsField K) where
     unfolding first
     first-below x = F.neg_below (K.mul (K.inv p0) (dot K p x))
 
-    pivot-solves : (x : List ℕ) → dot K (p0 ∷ p) (first x ∷ x) ≡ 0
+    pivot-kills : (x : List ℕ) → dot K (p0 ∷ p) (first x ∷ x) ≡ 0
     unfolding first
-    pivot-solves x =
+    pivot-kills x =
         ap (λ t. K.add t (dot K p x))
         (mul_neg K F p0 (K.mul (K.inv p0) (dot K p x))
         ∙ ap K.neg (sym (F.mul_assoc p0 (K.inv p0) (dot K p x))
         ∙ ap (λ t. K.mul t (dot K p x)) (F.mul_inv p0 p0_is p0_not) ∙ one_mul K F (dot K p x) (dot-below K F p x)))
         ∙ neg_add K F (dot K p x)
 
-    row-solves : (a : ℕ) (r x : List ℕ) → a < K.order → Vector K n r → dot K (reduced (a ∷ r)) x ≡ 0
+    row-kills : (a : ℕ) (r x : List ℕ) → a < K.order → Vector K n r → dot K (without_head (a ∷ r)) x ≡ 0
         → dot K (a ∷ r) (first x ∷ x) ≡ 0
-    unfolding first reduced
-    row-solves a r x ha hr e =
+    unfolding first without_head
+    row-kills a r x ha hr e =
         let c : ℕ = K.mul a (K.inv p0) in
         ap (λ t. K.add t (dot K r x)) (mul_neg K F a (K.mul (K.inv p0) (dot K p x))
         ∙ ap K.neg (sym (F.mul_assoc a (K.inv p0) (dot K p x))))
@@ -125,11 +126,11 @@ module _ (K : Ops) (F : IsField K) where
         (negative-vector K F n (multiple K c p) (multiple-vector K F n c p p_is)))
         ∙ e
 
-    rows-solve : (A : List (List ℕ)) (x : List ℕ) → AreRows K (suc n) A → Annihilate K (map reduced A) x
+    rows-kill : (A : List (List ℕ)) (x : List ℕ) → AreRows K (suc n) A → Annihilate K (map without_head A) x
         → Annihilate K A (first x ∷ x)
-    rows-solve [] x h s = tt
-    rows-solve ([] ∷ A) x h s = absurd h.0
-    rows-solve ((a ∷ r) ∷ A) x h s = (row-solves a r x h.0.0 h.0.1 s.0, rows-solve A x h.1 s.1)
+    rows-kill [] x h s = tt
+    rows-kill ([] ∷ A) x h s = absurd h.0
+    rows-kill ((a ∷ r) ∷ A) x h s = (row-kills a r x h.0.0 h.0.1 s.0, rows-kill A x h.1 s.1)
 
   -- a vector that is not zero, on which each row is zero
   abbrev KernelVector : ℕ → List (List ℕ) → Type 0
@@ -147,32 +148,32 @@ module _ (K : Ops) (F : IsField K) where
       let others_rows : AreRows K (suc n) others = append-rows K (suc n) before after split.0 split.1.1 in
       let p0_is : p0 < K.order = split.1.0.0 in
       let p_is : Vector K n p = split.1.0.1 in
-      let small : List (List ℕ) = map (reduced n p0 p p0_is p_is nz) others in
+      let small : List (List ℕ) = map (without_head n p0 p p0_is p_is nz) others in
       let less : length small < n =
-      (let e1 : length small ≡ length others = length-map others (reduced n p0 p p0_is p_is nz) in
+      (let e1 : length small ≡ length others = length-map others (without_head n p0 p p0_is p_is nz) in
       let e2 : length others ≡ length before + length after = length-append before after in
       let e3 : length (before ++ ((p0 ∷ p) ∷ after)) ≡ length before + suc (length after) =
       length-append before ((p0 ∷ p) ∷ after) in
       omega arith) in
-      let found : KernelVector n small = ih small (reduced-rows n p0 p p0_is p_is nz others others_rows) less in
+      let found : KernelVector n small = ih small (without_head-rows n p0 p p0_is p_is nz others others_rows) less in
       let x : List ℕ = first n p0 p p0_is p_is nz found.0 ∷ found.0 in
-      let all : Annihilate K others x = rows-solve n p0 p p0_is p_is nz others found.0 others_rows found.3 in
+      let all : Annihilate K others x = rows-kill n p0 p p0_is p_is nz others found.0 others_rows found.3 in
       let parts : Annihilate K before x × Annihilate K after x = kills-append K before after x all in (
         x,
         (first-below n p0 p p0_is p_is nz found.0, found.1),
         (λ e. found.2 (ap tail {x = first n p0 p p0_is p_is nz found.0 ∷ found.0} e)),
-        kills-join K before ((p0 ∷ p) ∷ after) x parts.0 (pivot-solves n p0 p p0_is p_is nz found.0, parts.1),
+        kills-join K before ((p0 ∷ p) ∷ after) x parts.0 (pivot-kills n p0 p p0_is p_is nz found.0, parts.1),
       )
 
   -- fewer equations than unknowns
   kernel : (n : ℕ) (A : List (List ℕ)) → AreRows K n A → length A < n → KernelVector n A
   kernel zero A h l = absurd (omega arith)
-  kernel (suc n) A h l = elim (find A) [
+  kernel (suc n) A h l = elim (split_at_head A) [
     | inl z ↦ (
       1 ∷ zeros n,
       (one_below K F, zeros-vector K F n),
       (λ e. one_not_zero (ap head e)),
-      no-head-solves n A h z,
+      no-head-kills n A h z,
     )
     | inr s ↦
         subst (KernelVector (suc n)) (sym s.is)

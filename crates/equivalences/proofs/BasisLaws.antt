@@ -9,20 +9,20 @@ use Rattle.dense_blocks.specs.Matrices.{image_of}
 use Rattle.dense_blocks.specs.MatrixFacts.{identity}
 use Rattle.dense_blocks.proofs.Shapes.{Vector, Matrix, to_vector, from_vector, to_matrix, matrix-size, matrix-rows}
 use Rattle.dense_blocks.proofs.Shapes.{matrix_of_rows}
-use Rattle.dense_blocks.proofs.VectorLaws.{zeros-vector, plus-zeros, plus-assoc, combination-vector}
+use Rattle.dense_blocks.proofs.VectorLaws.{plus-zeros, plus-assoc, combination-vector}
 use Rattle.dense_blocks.proofs.MatrixLaws.{image_of-vector, image_of-plus, image_of-zeros, combination-identity}
 use Rattle.dense_blocks.proofs.MatrixLaws.{identity-matrix}
 use Rattle.dense_blocks.proofs.LinearMaps.{linear-combination, linear-image_of}
 use Rattle.cochain_vec.specs.Complexes.{CellularComplex, coordinates, IsCochain}
 use Rattle.cochain_vec.specs.Shapes.{RowsFit}
 use Rattle.cochain_vec.specs.Cohomology.{IsCocycle, IsCoboundary, IsRepresented, IsBasis}
-use Rattle.cochain_vec.proofs.DimensionLaws.{coboundary-vector, plus-coboundary}
-use Rattle.equivalences.specs.Equivalences.{map_of, d_h, IsEquivalence}
+use Rattle.cochain_vec.proofs.DimensionLaws.{coboundary-vector, plus-coboundary, zeros-coboundary}
+use Rattle.equivalences.specs.Equivalences.{map_of, d_h, IsEquivalence, GradedMatrix}
 use Rattle.equivalences.specs.Bases.{HasNoCoboundary}
 use Rattle.equivalences.specs.Laws.{EquivalenceCarriesBases, UnitImagesAreBasis, CocyclesHaveCoordinates}
 
 module _ (K : Ops) (F : IsField K) where
-  module _ (C D : CellularComplex) (fits : RowsFit C) (fits_D : RowsFit D) (pi iota h : ℕ → List (List ℕ))
+  module _ (C D : CellularComplex) (fits : RowsFit C) (fits_D : RowsFit D) (pi iota h : GradedMatrix)
       (e : IsEquivalence K C D pi iota h) where
     pi-matrix : (k : ℕ) → Matrix K (coordinates D k) (coordinates C k) (pi k)
     pi-matrix k = to_matrix K (coordinates D k) (coordinates C k) (pi k) (e.pi_shape k)
@@ -114,8 +114,8 @@ module _ (K : Ops) (F : IsField K) where
       image-combination B c hb = linear-combination K F m n (image_of K (iota k))
           (linear-image_of K F m n (iota k) (iota-matrix k)) (length B) c B hb
 
-      pub carried : (B : List (List ℕ)) → IsBasis K D k B → IsBasis K C k (images B)
-      carried B b = record {
+      images-basis : (B : List (List ℕ)) → IsBasis K D k B → IsBasis K C k (images B)
+      images-basis B b = record {
         cocycles = All-map (IsCocycle K C k) (image_of K (iota k)) B
             (λ i d l. iota-cocycle k (get_or B i d) (b.cocycles i d l));
         spans = spans;
@@ -160,9 +160,9 @@ module _ (K : Ops) (F : IsField K) where
       units-size : length units ≡ n
       units-size = matrix-size K n n units (identity-matrix K F n)
 
-      pub coordinates-of : (z : List ℕ) → IsCocycle K C k z → z
+      cocycle-combination : (z : List ℕ) → IsCocycle K C k z → z
           ≡ plus K (combination K m (image_of K (pi k) z) (images units)) (d_h K C (map_of K h) k z)
-      coordinates-of z c =
+      cocycle-combination z c =
           let w : List ℕ = image_of K (pi k) z in
           cocycle-parts k z c
           ∙ ap (λ u. plus K u (d_h K C (map_of K h) k z))
@@ -172,19 +172,12 @@ module _ (K : Ops) (F : IsField K) where
           (identity-matrix K F n))
 
   -- without a coboundary the unit vectors are a basis
-  module _ (D : CellularComplex) (none : HasNoCoboundary K D) where
+  module _ (D : CellularComplex) (fits : RowsFit D) (none : HasNoCoboundary K D) where
     no_coboundary : (k : ℕ) (z : List ℕ) → IsCoboundary K D k z → z ≡ zeros (coordinates D k)
     no_coboundary zero z s = s
     no_coboundary (suc k) z s = s.2 ∙ none k s.0 s.1
 
-    zeros_is_coboundary : (k : ℕ) → IsCoboundary K D k (zeros (coordinates D k))
-    zeros_is_coboundary zero = refl
-    zeros_is_coboundary (suc k) =
-        let z = zeros (coordinates D k) in
-        let hz = from_vector K (coordinates D k) z (zeros-vector K F (coordinates D k)) in
-        (z, hz, sym (none k z hz))
-
-    pub units-basis : (k : ℕ) → IsBasis K D k (identity (coordinates D k))
+    units-basis : (k : ℕ) → IsBasis K D k (identity (coordinates D k))
     units-basis k =
         let n = coordinates D k in
         let size : length (identity n) ≡ n = matrix-size K n n (identity n) (identity-matrix K F n) in
@@ -196,7 +189,7 @@ module _ (K : Ops) (F : IsField K) where
             coefficients = z;
             one_each = subst (λ j. IsVector K j z) (sym size) c.cochain;
             rest = zeros n;
-            is_coboundary = zeros_is_coboundary k;
+            is_coboundary = zeros-coboundary K F D fits k;
             sum = let hz = to_vector K n z c.cochain in
                 sym (ap (λ u. plus K u (zeros n)) (combination-identity K F n z hz) ∙ plus-zeros K F n z hz);
           };
@@ -206,13 +199,13 @@ module _ (K : Ops) (F : IsField K) where
               ∙ no_coboundary k (combination K n c (identity n)) s ∙ ap zeros (sym size);
         }
 
-pub carries_bases : EquivalenceCarriesBases
-carries_bases K C D pi iota h F fits fits_D e k B b = carried K F C D fits fits_D pi iota h e k B b
+pub equivalence_carries_bases : EquivalenceCarriesBases
+equivalence_carries_bases K C D pi iota h F fits fits_D e k B b = images-basis K F C D fits fits_D pi iota h e k B b
 
-pub unit_images_basis : UnitImagesAreBasis
-unit_images_basis K C D pi iota h F fits fits_D e none k =
-    carried K F C D fits fits_D pi iota h e k (identity (coordinates D k)) (units-basis K F D none k)
+pub unit_images_are_basis : UnitImagesAreBasis
+unit_images_are_basis K C D pi iota h F fits fits_D e none k =
+    images-basis K F C D fits fits_D pi iota h e k (identity (coordinates D k)) (units-basis K F D fits_D none k)
 
-pub cocycle_coordinates : CocyclesHaveCoordinates
-cocycle_coordinates K C D pi iota h F fits fits_D e k z c =
-    (coordinates-of K F C D fits fits_D pi iota h e k z c, d_h-coboundary K F C D fits fits_D pi iota h e k z)
+pub cocycles_have_coordinates : CocyclesHaveCoordinates
+cocycles_have_coordinates K C D pi iota h F fits fits_D e k z c =
+    (cocycle-combination K F C D fits fits_D pi iota h e k z c, d_h-coboundary K F C D fits fits_D pi iota h e k z)

@@ -19,7 +19,7 @@ use Rattle.equivalences.specs.Composites.{rest_of}
 use Rattle.equivalences.specs.Bases.{HasNoCoboundary, HasNoBlock}
 use Rattle.equivalences.specs.Laws.{RemovalsGiveBases}
 use Rattle.equivalences.proofs.CochainValues.{each-of_degree}
-use Rattle.equivalences.proofs.BasisLaws.{unit_images_basis}
+use Rattle.equivalences.proofs.BasisLaws.{unit_images_are_basis}
 use Rattle.equivalences.proofs.CompositeLaws.{complex_fits, last_fits, composite_is_equivalence, last_is}
 
 full-no_block : (K : Ops) (F : IsField K) (v : BlockComplex) → IsFull K v → HasNoBlock v
@@ -47,7 +47,7 @@ no_block K F v is none =
 
 pub removals_give_bases : RemovalsGiveBases
 removals_give_bases K v F is closed rs pi iota h are m none k =
-    unit_images_basis K (complex_of v) (complex_of (rest_of v rs)) pi iota h F (complex_fits K F v is)
+    unit_images_are_basis K (complex_of v) (complex_of (rest_of v rs)) pi iota h F (complex_fits K F v is)
     (last_fits K F v rs is are)
     (composite_is_equivalence K v F is closed rs pi iota h are m)
     (no_block K F (rest_of v rs) (last_is K F v rs is are) none) k

@@ -25,9 +25,10 @@ use Rattle.removals.proofs.CornerLaws.{cells-without, has-without, inverse-shape
 use Rattle.equivalences.specs.RemovalMaps.{Removal}
 
 -- (p - q) - (r - q) = p - r
-taken-twice : (K : Ops) (F : IsField K) (n : ℕ) (p q r : List ℕ) → Vector K n p → Vector K n q → Vector K n r
+difference-of-differences : (K : Ops) (F : IsField K) (n : ℕ) (p q r : List ℕ) → Vector K n p → Vector K n q
+    → Vector K n r
     → plus K (plus K p (negative K q)) (negative K (plus K r (negative K q))) ≡ plus K p (negative K r)
-taken-twice K F n p q r hp hq hr =
+difference-of-differences K F n p q r hp hq hr =
     ap (plus K (plus K p (negative K q))) (negative-of-plus K F r (negative K q)
     ∙ ap (plus K (negative K r)) (negative-negative K F n q hq))
     ∙ plus-cross K F p (negative K q) (negative K r) q
@@ -35,17 +36,17 @@ taken-twice K F n p q r hp hq hr =
     ∙ plus-zeros K F n (plus K p (negative K r)) (plus-vector K F n p (negative K r) hp (negative-vector K F n r hr))
 
 -- p = (p - q) + (q + 0)
-taken-back : (K : Ops) (F : IsField K) (n : ℕ) (p q : List ℕ) → Vector K n p → Vector K n q
+difference-back : (K : Ops) (F : IsField K) (n : ℕ) (p q : List ℕ) → Vector K n p → Vector K n q
     → p ≡ plus K (plus K p (negative K q)) (plus K q (zeros n))
-taken-back K F n p q hp hq =
+difference-back K F n p q hp hq =
     sym (ap (plus K (plus K p (negative K q))) (plus-zeros K F n q hq)
     ∙ plus-assoc K F p (negative K q) q
     ∙ ap (plus K p) (negative-plus K F n q hq) ∙ plus-zeros K F n p hp)
 
 -- p = - (r - (p - q)) + (q + r)
-taken-around : (K : Ops) (F : IsField K) (n : ℕ) (p q r : List ℕ) → Vector K n p → Vector K n q → Vector K n r
+difference-around : (K : Ops) (F : IsField K) (n : ℕ) (p q r : List ℕ) → Vector K n p → Vector K n q → Vector K n r
     → p ≡ plus K (negative K (plus K r (negative K (plus K p (negative K q))))) (plus K q r)
-taken-around K F n p q r hp hq hr =
+difference-around K F n p q r hp hq hr =
     let g = plus K p (negative K q) in
     let hg : Vector K n g = plus-vector K F n p (negative K q) hp (negative-vector K F n q hq) in
     sym (ap₂ (plus K) (negative-of-plus K F r (negative K g) ∙ ap (plus K (negative K r)) (negative-negative K F n g hg)
@@ -59,7 +60,7 @@ taken-around K F n p q r hp hq hr =
 pub record IsSetting (K : Ops) (v : BlockComplex) (r : Removal) : Type 0 where
   pub field : IsField K
   pub full : IsFull K v
-  pub left_full : IsFull K r.rest
+  pub rest_full : IsFull K r.rest
   pub removal : IsRemoval K v r.x r.y r.inverse r.rest
   pub closed : IsDifferential K v
 
@@ -145,7 +146,7 @@ module _ (K : Ops) (v : BlockComplex) (r : Removal) (s : IsSetting K v r) where
   pub through-vector : (t : ℕ) (u : List ℕ) → Vector K (size t) (through t u)
   through-vector t u = M-vector x t (image_of K a u)
 
-  pub d-vector : (f : ℕ → List ℕ) (t : ℕ) → Vector K (size t) (d f t)
+  d-vector : (f : ℕ → List ℕ) (t : ℕ) → Vector K (size t) (d f t)
   d-vector f t = sum_over-vector K F (size t) (λ s. image_of K (M s t) (f s)) live (λ s. M-vector s t (f s))
 
   pub rest-vector : (f : ℕ → List ℕ) (t : ℕ) → Vector K (size t) (rest f t)
@@ -186,7 +187,7 @@ module _ (K : Ops) (v : BlockComplex) (r : Removal) (s : IsSetting K v r) where
   back : (z : List ℕ) → Vector K (size x) z → image_of K a (image_of K (M x y) z) ≡ z
   back z h = inverse-image_of K F (size x) (M x y) a z xy-shape removal.inverse h
 
-  -- iota
+  -- iota: g extended to x and y
   abbrev pub ext : (ℕ → List ℕ) → ℕ → List ℕ
   ext g t = cond (eqb t x) (negative K (image_of K a (rest g y))) (cond (eqb t y) (zeros (size y)) (g t))
 
@@ -254,7 +255,7 @@ module _ (K : Ops) (v : BlockComplex) (r : Removal) (s : IsSetting K v r) where
       (plus-comm K F r (image_of K (M x y) e) ∙ sum))
       ∙ image_of-negative K F a r
 
-  -- pi, and h
+  -- pi and h of a vector f(c) at each live cell c
   module _ (f : ℕ → List ℕ) (hf : (c : ℕ) → IsLive c → Vector K (size c) (f c)) where
     abbrev pub pi : ℕ → List ℕ
     pi t = plus K (f t) (negative K (through t (f y)))
@@ -315,9 +316,9 @@ module _ (K : Ops) (v : BlockComplex) (r : Removal) (s : IsSetting K v r) where
         ∙ image_of-plus K F (size x) (M x t) (image_of K a (d f y)) (negative K g) (a-vector (d f y))
         (negative-vector K F (size x) g hg)
         ∙ ap (plus K r) (image_of-negative K F (M x t) g))
-        ∙ taken-twice K F n (d f t) q r (d-vector f t) (M-vector x t g) (through-vector t (d f y))
+        ∙ difference-of-differences K F n (d f t) q r (d-vector f t) (M-vector x t g) (through-vector t (d f y))
 
-    -- a f(y) at x
+    -- h: a f(y) at x
     abbrev pub lower : ℕ → List ℕ
     lower t = cond (eqb t x) (image_of K a (f y)) (zeros (size t))
 
@@ -344,7 +345,7 @@ module _ (K : Ops) (v : BlockComplex) (r : Removal) (s : IsSetting K v r) where
 
     -- 1 = iota pi + (d h + h d), at each cell
     pub homotopy-left : (t : ℕ) → IsLeft t → f t ≡ plus K (pi t) (plus K (through t (f y)) (zeros (size t)))
-    homotopy-left t ht = taken-back K F (size t) (f t) (through t (f y)) (hf t (left-live t ht).0)
+    homotopy-left t ht = difference-back K F (size t) (f t) (through t (f y)) (hf t (left-live t ht).0)
         (through-vector t (f y))
 
     pub homotopy-y : f y ≡ plus K (zeros (size y)) (plus K (through y (f y)) (zeros (size y)))
@@ -357,7 +358,7 @@ module _ (K : Ops) (v : BlockComplex) (r : Removal) (s : IsSetting K v r) where
     pub homotopy-x : f x ≡ plus K (negative K (image_of K a (rest pi y)))
         (plus K (through x (f y)) (image_of K a (d f y)))
     homotopy-x =
-        taken-around K F (size x) (f x) (through x (f y)) (image_of K a (d f y)) (hf x removal.pair.from)
+        difference-around K F (size x) (f x) (through x (f y)) (image_of K a (d f y)) (hf x removal.pair.from)
         (through-vector x (f y)) (a-vector (d f y))
         ∙ ap (λ u. plus K (negative K u) (plus K (through x (f y)) (image_of K a (d f y)))) (sym back-rest)
 

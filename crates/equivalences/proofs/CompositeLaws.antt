@@ -1,5 +1,5 @@
 -- A removal and lists of removals give equivalences; they have matrices, and only one triple.
-use Rattle.std.proofs.Common.{ℕ, suc, sym, subst, List, ◌∷◌, []}
+use Rattle.std.proofs.Common.{suc, sym, subst, List, ◌∷◌, []}
 use Rattle.dense_blocks.specs.Field.{Ops}
 use Rattle.dense_blocks.specs.FieldLaws.{IsField}
 use Rattle.dense_blocks.proofs.LinearMaps.{matrix_for, linear-matrix, one_matrix}
@@ -13,7 +13,7 @@ use Rattle.block_complexes.proofs.SameLaws.{same-complex, same-differential}
 use Rattle.block_complexes.proofs.FullLaws.{filled, filled-full, same-filled}
 use Rattle.removals.specs.Removals.{IsRemoval}
 use Rattle.removals.proofs.SameRemovals.{removal-same-before, removal-same-after}
-use Rattle.equivalences.specs.Equivalences.{GradedMap, AreMatricesOf}
+use Rattle.equivalences.specs.Equivalences.{GradedMap, AreMatricesOf, GradedMatrix}
 use Rattle.equivalences.specs.RemovalMaps.{Removal, removal_pi, removal_iota, removal_h, IsRemovalFrom}
 use Rattle.equivalences.specs.Composites.{AreRemovals, rest_of, removals_pi, removals_iota, removals_h}
 use Rattle.equivalences.specs.Laws.{RemovalGivesEquivalence, CompositeIsEquivalence, CompositeExists, CompositeIsUnique}
@@ -34,8 +34,8 @@ filled_removal r = record { x = r.x; y = r.y; inverse = r.inverse; rest = filled
 
 module _ (K : Ops) (F : IsField K) (v : BlockComplex) (r : Removal) (is : IsBlockComplex K v)
     (removal : IsRemovalFrom K v r) where
-  pub left_is : IsBlockComplex K r.rest
-  left_is = removals.removal_keeps_block_complex K v r.rest r.x r.y r.inverse F is removal
+  pub rest_is : IsBlockComplex K r.rest
+  rest_is = removals.removal_keeps_block_complex K v r.rest r.x r.y r.inverse F is removal
 
   pub filled-removal : IsRemoval K (filled v) r.x r.y r.inverse (filled r.rest)
   filled-removal =
@@ -47,7 +47,7 @@ module _ (K : Ops) (F : IsField K) (v : BlockComplex) (r : Removal) (is : IsBloc
     setting = record {
       field = F;
       full = filled-full K F v is;
-      left_full = filled-full K F r.rest left_is;
+      rest_full = filled-full K F r.rest rest_is;
       removal = filled-removal;
       closed = same-differential K v (filled v) (same-filled v) ((differential_is_cochain_complex K v F is).1 closed);
     }
@@ -63,11 +63,11 @@ module _ (K : Ops) (F : IsField K) (v : BlockComplex) (r : Removal) (is : IsBloc
         (removal_pi K (filled v) q) (removal_iota K (filled v) q) (removal_h K (filled v) q) (removal_pi K v r)
         (removal_iota K v r) (removal_h K v r)
         (λ k z. sym (same-pi K v (filled v) (same-filled v) r.x r.y r.inverse r.rest
-        (filled r.rest) removal filled-removal left_is.rising k z))
+        (filled r.rest) removal filled-removal rest_is.rising k z))
         (λ k z. sym (same-iota K v (filled v) (same-filled v) r.x r.y r.inverse r.rest
-        (filled r.rest) removal filled-removal left_is.rising k z))
+        (filled r.rest) removal filled-removal rest_is.rising k z))
         (λ k z. sym (same-h K v (filled v) (same-filled v) r.x r.y r.inverse r.rest
-        (filled r.rest) removal filled-removal left_is.rising k z))
+        (filled r.rest) removal filled-removal rest_is.rising k z))
         (subst (λ E. AreEquivalent K E (complex_of r.rest) (removal_pi K (filled v) q) (removal_iota K (filled v) q)
         (removal_h K (filled v) q)) C
         (subst (λ E. AreEquivalent K (complex_of (filled v)) E (removal_pi K (filled v) q) (removal_iota K (filled v) q)
@@ -79,7 +79,7 @@ module _ (K : Ops) (F : IsField K) where
   pub last_is : (v : BlockComplex) (rs : List Removal) → IsBlockComplex K v → AreRemovals K v rs
       → IsBlockComplex K (rest_of v rs)
   last_is v [] is h = is
-  last_is v (r ∷ rs) is h = last_is r.rest rs (left_is K F v r is h.0) h.1
+  last_is v (r ∷ rs) is h = last_is r.rest rs (rest_is K F v r is h.0) h.1
 
   pub last_fits : (v : BlockComplex) (rs : List Removal) → IsBlockComplex K v → AreRemovals K v rs
       → RowsFit (complex_of (rest_of v rs))
@@ -91,19 +91,19 @@ module _ (K : Ops) (F : IsField K) where
       (removals_h K v rs)
   removals-equivalent v [] is closed h = identity-equivalent K F (complex_of v) (complex_fits K F v is)
   removals-equivalent v (r ∷ rs) is closed h =
-      let is_left = left_is K F v r is h.0 in
-      let closed_left = removals.removal_keeps_cochain_complex K v r.rest r.x r.y r.inverse F is h.0 closed in
+      let is_rest = rest_is K F v r is h.0 in
+      let closed_rest = removals.removal_keeps_cochain_complex K v r.rest r.x r.y r.inverse F is h.0 closed in
       composed-equivalent K F (complex_of v) (complex_of r.rest) (complex_of (rest_of r.rest rs))
-      (complex_fits K F v is) (complex_fits K F r.rest is_left)
+      (complex_fits K F v is) (complex_fits K F r.rest is_rest)
       (removal_pi K v r) (removal_iota K v r) (removal_h K v r) (removals_pi K r.rest rs) (removals_iota K r.rest rs)
       (removals_h K r.rest rs)
       (removal-equivalent K F v r is h.0 closed)
-      (removals-equivalent r.rest rs is_left closed_left h.1)
+      (removals-equivalent r.rest rs is_rest closed_rest h.1)
 
 pub removal_gives_equivalence : RemovalGivesEquivalence
 removal_gives_equivalence K v F is closed r pi iota h removal m =
     matrices-equivalence K F (complex_of v) (complex_of r.rest) (complex_fits K F v is)
-    (complex_fits K F r.rest (left_is K F v r is removal))
+    (complex_fits K F r.rest (rest_is K F v r is removal))
     (removal_pi K v r) (removal_iota K v r) (removal_h K v r) pi iota h (removal-equivalent K F v r is removal closed) m
 
 pub composite_is_equivalence : CompositeIsEquivalence
@@ -115,8 +115,8 @@ composite_is_equivalence K v F is closed rs pi iota h are m =
 
 -- matrices of the maps
 module _ (K : Ops) (F : IsField K) where
-  pub equivalent-matrices : (C D : CellularComplex) (p i l : GradedMap) → AreEquivalent K C D p i l
-      → (pi : ℕ → List (List ℕ)) × (iota : ℕ → List (List ℕ)) × (h : ℕ → List (List ℕ))
+  equivalent-matrices : (C D : CellularComplex) (p i l : GradedMap) → AreEquivalent K C D p i l
+      → (pi : GradedMatrix) × (iota : GradedMatrix) × (h : GradedMatrix)
       × AreMatricesOf K C D p i l pi iota h
   equivalent-matrices C D p i l e = (
     (λ k. matrix_for K F (coordinates D k) (coordinates C k) (p k) (e.pi_linear k)),

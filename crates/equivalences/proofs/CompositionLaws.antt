@@ -15,7 +15,7 @@ use Rattle.cochain_vec.specs.Shapes.{RowsFit}
 use Rattle.cochain_vec.proofs.CoboundaryLaws.{coboundary-cochain, coboundary-plus, coboundary-zeros}
 use Rattle.equivalences.specs.Laws.{EquivalencesCompose}
 use Rattle.equivalences.specs.Equivalences.{GradedMap, d_h, MeetEquations, map_of, IsEquivalence, AreMatricesOf}
-use Rattle.equivalences.specs.Equivalences.{composite_pi, composite_iota, composite_h}
+use Rattle.equivalences.specs.Equivalences.{composite_pi, composite_iota, composite_h, GradedMatrix}
 
 -- linear maps of cochains that meet the equations
 pub record AreEquivalent (K : Ops) (C D : CellularComplex) (pi iota h : GradedMap) : Type 0 where
@@ -49,13 +49,13 @@ module _ (K : Ops) (F : IsField K) where
   -- one after the other
   module _ (C D E : CellularComplex) (fits : RowsFit C) (fits_D : RowsFit D) (p1 i1 h1 p2 i2 h2 : GradedMap)
       (e1 : AreEquivalent K C D p1 i1 h1) (e2 : AreEquivalent K D E p2 i2 h2) where
-    abbrev pub after_pi : GradedMap
+    abbrev after_pi : GradedMap
     after_pi k z = p2 k (p1 k z)
 
-    abbrev pub after_iota : GradedMap
+    abbrev after_iota : GradedMap
     after_iota k z = i1 k (i2 k z)
 
-    abbrev pub after_h : GradedMap
+    abbrev after_h : GradedMap
     after_h k z = plus K (h1 k z) (i1 k (h2 k (p1 (suc k) z)))
 
     d-cochain : (C : CellularComplex) → RowsFit C → (k : ℕ) (z : List ℕ)
@@ -146,7 +146,7 @@ module _ (K : Ops) (F : IsField K) where
     }
 
   -- the matrices of an equivalence
-  pub map_of-equivalent : (C D : CellularComplex) (pi iota h : ℕ → List (List ℕ)) → IsEquivalence K C D pi iota h
+  map_of-equivalent : (C D : CellularComplex) (pi iota h : GradedMatrix) → IsEquivalence K C D pi iota h
       → AreEquivalent K C D (map_of K pi) (map_of K iota) (map_of K h)
   map_of-equivalent C D pi iota h e = record {
     pi_linear = λ k. linear-image_of K F (coordinates D k) (coordinates C k) (pi k)
@@ -160,7 +160,7 @@ module _ (K : Ops) (F : IsField K) where
 
   -- matrices of maps that meet the equations meet them
   module _ (C D : CellularComplex) (fits : RowsFit C) (fits_D : RowsFit D) (p i l : GradedMap)
-      (pi iota h : ℕ → List (List ℕ)) (e : AreEquivalent K C D p i l) (m : AreMatricesOf K C D p i l pi iota h) where
+      (pi iota h : GradedMatrix) (e : AreEquivalent K C D p i l) (m : AreMatricesOf K C D p i l pi iota h) where
     d_h-same : (k : ℕ) (z : List ℕ) → Vector K (coordinates C k) z → d_h K C (map_of K h) k z ≡ d_h K C l k z
     d_h-same zero z hz = refl
     d_h-same (suc k) z hz = ap (coboundary K C k) ((m.h_is k).sends z (from_vector K (coordinates C (suc k)) z hz))
@@ -197,18 +197,18 @@ module _ (K : Ops) (F : IsField K) where
     }
 
   -- the products of matrices are the matrices of composites
-  module _ (C D E : CellularComplex) (p1 i1 h1 p2 i2 h2 : ℕ → List (List ℕ)) (e1 : IsEquivalence K C D p1 i1 h1)
+  module _ (C D E : CellularComplex) (p1 i1 h1 p2 i2 h2 : GradedMatrix) (e1 : IsEquivalence K C D p1 i1 h1)
       (e2 : IsEquivalence K D E p2 i2 h2) where
-    abbrev pi : ℕ → List (List ℕ)
+    abbrev pi : GradedMatrix
     pi = composite_pi K C p1 p2
 
-    abbrev iota : ℕ → List (List ℕ)
+    abbrev iota : GradedMatrix
     iota = composite_iota K E i1 i2
 
-    abbrev h : ℕ → List (List ℕ)
+    abbrev h : GradedMatrix
     h = composite_h K C p1 i1 h1 h2
 
-    pub products-are : AreMatricesOf K C E (λ k z. map_of K p2 k (map_of K p1 k z))
+    products-are : AreMatricesOf K C E (λ k z. map_of K p2 k (map_of K p1 k z))
         (λ k z. map_of K i1 k (map_of K i2 k z))
         (λ k z. plus K (map_of K h1 k z) (map_of K i1 k (map_of K h2 k (map_of K p1 (suc k) z)))) pi iota h
     products-are = record {

@@ -5,6 +5,8 @@ pub mod CellEquations
 pub mod SameMaps
 pub mod RemovalEquations
 pub mod CompositeLaws
+pub mod NextComposite
+pub mod UpdateLaws
 pub mod BlocklessLaws
 pub mod PairLaws
 pub mod ReductionLaws

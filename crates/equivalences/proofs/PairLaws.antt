@@ -11,12 +11,12 @@ use Rattle.block_complexes.specs.BlockComplexes.{BlockComplex, IsBlockComplex, H
 use Rattle.block_complexes.proofs.SameLaws.{same-sym, same-complex}
 use Rattle.removals.specs.Removals.{IsRemoval}
 use Rattle.removals.proofs.SameRemovals.{removal-same-before}
-use Rattle.equivalences.specs.Equivalences.{AreMatricesOf}
+use Rattle.equivalences.specs.Equivalences.{AreMatricesOf, GradedMatrix}
 use Rattle.equivalences.specs.RemovalMaps.{Removal, removal_pi, removal_iota, removal_h, IsRemovalFrom}
 use Rattle.equivalences.specs.Composites.{AreRemovals, removal_pairs, rest_of, removals_pi, removals_iota, removals_h}
 use Rattle.equivalences.specs.Composites.{IsComposite}
-use Rattle.equivalences.proofs.SameMaps.{left-same, same-pi, same-iota, same-h}
-use Rattle.equivalences.proofs.CompositeLaws.{left_is}
+use Rattle.equivalences.proofs.SameMaps.{rest-same, same-pi, same-iota, same-h}
+use Rattle.equivalences.proofs.CompositeLaws.{rest_is}
 
 module _ (K : Ops) (F : IsField K) where
   -- the maps of both
@@ -57,17 +57,17 @@ module _ (K : Ops) (F : IsField K) where
       let is_q : with_all ≡ q = ap (λ a. record { x = r.x; y = r.y; inverse = a; rest = q.rest }) inverses ∙ pairs in
       let removal'' : IsRemoval K v' r.x r.y r.inverse q.rest =
       subst (λ a. IsRemoval K v' r.x r.y a q.rest) (sym inverses) removal' in
-      let is_left = left_is K F v r is h.0 in
-      let rest = maps-agree rs qs r.rest q.rest (left-same K v v' same r.x r.y r.inverse r.rest q.rest h.0 removal''
-      is_left.rising) is_left h.1 h'.1 (ap (drop 1) e) in
+      let is_rest = rest_is K F v r is h.0 in
+      let rest = maps-agree rs qs r.rest q.rest (rest-same K v v' same r.x r.y r.inverse r.rest q.rest h.0 removal''
+      is_rest.rising) is_rest h.1 h'.1 (ap (drop 1) e) in
       let one_pi : (k : ℕ) (z : List ℕ) → removal_pi K v r k z ≡ removal_pi K v' q k z =
-      λ k z. same-pi K v v' same r.x r.y r.inverse r.rest q.rest h.0 removal'' is_left.rising k z
+      λ k z. same-pi K v v' same r.x r.y r.inverse r.rest q.rest h.0 removal'' is_rest.rising k z
       ∙ ap (λ t. removal_pi K v' t k z) is_q in
       let one_iota : (k : ℕ) (z : List ℕ) → removal_iota K v r k z ≡ removal_iota K v' q k z =
-      λ k z. same-iota K v v' same r.x r.y r.inverse r.rest q.rest h.0 removal'' is_left.rising k z
+      λ k z. same-iota K v v' same r.x r.y r.inverse r.rest q.rest h.0 removal'' is_rest.rising k z
       ∙ ap (λ t. removal_iota K v' t k z) is_q in
       let one_h : (k : ℕ) (z : List ℕ) → removal_h K v r k z ≡ removal_h K v' q k z =
-      λ k z. same-h K v v' same r.x r.y r.inverse r.rest q.rest h.0 removal'' is_left.rising k z
+      λ k z. same-h K v v' same r.x r.y r.inverse r.rest q.rest h.0 removal'' is_rest.rising k z
       ∙ ap (λ t. removal_h K v' t k z) is_q in
       record {
         last = rest.last;
@@ -81,7 +81,7 @@ module _ (K : Ops) (F : IsField K) where
       }
 
 pub composite_is_of_pairs : (K : Ops) (v v' : BlockComplex) (rs qs : List Removal)
-    (pi iota h : ℕ → List (List ℕ)) → IsField K → IsBlockComplex K v → HaveSameMatrices v v' → AreRemovals K v rs
+    (pi iota h : GradedMatrix) → IsField K → IsBlockComplex K v → HaveSameMatrices v v' → AreRemovals K v rs
     → AreRemovals K v' qs → removal_pairs rs ≡ removal_pairs qs → IsComposite K v rs pi iota h
     → IsComposite K v' qs pi iota h
 composite_is_of_pairs K v v' rs qs pi iota h F is same are are' pairs m =

@@ -13,7 +13,7 @@ use Rattle.equivalences.specs.Laws.{AfterIsByRemovals, PairsHaveComposite, Pairs
 use Rattle.equivalences.specs.Laws.{PairsGiveBases}
 use Rattle.equivalences.proofs.CompositeLaws.{complex_fits, composite_is_equivalence, composite_exists}
 use Rattle.equivalences.proofs.CompositeLaws.{composite_is_unique}
-use Rattle.equivalences.proofs.BasisLaws.{unit_images_basis}
+use Rattle.equivalences.proofs.BasisLaws.{unit_images_are_basis}
 use Rattle.equivalences.proofs.BlocklessLaws.{no_block}
 use Rattle.equivalences.proofs.PairLaws.{composite_is_of_pairs}
 
@@ -25,7 +25,7 @@ module _ (K : Ops) where
       let rest = by-removals h.0 w pairs h.3 in
       (record { x = p.0; y = p.1; inverse = h.1; rest = h.0 } ∷ rest.0, ap (λ ps. p ∷ ps) rest.1, (h.2, rest.2), rest.3)
 
-  pub removals-after : (v w : BlockComplex) (rs : List Removal) → AreRemovals K v rs → HaveSameMatrices (rest_of v rs) w
+  removals-after : (v w : BlockComplex) (rs : List Removal) → AreRemovals K v rs → HaveSameMatrices (rest_of v rs) w
       → IsAfter K v (removal_pairs rs) w
   removals-after v w [] are same = same
   removals-after v w (r ∷ rs) are same = (r.rest, r.inverse, are.0, removals-after r.rest w rs are.1 same)
@@ -57,5 +57,5 @@ pairs_tell_composite K v v' pairs pi1 iota1 h1 pi2 iota2 h2 F is same m n =
 pub pairs_give_bases : PairsGiveBases
 pairs_give_bases K v F is closed w pairs pi iota h after m none k =
     let is_w = (removals_keep_all K v w pairs F is after).block_complex in
-    unit_images_basis K (complex_of v) (complex_of w) pi iota h F (complex_fits K F v is) (complex_fits K F w is_w)
+    unit_images_are_basis K (complex_of v) (complex_of w) pi iota h F (complex_fits K F v is) (complex_fits K F w is_w)
     (pairs_give_equivalence K v F is closed w pairs pi iota h after m) (no_block K F w is_w none) k

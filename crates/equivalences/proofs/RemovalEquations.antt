@@ -35,14 +35,14 @@ use Rattle.equivalences.proofs.CompositionLaws.{AreEquivalent}
 use Rattle.equivalences.proofs.CellEquations.{IsSetting}
 use Rattle.equivalences.proofs.CochainValues.{each-of_degree, cochain-joined, value-size, value-part}
 use Rattle.removals.proofs.RemovalLaws as removals
-use Rattle.equivalences.proofs.CellEquations as families
+use Rattle.equivalences.proofs.CellEquations as at_cells
 
 pub full_fits : (K : Ops) (v : BlockComplex) → IsFull K v → RowsFit (complex_of v)
 full_fits K v full = rows_fit v full.rising (λ s t. matrix-size K (size_of v.live t) (size_of v.live s) (v.matrix s t)
     (full.shape s t))
 
 module _ (K : Ops) (v : BlockComplex) (r : Removal) (p : IsSetting K v r) where
-  open p use {full, left_full, removal, closed}
+  open p use {full, rest_full, removal, closed}
 
   abbrev F : IsField K
   F = p.field
@@ -81,28 +81,28 @@ module _ (K : Ops) (v : BlockComplex) (r : Removal) (p : IsSetting K v r) where
   IsLeft c = has c (cells w.live) ≡ true
 
   abbrev d : (ℕ → List ℕ) → ℕ → List ℕ
-  d f t = families.d K v r p f t
+  d f t = at_cells.d K v r p f t
 
   abbrev d' : (ℕ → List ℕ) → ℕ → List ℕ
-  d' f t = families.d' K v r p f t
+  d' f t = at_cells.d' K v r p f t
 
   abbrev rest : (ℕ → List ℕ) → ℕ → List ℕ
-  rest f t = families.rest K v r p f t
+  rest f t = at_cells.rest K v r p f t
 
   abbrev ext : (ℕ → List ℕ) → ℕ → List ℕ
-  ext g t = families.ext K v r p g t
+  ext g t = at_cells.ext K v r p g t
 
   abbrev through : ℕ → List ℕ → List ℕ
-  through t u = families.through K v r p t u
+  through t u = at_cells.through K v r p t u
 
   rises : IsRising (cells v.live)
   rises = full.rising
 
-  pub rises_left : IsRising (cells w.live)
-  rises_left = left_full.rising
+  pub rises_rest : IsRising (cells w.live)
+  rises_rest = rest_full.rising
 
   pub left-live : (c : ℕ) → IsLeft c → IsLive c
-  left-live c h = (families.left-live K v r p c h).0
+  left-live c h = (at_cells.left-live K v r p c h).0
 
   pub left-size : (c : ℕ) → IsLeft c → size_of w.live c ≡ size c
   left-size c h = removals.left-size K F v full x y a w removal c h
@@ -110,26 +110,27 @@ module _ (K : Ops) (v : BlockComplex) (r : Removal) (p : IsSetting K v r) where
   pub left-degree : (c : ℕ) → IsLeft c → degree_of w.live c ≡ degree c
   left-degree c h =
       ap (λ live. degree_of live c) removal.live ∙ of_cell-without x y (λ l. l.1) v.live c
-      (families.left-live K v r p c h).1
+      (at_cells.left-live K v r p c h).1
 
-  gone : (c : ℕ) → is_other x y c ≡ false → has c (cells w.live) ≡ false
-  gone c e = go (has c (cells w.live)) refl
+  -- x and y are not left
+  absent : (c : ℕ) → is_other x y c ≡ false → has c (cells w.live) ≡ false
+  absent c e = go (has c (cells w.live)) refl
     where
       go : (b : Bool) → has c (cells w.live) ≡ b → has c (cells w.live) ≡ false
-      go true h = let bad : true ≡ false = sym (families.left-live K v r p c h).1 ∙ e in cc
+      go true h = let bad : true ≡ false = sym (at_cells.left-live K v r p c h).1 ∙ e in cc
       go false h = h
 
-  gone-x : has x (cells w.live) ≡ false
-  gone-x = gone x (ap (λ b. not (b || eqb x y)) (eq-eqb x x refl))
+  absent-x : has x (cells w.live) ≡ false
+  absent-x = absent x (ap (λ b. not (b || eqb x y)) (eq-eqb x x refl))
 
-  gone-y : has y (cells w.live) ≡ false
-  gone-y = gone y (go (eqb y x) (eq-eqb y y refl))
+  absent-y : has y (cells w.live) ≡ false
+  absent-y = absent y (go (eqb y x) (eq-eqb y y refl))
     where
       go : (b : Bool) → eqb y y ≡ true → not (b || eqb y y) ≡ false
       go true e = refl
       go false e = ap not e
 
-  -- only cells one degree below give something
+  -- only cells one degree below t give something at t
   M-agree : (s t : ℕ) (u z : List ℕ) → (degree t ≡ suc (degree s) → u ≡ z) → image_of K (M s t) u ≡ image_of K (M s t) z
   M-agree s t u z e = elim (cases_eq (degree t) (suc (degree s))) [
     | inl up ↦ ap (image_of K (M s t)) (e up)
@@ -161,7 +162,7 @@ module _ (K : Ops) (v : BlockComplex) (r : Removal) (p : IsSetting K v r) where
       here s hs = elim (cases_eq (degree s) k) [
         | inl is ↦ ap (image_of K (w.matrix s t)) (same s hs is)
         | inr n ↦
-            let none = left_full.apart s t (λ up. n (omega (arith, up, e, left-degree s hs, left-degree t ht))) in
+            let none = rest_full.apart s t (λ up. n (omega (arith, up, e, left-degree s hs, left-degree t ht))) in
             ap (λ A. image_of K A (f s)) none ∙ zero_matrix-image_of K F (size_of w.live t) (size_of w.live s) (f s)
             ∙ sym (ap (λ A. image_of K A (g s)) none ∙ zero_matrix-image_of K F (size_of w.live t) (size_of w.live s)
             (g s))
@@ -173,10 +174,10 @@ module _ (K : Ops) (v : BlockComplex) (r : Removal) (p : IsSetting K v r) where
 
   through-zeros : (t : ℕ) → through t (zeros (size y)) ≡ zeros (size t)
   through-zeros t =
-      ap (image_of K (M x t)) (image_of-zeros K F (size y) (size x) (size y) a (families.a-shape K v r p))
-      ∙ image_of-zeros K F (size x) (size t) (size x) (M x t) (families.M-shape K v r p x t)
+      ap (image_of K (M x t)) (image_of-zeros K F (size y) (size x) (size y) a (at_cells.a-shape K v r p))
+      ∙ image_of-zeros K F (size x) (size t) (size x) (M x t) (at_cells.M-shape K v r p x t)
 
-  -- sums into cells
+  -- the sum into a cell, of either complex
   into-C : (f : ℕ → List ℕ) (t : ℕ) → IsLive t → sum_into K C.arrows f (size t) t ≡ d f t
   into-C f t h = sum_into-arrives K F v full f t h
 
@@ -185,7 +186,7 @@ module _ (K : Ops) (v : BlockComplex) (r : Removal) (p : IsSetting K v r) where
   to-size f t h = ap (λ n. sum_over K n (λ s. image_of K (w.matrix s t) (f s)) (cells w.live)) (left-size t h)
 
   into-D : (f : ℕ → List ℕ) (t : ℕ) → IsLeft t → sum_into K D.arrows f (size_of w.live t) t ≡ d' f t
-  into-D f t h = sum_into-arrives K F w left_full f t h ∙ to-size f t h
+  into-D f t h = sum_into-arrives K F w rest_full f t h ∙ to-size f t h
 
   next-C : (k : ℕ) (z : List ℕ) (t : ℕ) → IsLive t → degree t ≡ suc k → cochain_value v (suc k) (coboundary K C k z) t
       ≡ d (cochain_value v k z) t
@@ -193,27 +194,27 @@ module _ (K : Ops) (v : BlockComplex) (r : Removal) (p : IsSetting K v r) where
 
   next-D : (k : ℕ) (z : List ℕ) (t : ℕ) → IsLeft t → degree t ≡ suc k → cochain_value w (suc k) (coboundary K D k z) t
       ≡ d' (cochain_value w k z) t
-  next-D k z t h e = next-is K F w left_full k z t h (left-degree t h ∙ e) ∙ to-size (cochain_value w k z) t h
+  next-D k z t h e = next-is K F w rest_full k z t h (left-degree t h ∙ e) ∙ to-size (cochain_value w k z) t h
 
   fits : RowsFit C
   fits = full_fits K v full
 
-  fits_left : RowsFit D
-  fits_left = full_fits K w left_full
+  fits_rest : RowsFit D
+  fits_rest = full_fits K w rest_full
 
   -- cochains of degree k
   module _ (k : ℕ) where
-    pub each : (P : Cell → Type 0) → ((t : Cell) → IsLive t.cell → degree t.cell ≡ k → size t.cell ≡ t.size → P t)
+    each : (P : Cell → Type 0) → ((t : Cell) → IsLive t.cell → degree t.cell ≡ k → size t.cell ≡ t.size → P t)
         → All P (of_degree k v.live)
     each = each-of_degree v rises k
 
     pub each-left : (P : Cell → Type 0) → ((t : Cell) → IsLeft t.cell → degree t.cell ≡ k → size t.cell ≡ t.size → P t)
         → All P (of_degree k w.live)
-    each-left P f = each-of_degree w rises_left k P
+    each-left P f = each-of_degree w rises_rest k P
         (λ t h e is. f t h (sym (left-degree t.cell h) ∙ e) (sym (left-size t.cell h) ∙ is))
 
-    sized : (t : Cell) (u : List ℕ) → size t.cell ≡ t.size → Vector K (size t.cell) u → Vector K t.size u
-    sized t u e h = subst (λ n. Vector K n u) e h
+    with-size : (t : Cell) (u : List ℕ) → size t.cell ≡ t.size → Vector K (size t.cell) u → Vector K t.size u
+    with-size t u e h = subst (λ n. Vector K n u) e h
 
     module _ (z : List ℕ) (hz : Vector K (coordinates C k) z) where
       abbrev value : ℕ → List ℕ
@@ -245,21 +246,21 @@ module _ (K : Ops) (v : BlockComplex) (r : Removal) (p : IsSetting K v r) where
       pi-vector : (t : ℕ) → IsLive t → degree t ≡ k → Vector K (size t) (pi t)
       pi-vector t h e =
           plus-vector K F (size t) (value t) (negative K (through t (value y))) (value-vector-here t h e)
-          (negative-vector K F (size t) (through t (value y)) (families.through-vector K v r p t (value y)))
+          (negative-vector K F (size t) (through t (value y)) (at_cells.through-vector K v r p t (value y)))
 
       pi-parts : All (λ (t : Cell). Vector K t.size (pi t.cell)) (of_degree k w.live)
       pi-parts = each-left (λ (t : Cell). Vector K t.size (pi t.cell))
-          (λ t h e is. sized t (pi t.cell) is (pi-vector t.cell (left-live t.cell h) e))
+          (λ t h e is. with-size t (pi t.cell) is (pi-vector t.cell (left-live t.cell h) e))
 
       pi-cochain : Vector K (coordinates D k) (removal_pi K v r k z)
       pi-cochain = joined-vector K F (λ (t : Cell). pi t.cell) (of_degree k w.live) pi-parts
 
       pi-value : (t : ℕ) → IsLeft t → degree t ≡ k → cochain_value w k (removal_pi K v r k z) t ≡ pi t
       pi-value t h e =
-          value-part w rises_left k K (λ (t : Cell). pi t.cell) t (pi t) pi-parts h (left-degree t h ∙ e)
+          value-part w rises_rest k K (λ (t : Cell). pi t.cell) t (pi t) pi-parts h (left-degree t h ∙ e)
           (subst (λ n. Vector K n (pi t)) (sym (left-size t h)) (pi-vector t (left-live t h) e)) (λ c is same. ap pi is)
 
-      pi-spread : (t : ℕ) → degree t ≡ k → pi t ≡ families.pi K v r p spread spread-vector t
+      pi-spread : (t : ℕ) → degree t ≡ k → pi t ≡ at_cells.pi K v r p spread spread-vector t
       pi-spread t e =
           ap₂ (λ u z. plus K u (negative K z)) (sym (spread-here t e))
           (through-agree t (value y) (spread y) (λ same. sym (spread-here y (same ∙ e))))
@@ -273,11 +274,11 @@ module _ (K : Ops) (v : BlockComplex) (r : Removal) (p : IsSetting K v r) where
       into-y =
           let from : (s : ℕ) → has s (cells w.live) ≡ false → image_of K (M s y) (below s) ≡ zeros (size y) =
           λ s e. ap (image_of K (M s y)) (value-absent k w.live z s e)
-          ∙ image_of-nil K F (size y) (size s) (M s y) (families.M-shape K v r p s y) in
+          ∙ image_of-nil K F (size y) (size s) (M s y) (at_cells.M-shape K v r p s y) in
           into-C below y removal.pair.to
-          ∙ families.d-apart K v r p below y (from y gone-y)
-          ∙ ap (λ u. plus K u (rest below y)) (from x gone-x)
-          ∙ zeros-plus K F (size y) (rest below y) (families.rest-vector K v r p below y)
+          ∙ at_cells.d-apart K v r p below y (from y absent-y)
+          ∙ ap (λ u. plus K u (rest below y)) (from x absent-x)
+          ∙ zeros-plus K F (size y) (rest below y) (at_cells.rest-vector K v r p below y)
 
       abbrev iota : Cell → List ℕ
       iota t = cond (eqb t.cell x) (negative K (image_of K a (sum_into K C.arrows below (size y) y)))
@@ -294,25 +295,25 @@ module _ (K : Ops) (v : BlockComplex) (r : Removal) (p : IsSetting K v r) where
           go false e = refl
 
       ext-vector : (t : ℕ) → IsLive t → degree t ≡ k → Vector K (size t) (ext below t)
-      ext-vector t h e = elim (families.which K v r p t h) [
+      ext-vector t h e = elim (at_cells.which K v r p t h) [
         | inl is ↦
             subst (λ c. Vector K (size c) (ext below c)) (sym is)
-            (subst (Vector K (size x)) (sym (families.ext-x K v r p below))
-            (negative-vector K F (size x) (image_of K a (rest below y)) (families.a-vector K v r p (rest below y))))
+            (subst (Vector K (size x)) (sym (at_cells.ext-x K v r p below))
+            (negative-vector K F (size x) (image_of K a (rest below y)) (at_cells.a-vector K v r p (rest below y))))
         | inr (inl is) ↦
             subst (λ c. Vector K (size c) (ext below c)) (sym is)
-            (subst (Vector K (size y)) (sym (families.ext-y K v r p below)) (zeros-vector K F (size y)))
+            (subst (Vector K (size y)) (sym (at_cells.ext-y K v r p below)) (zeros-vector K F (size y)))
         | inr (inr l) ↦
-            subst (Vector K (size t)) (sym (families.ext-left K v r p below t l))
+            subst (Vector K (size t)) (sym (at_cells.ext-left K v r p below t l))
             (subst (λ n. Vector K n (below t)) (left-size t l)
-            (value-size w rises_left k K z t hz l (left-degree t l ∙ e)))
+            (value-size w rises_rest k K z t hz l (left-degree t l ∙ e)))
       ]
 
       iota-parts : All (λ (t : Cell). Vector K t.size (iota t)) (of_degree k v.live)
       iota-parts =
           each (λ (t : Cell). Vector K t.size (iota t))
           (λ t h e is. subst (Vector K t.size) (sym (iota-ext t is))
-          (sized t (ext below t.cell) is (ext-vector t.cell h e)))
+          (with-size t (ext below t.cell) is (ext-vector t.cell h e)))
 
       pub iota-cochain : Vector K (coordinates C k) (removal_iota K v r k z)
       iota-cochain = joined-vector K F iota (of_degree k v.live) iota-parts
@@ -331,8 +332,8 @@ module _ (K : Ops) (v : BlockComplex) (r : Removal) (p : IsSetting K v r) where
         ≡ plus K (through t u) (through t z)
     through-plus t n u z hu hz =
         ap (image_of K (M x t)) (image_of-plus K F n a u z hu hz)
-        ∙ image_of-plus K F (size x) (M x t) (image_of K a u) (image_of K a z) (families.a-vector K v r p u)
-        (families.a-vector K v r p z)
+        ∙ image_of-plus K F (size x) (M x t) (image_of K a u) (image_of K a z) (at_cells.a-vector K v r p u)
+        (at_cells.a-vector K v r p z)
 
     through-multiple : (t c : ℕ) (z : List ℕ) → through t (multiple K c z) ≡ multiple K c (through t z)
     through-multiple t c z = ap (image_of K (M x t)) (image_of-multiple K F c a z)
@@ -417,8 +418,8 @@ module _ (K : Ops) (v : BlockComplex) (r : Removal) (p : IsSetting K v r) where
             let su = rest (cochain_value w k u) y in
             let sz = rest (cochain_value w k z) y in
             ap (λ s. negative K (image_of K a s)) (rest-plus u z hu hz)
-            ∙ ap (negative K) (image_of-plus K F (size y) a su sz (families.rest-vector K v r p (cochain_value w k u) y)
-            (families.rest-vector K v r p (cochain_value w k z) y))
+            ∙ ap (negative K) (image_of-plus K F (size y) a su sz (at_cells.rest-vector K v r p (cochain_value w k u) y)
+            (at_cells.rest-vector K v r p (cochain_value w k z) y))
             ∙ negative-of-plus K F (image_of K a su) (image_of K a sz)
         go false true = sym (zeros-plus-zeros K F (size y))
         go false false = value-plus K (of_degree k w.live) u z t
@@ -469,7 +470,7 @@ module _ (K : Ops) (v : BlockComplex) (r : Removal) (p : IsSetting K v r) where
     lower t = cond (eqb t.cell x) (image_of K a (cochain_value v (suc k) z y)) (zeros t.size)
 
     lower-spread : (t : Cell) → degree t.cell ≡ k → size t.cell ≡ t.size → lower t
-        ≡ families.lower K v r p (spread (suc k) z hz) (spread-vector (suc k) z hz) t.cell
+        ≡ at_cells.lower K v r p (spread (suc k) z hz) (spread-vector (suc k) z hz) t.cell
     lower-spread t e is = go (eqb t.cell x) (eqb-true t.cell x)
       where
         go : (b : Bool) → (b ≡ true → t.cell ≡ x)
@@ -481,32 +482,32 @@ module _ (K : Ops) (v : BlockComplex) (r : Removal) (p : IsSetting K v r) where
         go false other = ap zeros (sym is)
 
     lower-vector : (t : ℕ) → IsLive t → Vector K (size t)
-        (families.lower K v r p (spread (suc k) z hz) (spread-vector (suc k) z hz) t)
+        (at_cells.lower K v r p (spread (suc k) z hz) (spread-vector (suc k) z hz) t)
     lower-vector t h = go (eqb t x) (eqb-true t x)
       where
         go : (b : Bool) → (b ≡ true → t ≡ x) → Vector K (size t)
             (cond b (image_of K a (spread (suc k) z hz y)) (zeros (size t)))
         go true e = subst (λ c. Vector K (size c) (image_of K a (spread (suc k) z hz y))) (sym (e refl))
-            (families.a-vector K v r p (spread (suc k) z hz y))
+            (at_cells.a-vector K v r p (spread (suc k) z hz y))
         go false e = zeros-vector K F (size t)
 
     lower-parts : All (λ (t : Cell). Vector K t.size (lower t)) (of_degree k v.live)
     lower-parts =
         each k (λ (t : Cell). Vector K t.size (lower t))
         (λ t h e is. subst (Vector K t.size) (sym (lower-spread t e is))
-        (sized k t (families.lower K v r p (spread (suc k) z hz) (spread-vector (suc k) z hz) t.cell) is
+        (with-size k t (at_cells.lower K v r p (spread (suc k) z hz) (spread-vector (suc k) z hz) t.cell) is
         (lower-vector t.cell h)))
 
     pub h-cochain : Vector K (coordinates C k) (removal_h K v r k z)
     h-cochain = joined-vector K F lower (of_degree k v.live) lower-parts
 
     pub h-value : (t : ℕ) → IsLive t → degree t ≡ k → cochain_value v k (removal_h K v r k z) t
-        ≡ families.lower K v r p (spread (suc k) z hz) (spread-vector (suc k) z hz) t
+        ≡ at_cells.lower K v r p (spread (suc k) z hz) (spread-vector (suc k) z hz) t
     h-value t h e =
-        value-part v rises k K lower t (families.lower K v r p (spread (suc k) z hz) (spread-vector (suc k) z hz) t)
+        value-part v rises k K lower t (at_cells.lower K v r p (spread (suc k) z hz) (spread-vector (suc k) z hz) t)
         lower-parts h e (lower-vector t h)
         (λ c is same. lower-spread c (ap degree is ∙ e) same
-        ∙ ap (families.lower K v r p (spread (suc k) z hz) (spread-vector (suc k) z hz)) is)
+        ∙ ap (at_cells.lower K v r p (spread (suc k) z hz) (spread-vector (suc k) z hz)) is)
 
   h-linear : (k : ℕ) → IsLinear K (coordinates C k) (coordinates C (suc k)) (removal_h K v r k)
   h-linear k = record {
@@ -552,7 +553,7 @@ module _ (K : Ops) (v : BlockComplex) (r : Removal) (p : IsSetting K v r) where
       let dz = coboundary K C k z in
       let hdz : Vector K (coordinates C (suc k)) dz = coboundary-cochain K F C fits k z in
       let f : ℕ → List ℕ = spread k z hz in
-      let pi_f : ℕ → List ℕ = families.pi K v r p f (spread-vector k z hz) in
+      let pi_f : ℕ → List ℕ = at_cells.pi K v r p f (spread-vector k z hz) in
       let small : ℕ → List ℕ = cochain_value w k (removal_pi K v r k z) in
       let value : (q : ℕ) → IsLive q → degree q ≡ suc k → cochain_value v (suc k) dz q ≡ d f q =
       λ q h e. next-C k z q h e ∙ d-agree (cochain_value v k z) f k q e (λ s hs is. sym (spread-here k z hz s is)) in
@@ -562,7 +563,7 @@ module _ (K : Ops) (v : BlockComplex) (r : Removal) (p : IsSetting K v r) where
       (λ t h e is.
       ap₂ (λ u z. plus K u (negative K z)) (value t.cell (left-live t.cell h) e)
       (through-agree t.cell (cochain_value v (suc k) dz y) (d f y) (λ same. value y removal.pair.to (same ∙ e)))
-      ∙ sym (families.d'-pi K v r p f (spread-vector k z hz) t.cell h)
+      ∙ sym (at_cells.d'-pi K v r p f (spread-vector k z hz) t.cell h)
       ∙ d'-agree pi_f small k t.cell h e (λ s hs below. sym (pi-value k z hz s hs below ∙ pi-spread k z hz s below))
       ∙ sym (into-D small t.cell h)
       ∙ ap (λ n. sum_into K D.arrows small n t.cell) (left-size t.cell h ∙ is)))
@@ -584,7 +585,7 @@ module _ (K : Ops) (v : BlockComplex) (r : Removal) (p : IsSetting K v r) where
       dz = coboundary K D k z
 
       hdz : Vector K (coordinates D (suc k)) dz
-      hdz = coboundary-cochain K F D fits_left k z
+      hdz = coboundary-cochain K F D fits_rest k z
 
       whole : ℕ → List ℕ
       whole c = cochain_value v k (removal_iota K v r k z) c
@@ -596,18 +597,18 @@ module _ (K : Ops) (v : BlockComplex) (r : Removal) (p : IsSetting K v r) where
       g' c = cochain_value w (suc k) dz c
 
       at_cell : (t : ℕ) → IsLive t → degree t ≡ suc k → d (ext g) t ≡ ext g' t
-      at_cell t h e = elim (families.which K v r p t h) [
+      at_cell t h e = elim (at_cells.which K v r p t h) [
         | inl is ↦ subst (λ c. d (ext g) c ≡ ext g' c) (sym is)
-            (families.d-ext-x K v r p g
+            (at_cells.d-ext-x K v r p g
             ∙ ap (λ u. negative K (image_of K a u))
             (rest-agree (d' g) g' (suc k) y (let same : degree t ≡ degree x = ap degree is in
             omega (arith, removal.pair.degrees, same, e))
             (λ s hs below. sym (next-D k z s hs below)))
-            ∙ sym (families.ext-x K v r p g'))
+            ∙ sym (at_cells.ext-x K v r p g'))
         | inr (inl is) ↦ subst (λ c. d (ext g) c ≡ ext g' c) (sym is)
-            (families.d-ext-y K v r p g ∙ sym (families.ext-y K v r p g'))
-        | inr (inr l) ↦ families.d-ext-left K v r p g t l ∙ sym (next-D k z t l e)
-            ∙ sym (families.ext-left K v r p g' t l)
+            (at_cells.d-ext-y K v r p g ∙ sym (at_cells.ext-y K v r p g'))
+        | inr (inr l) ↦ at_cells.d-ext-left K v r p g t l ∙ sym (next-D k z t l e)
+            ∙ sym (at_cells.ext-left K v r p g' t l)
       ]
 
   equation-pi_iota : (k : ℕ) (z : List ℕ) → Vector K (coordinates D k) z → removal_pi K v r k (removal_iota K v r k z)
@@ -620,15 +621,15 @@ module _ (K : Ops) (v : BlockComplex) (r : Removal) (p : IsSetting K v r) where
       (λ t h e is.
       let n = size t.cell in
       ap₂ (λ u z. plus K u (negative K z)) (iota-value k z hz t.cell (left-live t.cell h) e
-      ∙ families.ext-left K v r p g t.cell h)
+      ∙ at_cells.ext-left K v r p g t.cell h)
       (through-agree t.cell (cochain_value v k up y) (zeros (size y))
-      (λ same. iota-value k z hz y removal.pair.to (same ∙ e) ∙ families.ext-y K v r p g)
+      (λ same. iota-value k z hz y removal.pair.to (same ∙ e) ∙ at_cells.ext-y K v r p g)
       ∙ through-zeros t.cell)
       ∙ ap (plus K (g t.cell)) (negative-zeros K F n)
       ∙ plus-zeros K F n (g t.cell)
       (subst (λ m. Vector K m (g t.cell)) (left-size t.cell h)
-      (value-size w rises_left k K z t.cell hz h (left-degree t.cell h ∙ e)))))
-      ∙ sym (cochain-joined w rises_left k K z hz)
+      (value-size w rises_rest k K z t.cell hz h (left-degree t.cell h ∙ e)))))
+      ∙ sym (cochain-joined w rises_rest k K z hz)
 
   -- d h, cell by cell; in degree 0 nothing comes from below
   d_h-joined : (k : ℕ) (z : List ℕ) (hz : Vector K (coordinates C k) z)
@@ -642,7 +643,7 @@ module _ (K : Ops) (v : BlockComplex) (r : Removal) (p : IsSetting K v r) where
       ∙ through-zeros t.cell ∙ ap zeros is)))
   d_h-joined (suc k) z hz =
       let down : ℕ → List ℕ = cochain_value v k (removal_h K v r k z) in
-      let lowered : ℕ → List ℕ = families.lower K v r p (spread (suc k) z hz) (spread-vector (suc k) z hz) in
+      let lowered : ℕ → List ℕ = at_cells.lower K v r p (spread (suc k) z hz) (spread-vector (suc k) z hz) in
       joined-same (λ (t : Cell). sum_into K C.arrows down t.size t.cell)
       (λ (t : Cell). through t.cell (spread (suc k) z hz y)) (of_degree (suc k) v.live)
       (each (suc k) (λ (t : Cell). sum_into K C.arrows down t.size t.cell ≡ through t.cell (spread (suc k) z hz y))
@@ -650,7 +651,7 @@ module _ (K : Ops) (v : BlockComplex) (r : Removal) (p : IsSetting K v r) where
       ap (λ n. sum_into K C.arrows down n t.cell) (sym is)
       ∙ into-C down t.cell h
       ∙ d-agree down lowered k t.cell e (λ s hs below. h-value k z hz s hs below)
-      ∙ families.d-lower K v r p (spread (suc k) z hz) (spread-vector (suc k) z hz) t.cell))
+      ∙ at_cells.d-lower K v r p (spread (suc k) z hz) (spread-vector (suc k) z hz) t.cell))
 
   equation-homotopy : (k : ℕ) (z : List ℕ) → Vector K (coordinates C k) z
       → z ≡ plus K (removal_iota K v r k (removal_pi K v r k z))
@@ -677,7 +678,7 @@ module _ (K : Ops) (v : BlockComplex) (r : Removal) (p : IsSetting K v r) where
       hf = spread-vector k z hz
 
       pi_f : ℕ → List ℕ
-      pi_f c = families.pi K v r p f hf c
+      pi_f c = at_cells.pi K v r p f hf c
 
       w_z : List ℕ
       w_z = removal_pi K v r k z
@@ -702,7 +703,7 @@ module _ (K : Ops) (v : BlockComplex) (r : Removal) (p : IsSetting K v r) where
 
       second-parts : All (λ (t : Cell). Vector K t.size (second t)) cs
       second-parts = each k (λ (t : Cell). Vector K t.size (second t))
-          (λ t h e is. sized k t (second t) is (families.through-vector K v r p t.cell (f y)))
+          (λ t h e is. with-size k t (second t) is (at_cells.through-vector K v r p t.cell (f y)))
 
       third-parts : All (λ (t : Cell). Vector K t.size (third t)) cs
       third-parts = lower-parts k dz hdz
@@ -717,30 +718,30 @@ module _ (K : Ops) (v : BlockComplex) (r : Removal) (p : IsSetting K v r) where
 
       parts : (c : ℕ) → List ℕ
       parts c = plus K (ext (cochain_value w k w_z) c)
-          (plus K (through c (f y)) (families.lower K v r p (spread (suc k) dz hdz) (spread-vector (suc k) dz hdz) c))
+          (plus K (through c (f y)) (at_cells.lower K v r p (spread (suc k) dz hdz) (spread-vector (suc k) dz hdz) c))
 
       at_cell : (c : ℕ) → IsLive c → degree c ≡ k → f c ≡ parts c
-      at_cell c h e = elim (families.which K v r p c h) [
+      at_cell c h e = elim (at_cells.which K v r p c h) [
         | inl is ↦ subst (λ c. f c ≡ parts c) (sym is)
             (let at_x : degree x ≡ k = ap degree (sym is) ∙ e in
             let at_y : degree y ≡ suc k = omega (arith, removal.pair.degrees, at_x) in
-            families.homotopy-x K v r p f hf
+            at_cells.homotopy-x K v r p f hf
             ∙ ap₂ (λ u z. plus K u (plus K (through x (f y)) z))
-            (sym (families.ext-x K v r p (cochain_value w k w_z)
+            (sym (at_cells.ext-x K v r p (cochain_value w k w_z)
             ∙ ap (λ u. negative K (image_of K a u)) (rest-agree (cochain_value w k w_z) pi_f k y at_y small)))
-            (sym (families.lower-x K v r p (spread (suc k) dz hdz) (spread-vector (suc k) dz hdz)
+            (sym (at_cells.lower-x K v r p (spread (suc k) dz hdz) (spread-vector (suc k) dz hdz)
             ∙ ap (image_of K a) (next y removal.pair.to at_y))))
         | inr (inl is) ↦ subst (λ c. f c ≡ parts c) (sym is)
-            (families.homotopy-y K v r p f hf
-            ∙ ap₂ (λ u z. plus K u (plus K (through y (f y)) z)) (sym (families.ext-y K v r p (cochain_value w k w_z)))
-            (sym (families.lower-other K v r p (spread (suc k) dz hdz) (spread-vector (suc k) dz hdz) y
-            (families.distinct K v r p))))
+            (at_cells.homotopy-y K v r p f hf
+            ∙ ap₂ (λ u z. plus K u (plus K (through y (f y)) z)) (sym (at_cells.ext-y K v r p (cochain_value w k w_z)))
+            (sym (at_cells.lower-other K v r p (spread (suc k) dz hdz) (spread-vector (suc k) dz hdz) y
+            (at_cells.distinct K v r p))))
         | inr (inr l) ↦
-            families.homotopy-left K v r p f hf c l
+            at_cells.homotopy-left K v r p f hf c l
             ∙ ap₂ (λ u z. plus K u (plus K (through c (f y)) z))
-            (sym (families.ext-left K v r p (cochain_value w k w_z) c l ∙ small c l e))
-            (sym (families.lower-other K v r p (spread (suc k) dz hdz) (spread-vector (suc k) dz hdz) c
-            (families.left-not_x K v r p f hf c l)))
+            (sym (at_cells.ext-left K v r p (cochain_value w k w_z) c l ∙ small c l e))
+            (sym (at_cells.lower-other K v r p (spread (suc k) dz hdz) (spread-vector (suc k) dz hdz) c
+            (at_cells.left-not_x K v r p f hf c l)))
       ]
 
       here : (t : Cell) → IsLive t.cell → degree t.cell ≡ k → size t.cell ≡ t.size → cochain_value v k z t.cell

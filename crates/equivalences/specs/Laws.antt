@@ -1,9 +1,10 @@
 -- The laws of equivalences.
-use Rattle.std.specs.Prelude.{◌≡◌, ◌↔◌, ℕ, List, map}
+use Rattle.std.specs.Prelude.{◌≡◌, ◌↔◌, ℕ, suc, List, [], ◌∷◌, ◌++◌, map}
 use Rattle.dense_blocks.specs.Field.{Ops}
 use Rattle.dense_blocks.specs.FieldLaws.{IsField}
 use Rattle.dense_blocks.specs.Vectors.{plus, combination}
 use Rattle.dense_blocks.specs.Matrices.{image_of}
+use Rattle.dense_blocks.specs.MatrixFacts.{IsMatrix}
 use Rattle.cochain_vec.specs.Complexes.{CellularComplex, coordinates}
 use Rattle.cochain_vec.specs.Shapes.{RowsFit}
 use Rattle.cochain_vec.specs.Cohomology.{IsCocycle, IsCoboundary, IsBasis}
@@ -15,6 +16,7 @@ use Rattle.equivalences.specs.Equivalences.{GradedMatrix, map_of, d_h, composite
 use Rattle.equivalences.specs.Equivalences.{IsEquivalence, AreMatricesOf}
 use Rattle.equivalences.specs.RemovalMaps.{Removal, IsRemovalFrom, removal_pi, removal_iota, removal_h}
 use Rattle.equivalences.specs.Composites.{AreRemovals, removal_pairs, rest_of, IsComposite, IsCompositeOfPairs}
+use Rattle.equivalences.specs.Updates.{AreNextMatrices, next_pi, next_iota, next_h}
 use Rattle.equivalences.specs.Bases.{HasNoCoboundary, HasNoBlock, unit_images}
 
 -- for every block complex over a field in which the coboundary of each coboundary is zero
@@ -55,6 +57,24 @@ abbrev pub CompositeIsUnique : Type 0
 CompositeIsUnique = (K : Ops) (v : BlockComplex) (rs : List Removal) (pi1 iota1 h1 pi2 iota2 h2 : GradedMatrix)
     → IsField K → IsComposite K v rs pi1 iota1 h1 → IsComposite K v rs pi2 iota2 h2
     → AreSameMatrices pi1 iota1 h1 pi2 iota2 h2
+
+-- the matrices of the composite of some removals become, by one removal more, those of the composite with it at the end
+abbrev pub NextIsComposite : Type 0
+NextIsComposite = ForEachComplex (λ K v. (rs : List Removal) (r : Removal) (pi iota h pi' iota' h' : GradedMatrix)
+    → AreRemovals K v rs → IsRemovalFrom K (rest_of v rs) r → IsComposite K v rs pi iota h
+    → AreNextMatrices K v (rest_of v rs) r pi iota h pi' iota' h' → IsComposite K v (rs ++ r ∷ []) pi' iota' h')
+
+-- row and column operations make these matrices, for pi, iota and h of the right shapes from v to u
+abbrev pub OperationsGiveNext : Type 0
+OperationsGiveNext = ForEachComplex (λ K u. (v : BlockComplex) (r : Removal) (pi iota h : GradedMatrix)
+    → IsRemovalFrom K u r
+    → ((k : ℕ) → IsMatrix K (coordinates (complex_of u) k) (coordinates (complex_of v) k) (pi k))
+    → ((k : ℕ) → IsMatrix K (coordinates (complex_of v) k) (coordinates (complex_of u) k) (iota k))
+    → ((k : ℕ) → IsMatrix K (coordinates (complex_of v) k) (coordinates (complex_of v) (suc k)) (h k))
+    → AreNextMatrices K v u r pi iota h
+    (λ k. next_pi K u r k (coordinates (complex_of v) k) (pi k))
+    (λ k. next_iota K u r k (iota k))
+    (λ k. next_h K u r k (coordinates (complex_of v) (suc k)) (h k) (iota k) (pi (suc k))))
 
 -- w is what is left of v once these pairs have been removed exactly where removals of these pairs leave the same as w
 abbrev pub AfterIsByRemovals : Type 0

@@ -1,5 +1,6 @@
 pub mod Equivalences
 pub mod RemovalMaps
 pub mod Composites
+pub mod Updates
 pub mod Bases
 pub mod Laws

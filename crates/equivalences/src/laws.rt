@@ -2,7 +2,7 @@ ghost use Rattle.equivalences.specs.Laws.{RemovalGivesEquivalence, EquivalencesC
 ghost use Rattle.equivalences.specs.Laws.{CompositeExists, CompositeIsUnique, AfterIsByRemovals, PairsHaveComposite};
 ghost use Rattle.equivalences.specs.Laws.{PairsGiveEquivalence, PairsTellComposite, EquivalenceCarriesBases};
 ghost use Rattle.equivalences.specs.Laws.{UnitImagesAreBasis, CocyclesHaveCoordinates, RemovalsGiveBases};
-ghost use Rattle.equivalences.specs.Laws.{PairsGiveBases};
+ghost use Rattle.equivalences.specs.Laws.{PairsGiveBases, NextIsComposite, OperationsGiveNext};
 
 /// A law, with nothing to run: the matrices of the three maps of a removal are an equivalence of the block complex and
 /// of what is left.
@@ -26,9 +26,20 @@ pub fn composite_exists()
     ensures { CompositeExists }
 {}
 
-/// A law, with nothing to run: and only one.
+/// A law, with nothing to run: the matrices of a composite are the only ones.
 pub fn composite_is_unique()
     ensures { CompositeIsUnique }
+{}
+
+/// A law, with nothing to run: the composite of some removals becomes, by one removal more, the composite with it at
+/// the end.
+pub fn next_is_composite()
+    ensures { NextIsComposite }
+{}
+
+/// A law, with nothing to run: row and column operations make the matrices of one removal more.
+pub fn operations_give_next()
+    ensures { OperationsGiveNext }
 {}
 
 /// A law, with nothing to run: what is left of a block complex once pairs of cells have been removed is what removals
@@ -42,7 +53,7 @@ pub fn pairs_have_composite()
     ensures { PairsHaveComposite }
 {}
 
-/// A law, with nothing to run: it is an equivalence of the block complex and of what is left.
+/// A law, with nothing to run: the composite of pairs is an equivalence of the block complex and of what is left.
 pub fn pairs_give_equivalence()
     ensures { PairsGiveEquivalence }
 {}
@@ -74,7 +85,8 @@ pub fn removals_give_bases()
     ensures { RemovalsGiveBases }
 {}
 
-/// A law, with nothing to run: the same of pairs whose removal leaves no block.
+/// A law, with nothing to run: where the removal of pairs leaves no block, the images of the unit vectors are a basis
+/// of the cohomology of the first complex.
 pub fn pairs_give_bases()
     ensures { PairsGiveBases }
 {}

@@ -8,7 +8,7 @@ mod laws;
 
 pub use laws::{
     after_is_by_removals, cocycles_have_coordinates, composite_exists, composite_is_equivalence,
-    composite_is_unique, equivalence_carries_bases, equivalences_compose, pairs_give_bases,
-    pairs_give_equivalence, pairs_have_composite, pairs_tell_composite, removal_gives_equivalence,
-    removals_give_bases, unit_images_are_basis,
+    composite_is_unique, equivalence_carries_bases, equivalences_compose, next_is_composite,
+    operations_give_next, pairs_give_bases, pairs_give_equivalence, pairs_have_composite,
+    pairs_tell_composite, removal_gives_equivalence, removals_give_bases, unit_images_are_basis,
 };

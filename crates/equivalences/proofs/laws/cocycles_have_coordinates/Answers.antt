@@ -2,4 +2,4 @@ use Rattle.equivalences.proofs.BasisLaws as laws
 use Rattle.equivalences.proofs.laws.cocycles_have_coordinates.Goals as goal
 
 pub returns : goal.returns
-returns c = laws.cocycle_coordinates
+returns c = laws.cocycles_have_coordinates
