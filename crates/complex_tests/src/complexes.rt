@@ -1,7 +1,6 @@
 //! Complexes, worked by hand.
 use cell_complex::Sign::{Minus, Plus};
 use cell_complex::{AddFault, BuildFault, Complex, Face, FaceFault};
-use sample_complexes::{Sample, TRIANGLE};
 use std::alloc::Global;
 use std::process::Abort;
 use std::test::Fail;
@@ -15,10 +14,6 @@ pub(crate) fn built(
 ) -> Result<Complex, BuildFault> {
     assert!(rt; Complex::fits(dims));
     Complex::build(alloc, dims, faces)
-}
-
-fn sampled(rt: &impl Abort, alloc: Global, sample: &Sample) -> Result<Complex, BuildFault> {
-    built(rt, alloc, sample.dims, sample.faces)
 }
 
 /// Two faces from 0 to 2.
@@ -92,22 +87,38 @@ fn has_middles(c: &Complex, s: u32, u: u32, first: u32, second: u32) -> bool {
     middles.next() == Some(first) && middles.next() == Some(second) && middles.next().is_none()
 }
 
-/// Whether the copy of the sample's complex has its cells and faces.
-fn is_copied(rt: &impl Abort, alloc: Global, sample: &Sample) -> Result<bool, Fail> {
-    let c = sampled(rt, alloc, sample)?;
+/// The vertices 0, 1 and 2, the edges 01, 02 and 12, which are the cells 3, 4 and 5, and the triangle, the cell 6.
+const TRIANGLE: [u8; 7] = [0, 0, 0, 1, 1, 1, 2];
+
+/// Faces of cells: `(s t sign)`.
+macro_rules! faces {
+    ($(($s:literal $t:literal $sign:ident))*) => {
+        [$(Face { s: $s, t: $t, sign: $sign }),*]
+    };
+}
+
+/// Minus at the lesser vertex of an edge and plus at the greater; the edges of the triangle plus, minus and plus.
+const FACES: [Face; 9] = faces![
+    (0 3 Minus) (1 3 Plus) (0 4 Minus) (2 4 Plus) (1 5 Minus) (2 5 Plus)
+    (3 6 Plus) (4 6 Minus) (5 6 Plus)
+];
+
+/// Whether the copy of the triangle has its cells and faces.
+fn is_copied(rt: &impl Abort, alloc: Global) -> Result<bool, Fail> {
+    let c = built(rt, alloc, &TRIANGLE, &FACES)?;
     let copy = c.copy(alloc)?;
-    Ok(copy.dims() == sample.dims && has_faces(&copy, sample.faces))
+    Ok(copy.dims() == &TRIANGLE[..] && has_faces(&copy, &FACES))
 }
 
 #[test]
 fn copies_a_triangle(rt: HostRuntime) -> Result<(), Fail> {
-    assert!(rt; is_copied(&rt, rt.alloc(), &TRIANGLE)?);
+    assert!(rt; is_copied(&rt, rt.alloc())?);
     Ok(())
 }
 
 #[test]
 fn tells_the_neighbours_in_a_triangle(rt: HostRuntime) -> Result<(), Fail> {
-    let c = sampled(&rt, rt.alloc(), &TRIANGLE)?;
+    let c = built(&rt, rt.alloc(), &TRIANGLE, &FACES)?;
     assert!(rt; has_neighbours(&c, 4, &[0, 2], &[6]));
     assert!(rt; has_middles(&c, 1, 6, 3, 5));
     Ok(())
