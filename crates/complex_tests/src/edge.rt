@@ -5,7 +5,7 @@ use io_edge::{
 };
 use std::alloc::{AllocError as NoMemory, Global};
 use std::io;
-use std::io::{ErrorKind, Read};
+use std::io::{ErrorKind, Read, Write};
 use std::process::Abort;
 
 const LETTERS: &[u8] = b"abcdefghijklmnopqrstuvwxy";
@@ -68,6 +68,20 @@ impl Read for Broken {
     }
 }
 
+/// A writer that takes all, and whose flushes fail.
+#[derive(Drop)]
+struct BrokenFlush;
+
+impl Write for BrokenFlush {
+    fn write(&mut self, buf: &[u8]) -> io::Result<usize> {
+        Ok(buf.len())
+    }
+
+    fn flush(&mut self) -> io::Result<()> {
+        Err(ErrorKind::Other.into())
+    }
+}
+
 #[test]
 fn reading_over_std_counts_errors(rt: HostRuntime) {
     let mut source = StdSource::new(b"cells".as_slice().chain(Broken));
@@ -82,5 +96,13 @@ fn writing_over_std_counts_errors(rt: HostRuntime) {
     let mut room = [0; 4];
     let mut sink = StdSink::new(room.as_mut_slice());
     assert!(rt; write_all(&mut sink, b"cells") == Err(WriteFault));
+    assert!(rt; sink.faults() == 1);
+}
+
+#[test]
+fn flushing_over_std_counts_errors(rt: HostRuntime) {
+    let mut sink = StdSink::new(BrokenFlush);
+    assert!(rt; write_all(&mut sink, b"cells") == Ok(()));
+    assert!(rt; sink.flush() == Err(Failed));
     assert!(rt; sink.faults() == 1);
 }
