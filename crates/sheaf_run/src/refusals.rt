@@ -35,6 +35,7 @@ fn cause_end(cause: LineCause) -> &'static [u8]
         LineCause::Sign => b" sign\n",
         LineCause::Field => b" field\n",
         LineCause::Cell => b" cell\n",
+        LineCause::Vertex => b" vertex\n",
         LineCause::Dims => b" dims\n",
         LineCause::Twice => b" twice\n",
         LineCause::Shape => b" shape\n",
@@ -65,6 +66,7 @@ fn limit_words(which: Which) -> &'static [u8]
         Which::Faces => b"limit faces",
         Which::Clients => b"limit clients",
         Which::Commands => b"limit commands",
+        Which::Room => b"limit room",
     }
 }
 

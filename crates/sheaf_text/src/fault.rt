@@ -22,6 +22,8 @@ pub enum LineCause {
     Field,
     /// A number names no cell.
     Cell,
+    /// A number names a cell that is no vertex.
+    Vertex,
     /// The second cell of a face is not one dimension above the first.
     Dims,
     /// The face was given already.
@@ -51,6 +53,8 @@ pub enum Which {
     Clients,
     /// The commands of all clients.
     Commands,
+    /// The room that the replies may need.
+    Room,
 }
 
 /// Why a line is refused.
