@@ -32,7 +32,7 @@ fn starts_the_triangle(rt: HostRuntime) -> Result<(), Fail> {
     let b = constant(&rt, rt.alloc(), &TRIANGLE)?;
     assert!(rt; b.live() == TRIANGLE_CELLS.as_slice());
     assert!(rt; has_rows(&b, &TRIANGLE_ROWS));
-    assert!(rt; !b.flagged(0, 3));
+    assert!(rt; !b.has_flag(0, 3));
     Ok(())
 }
 
