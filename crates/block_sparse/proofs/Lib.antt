@@ -5,3 +5,4 @@ pub mod CompareLaws
 pub mod CandidateLaws
 pub mod ScalarBlocks
 pub mod StoredLaws
+pub mod SizeLaws

@@ -85,12 +85,12 @@ some-mark (Some x) None e = cc
 some-mark (Some x) (Some y) e = refl
 
 -- blocks put into what is the same give the same
-pub with_blocks-same : (ms : List (ℕ × ℕ × Block)) (held held' : ℕ → ℕ → Option StoredBlock)
-    → ((p q : ℕ) → held p q ≡ held' p q)
-    → (p q : ℕ) → with_blocks held ms p q ≡ with_blocks held' ms p q
-with_blocks-same [] held held' h p q = h p q
-with_blocks-same (m ∷ ms) held held' h p q =
-    with_blocks-same ms (with_block held m.0 m.1 (matrix_of m.2)) (with_block held' m.0 m.1 (matrix_of m.2))
+pub with_blocks-same : (ms : List (ℕ × ℕ × Block)) (blocks blocks' : ℕ → ℕ → Option StoredBlock)
+    → ((p q : ℕ) → blocks p q ≡ blocks' p q)
+    → (p q : ℕ) → with_blocks blocks ms p q ≡ with_blocks blocks' ms p q
+with_blocks-same [] blocks blocks' h p q = h p q
+with_blocks-same (m ∷ ms) blocks blocks' h p q =
+    with_blocks-same ms (with_block blocks m.0 m.1 (matrix_of m.2)) (with_block blocks' m.0 m.1 (matrix_of m.2))
     (λ x y. ap (cond (eqb x m.0 && eqb y m.1) (as_block (matrix_of m.2))) (h x y)) p q
 
 pub drop-done : {T : Type 0} (n : ℕ) (xs : List T) → length xs ≤ n → drop n xs ≡ []

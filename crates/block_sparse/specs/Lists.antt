@@ -7,9 +7,9 @@ use Rattle.block_sparse.specs.Grids.{as_block}
 
 -- what stands once a matrix has been put at a pair of cells
 abbrev pub with_block : (ℕ → ℕ → Option StoredBlock) → ℕ → ℕ → List (List ℕ) → ℕ → ℕ → Option StoredBlock
-with_block held s t A p q = if p == s && q == t then as_block A else held p q
+with_block blocks s t A p q = if p == s && q == t then as_block A else blocks p q
 
 -- the same once each block of the list has been put, in order
 abbrev pub with_blocks : (ℕ → ℕ → Option StoredBlock) → List (ℕ × ℕ × Block) → ℕ → ℕ → Option StoredBlock
-with_blocks held [] p q = held p q
-with_blocks held (m ∷ ms) p q = with_blocks (with_block held m.0 m.1 (matrix_of m.2)) ms p q
+with_blocks blocks [] p q = blocks p q
+with_blocks blocks (m ∷ ms) p q = with_blocks (with_block blocks m.0 m.1 (matrix_of m.2)) ms p q

@@ -74,7 +74,7 @@ pub record FitsPair (live : List (ℕ × ℕ × ℕ)) (s t : ℕ) (b : Block) : 
 -- the block stands at a pair of cells
 pub record StandsAt (v : StoredBlocks) (s t : ℕ) (b : Block) : Type 0 where
   pub fits : FitsPair v.live s t b
-  pub is_held : is_some (block_at v s t) ≡ true
+  pub stands : is_some (block_at v s t) ≡ true
   pub is_matrix : matrix_of b ≡ matrix v s t
   pub nonzero : is_zero (matrix_of b) ≡ false
 

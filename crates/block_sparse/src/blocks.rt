@@ -1,4 +1,4 @@
-ghost use Rattle.std.specs.Prelude.{◌≡◌, ◌==◌, ◌||◌, ◌&&◌, ◌↔◌, ◌+◌, ◌<◌, ◌≤◌, ℕ, length, slice_index, slice_index_or};
+ghost use Rattle.std.specs.Prelude.{◌≡◌, ◌==◌, ◌||◌, ◌&&◌, ◌↔◌, ◌+◌, ◌<◌, ◌≤◌, ℕ};
 ghost use Rattle.std.specs.Prelude.{true, false, None, if◌then◌else◌, not, filter, is_some, All, MatchOption, IfOk};
 ghost use Rattle.std.specs.Prelude.{IfErr, OnOk, OnErr, IsTrue};
 ghost use Rattle.rising_lists.specs.Rising.{IsRising, has, keys, entry_of, line_of};
@@ -11,6 +11,7 @@ ghost use Rattle.block_sparse.specs.Candidates.{is_candidate};
 ghost use Rattle.block_sparse.specs.Lists.{with_block, with_blocks};
 
 use crate::fresh::{fresh_columns, fresh_rows};
+use crate::live_cells::{LiveCells, cell_in, cells_of};
 use dense_blocks::Block;
 use open_columns::Columns;
 use rising_lists::{Line, Lines};
@@ -23,7 +24,7 @@ use std::marker::Model;
 /// take room; they go from a cell to a cell one degree above, and each has a flag. Reading takes no memory.
 #[derive(Debug, Drop)]
 pub struct Blocks {
-    pub(crate) live: Vec<(u32, u8, u8)>,
+    live: LiveCells,
     rows: Lines<Block>,
     columns: Columns,
 }
@@ -34,9 +35,9 @@ impl Model for Blocks {
 
     ghost Value = { StoredBlocks };
 
-    ghost view = { λ b. record { live = b.live.items; rows = b.rows; columns = b.columns } };
+    ghost view = { λ b. record { live = b.live; rows = b.rows; columns = b.columns } };
 
-    ghost invariant = { λ b. IsSound b.live.items b.rows b.columns };
+    ghost invariant = { λ b. IsSound b.live b.rows b.columns };
 }
 
 impl Blocks {
@@ -63,7 +64,7 @@ impl Blocks {
     {
         let cells = cells_of(alloc, live)?;
         Ok(Blocks {
-            live: Vec::from_slice(alloc, live)?,
+            live: LiveCells::of(alloc, live)?,
             rows: Lines::of_cells(alloc, &cells)?,
             columns: Columns::of_cells(alloc, &cells)?,
         })
@@ -74,7 +75,7 @@ impl Blocks {
         ensures { IfOk result (λ b. b ≡ self.now) }
     {
         Ok(Blocks {
-            live: Vec::from_slice(alloc, &self.live)?,
+            live: self.live.copy(alloc)?,
             rows: self.rows.copy(alloc)?,
             columns: self.columns.copy(alloc)?,
         })
@@ -86,21 +87,21 @@ impl Blocks {
         ensures live_cells { AreLive self.now.live }
         ensures sound { IsSound self.now.live self.now.rows self.now.columns }
     {
-        &self.live
+        self.live.as_slice()
     }
 
     /// How many coordinates the cell has; 0 for a cell that is not live.
     pub fn size(&self, c: u32) -> u32
         ensures { result ≡ size_of self.now.live c }
     {
-        u32::from(size_in(&self.live, c))
+        u32::from(self.live.size(c))
     }
 
     /// The cell with its size, as joined matrices list their cells; size 0 for a cell that is not live.
-    pub fn sized(&self, c: u32) -> (u32, u8)
+    pub fn cell_and_size(&self, c: u32) -> (u32, u8)
         ensures { result ≡ (c, size_of self.now.live c) }
     {
-        (c, size_in(&self.live, c))
+        (c, self.live.size(c))
     }
 
     /// The block from `s` to `t`; none exactly where no nonzero block stands there.
@@ -111,7 +112,7 @@ impl Blocks {
     }
 
     /// Whether a block stands from `s` to `t` and has its flag set.
-    pub fn flagged(&self, s: u32, t: u32) -> bool
+    pub fn has_flag(&self, s: u32, t: u32) -> bool
         ensures { result ≡ flag_of (block_at self.now s t) }
     {
         match self.columns.get(s, t) {
@@ -171,7 +172,7 @@ impl Blocks {
     pub fn flag(&mut self, s: u32, t: u32)
         requires { is_some (block_at self.old s t) ≡ true }
         ensures live { self.new.live ≡ self.old.live }
-        ensures held { (p q : ℕ) → block_at self.new p q ≡
+        ensures blocks { (p q : ℕ) → block_at self.new p q ≡
             (if p == s && q == t then with_flag (block_at self.old s t) else block_at self.old p q) }
     {
         self.columns.flag(s, t);
@@ -180,10 +181,10 @@ impl Blocks {
     /// Takes the cell and its blocks away; all else stays.
     pub fn remove_cell(&mut self, c: u32)
         ensures live { self.new.live ≡ filter (λ l. not (l.0 == c)) self.old.live }
-        ensures held { (s t : ℕ) → block_at self.new s t ≡
+        ensures blocks { (s t : ℕ) → block_at self.new s t ≡
             (if s == c || t == c then None else block_at self.old s t) }
     {
-        remove_live(&mut self.live, c);
+        self.live.remove(c);
         clear(&mut self.rows, &mut self.columns, c);
     }
 
@@ -209,13 +210,13 @@ impl Blocks {
         requires cols { width left.now ≡ joined.now.cols }
         requires rows { width below.now ≡ joined.now.rows }
         ensures live { OnOk result (self.new.live ≡ self.old.live) }
-        ensures held { OnOk result ((s t : ℕ) → block_at self.new s t ≡
+        ensures blocks { OnOk result ((s t : ℕ) → block_at self.new s t ≡
             (if has s (keys left.now) && has t (keys below.now)
             then as_block (part left.now below.now (matrix_of joined.now) s t)
             else block_at self.old s t)) }
         ensures err { OnErr result (self.new ≡ self.old) }
     {
-        let alloc = *self.live.allocator();
+        let alloc = self.live.allocator();
         let rows = fresh_rows(alloc, &self.rows, left, below, joined)?;
         let columns = fresh_columns(alloc, &self.columns, left, below, joined)?;
         self.rows.install(below, rows);
@@ -227,8 +228,8 @@ impl Blocks {
     pub fn fits(&self, s: u32, t: u32, b: &Block) -> bool
         ensures { IsTrue result ↔ FitsPair self.now.live s t b.now }
     {
-        match cell_in(&self.live, s) {
-            Some(from) => match cell_in(&self.live, t) {
+        match cell_in(self.live.as_slice(), s) {
+            Some(from) => match cell_in(self.live.as_slice(), t) {
                 Some(to) => u32::from(to.0) == u32::from(from.0) + 1
                     && b.rows == u32::from(to.1)
                     && b.cols == u32::from(from.1),
@@ -252,7 +253,7 @@ impl Blocks {
     pub fn set(&mut self, s: u32, t: u32, b: Block) -> Result<(), (Block, NoMemory)>
         requires { FitsPair self.old.live s t b }
         ensures live { OnOk result (self.new.live ≡ self.old.live) }
-        ensures held { OnOk result ((p q : ℕ)
+        ensures blocks { OnOk result ((p q : ℕ)
             → block_at self.new p q ≡ with_block (block_at self.old) s t (matrix_of b) p q) }
         ensures err { OnErr result (self.new ≡ self.old) }
         ensures back { IfErr result (λ e. e.0 ≡ b) }
@@ -273,12 +274,12 @@ impl Blocks {
     ) -> Result<(), (Vec<(u32, u32, Block)>, NoMemory)>
         requires { All (λ m. FitsPair self.old.live m.0 m.1 m.2) list.items }
         ensures live { OnOk result (self.new.live ≡ self.old.live) }
-        ensures held { OnOk result ((p q : ℕ)
+        ensures blocks { OnOk result ((p q : ℕ)
             → block_at self.new p q ≡ with_blocks (block_at self.old) list.items p q) }
         ensures err { OnErr result (self.new ≡ self.old) }
         ensures back { IfErr result (λ e. e.0.items ≡ list.items) }
     {
-        let alloc = *self.live.allocator();
+        let alloc = self.live.allocator();
         match self.with_all(alloc, &list) {
             Ok(changed) => {
                 *self = changed;
@@ -292,12 +293,12 @@ impl Blocks {
     fn place(&mut self, s: u32, t: u32, b: &Block) -> Result<(), NoMemory>
         requires { FitsPair self.old.live s t b.now }
         ensures live { OnOk result (self.new.live ≡ self.old.live) }
-        ensures held { OnOk result ((p q : ℕ)
+        ensures blocks { OnOk result ((p q : ℕ)
             → block_at self.new p q ≡ with_block (block_at self.old) s t (matrix_of b.now) p q) }
         ensures err { OnErr result (self.new ≡ self.old) }
     {
-        let from = size_in(self.live(), s);
-        let to = size_in(self.live(), t);
+        let from = self.cell_and_size(s).1;
+        let to = self.cell_and_size(t).1;
         self.set_grid(&[(s, from)], &[(t, to)], b)?;
         Ok(())
     }
@@ -306,7 +307,7 @@ impl Blocks {
     fn with_all(&self, alloc: Global, list: &[(u32, u32, Block)]) -> Result<Blocks, NoMemory>
         requires { All (λ m. FitsPair self.now.live m.0 m.1 m.2) list.now }
         ensures live { IfOk result (λ r. r.live ≡ self.now.live) }
-        ensures held { IfOk result (λ r. (p q : ℕ) → block_at r p q ≡ with_blocks (block_at self.now) list.now p q) }
+        ensures blocks { IfOk result (λ r. (p q : ℕ) → block_at r p q ≡ with_blocks (block_at self.now) list.now p q) }
     {
         let mut changed = self.copy(alloc)?;
         for member in list {
@@ -363,78 +364,4 @@ fn total_fits(live: &[(u32, u8, u8)]) -> bool
         total += size;
     }
     true
-}
-
-/// The cells of a list of live cells.
-fn cells_of(alloc: Global, live: &[(u32, u8, u8)]) -> Result<Vec<u32>, NoMemory>
-    ensures { IfOk result (λ c. c.items ≡ cells live.now) }
-{
-    live.iter().map(|l| l.0).collect(alloc)
-}
-
-/// Takes a cell out of a list of live cells.
-fn remove_live(live: &mut Vec<(u32, u8, u8)>, c: u32)
-    requires { IsRising (cells live.old.items) }
-    ensures { live.new.items ≡ filter (λ l. not (l.0 == c)) live.old.items }
-{
-    if let Some(at) = find(live, c) {
-        live.remove(at);
-    }
-}
-
-/// Where a cell stands in a list of live cells.
-pub(crate) fn find(live: &[(u32, u8, u8)], c: u32) -> Option<usize>
-    requires { IsRising (cells live.now) }
-    ensures { MatchOption result (has c (cells live.now) ≡ false)
-        (λ i. (i < length live.now) × ((slice_index_or live.now i (0, 0, 0)).0 ≡ c)) }
-{
-    let at = count_below(live, c);
-    if at < live.len() && live[at].0 == c {
-        Some(at)
-    } else {
-        None
-    }
-}
-
-/// How many of the live cells are below `c`.
-fn count_below(live: &[(u32, u8, u8)], c: u32) -> usize
-    requires { IsRising (cells live.now) }
-    ensures within { result ≤ length live.now }
-    ensures below { (i : ℕ) → i < result → slice_index (cells live.now) i < c }
-    ensures from { (i : ℕ) → result ≤ i → i < length live.now → c ≤ slice_index (cells live.now) i }
-{
-    let mut low = 0;
-    let mut high = live.len();
-    while low < high {
-        let middle = low + (high - low) / 2;
-        if live[middle].0 < c {
-            low = middle + 1;
-        } else {
-            high = middle;
-        }
-    }
-    low
-}
-
-/// The degree and the size of a live cell.
-pub(crate) fn cell_in(live: &[(u32, u8, u8)], c: u32) -> Option<(u8, u8)>
-    requires { IsRising (cells live.now) }
-    ensures { MatchOption result (has c (cells live.now) ≡ false)
-        (λ l. (has c (cells live.now) ≡ true) × (degree_of live.now c ≡ l.0) × (size_of live.now c ≡ l.1)) }
-{
-    match find(live, c) {
-        Some(at) => Some((live[at].1, live[at].2)),
-        None => None,
-    }
-}
-
-/// The size of a cell; 0 for a cell that is not live.
-pub(crate) fn size_in(live: &[(u32, u8, u8)], c: u32) -> u8
-    requires { IsRising (cells live.now) }
-    ensures { result ≡ size_of live.now c }
-{
-    match cell_in(live, c) {
-        Some((_, size)) => size,
-        None => 0,
-    }
 }

@@ -11,7 +11,8 @@ ghost use Rattle.block_sparse.specs.StoredBlocks.{complex_in, matrix, AreLive};
 ghost use Rattle.block_complexes.specs.Cochains.{complex_of, of_degree};
 ghost use Rattle.block_sparse.specs.Cochains.{AreStarts};
 
-use crate::blocks::{Blocks, find, size_in};
+use crate::blocks::Blocks;
+use crate::live_cells::find;
 use dense_blocks::{Scalars, add_scaled, all_scalars, apply, zeros};
 use std::alloc::{AllocError as NoMemory, Global};
 
@@ -36,7 +37,7 @@ impl Blocks {
     pub fn is_over<F: Scalars>(&self, f: &F) -> bool
         ensures { IsTrue result ↔ IsBlockComplex (F.ops f.now) (complex_in self.now) }
     {
-        self.rows_are_over(f, &self.live)
+        self.rows_are_over(f, self.live())
     }
 
     /// The coboundary of a cochain of degree `k`: its coordinates at the live cells of degree `k + 1`, in order.
@@ -113,7 +114,9 @@ impl Blocks {
             (value_at (cells_of (complex_of (complex_in self.now)) starts.now.degree) z.now)
             (size_of self.now.live t) t) }
     {
-        let size = size_in(self.live(), t);
+        // Its clauses say what the row has.
+        let _live = self.live();
+        let size = self.cell_and_size(t).1;
         let mut sum = zeros(alloc, size as usize)?;
         for s in self.row(t) {
             self.add_image(alloc, f, starts, z, *s, t, &mut sum)?;

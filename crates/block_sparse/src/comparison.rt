@@ -6,7 +6,7 @@ ghost use Rattle.block_complexes.specs.BlockComplexes.{size_of};
 ghost use Rattle.block_sparse.specs.StoredBlocks.{block_at};
 ghost use Rattle.block_sparse.specs.Grids.{width, segment, window, columns_of, block_matrix, nonzero, AreSized};
 
-use crate::blocks::{Blocks, size_in};
+use crate::blocks::Blocks;
 use crate::parts::{is_same_at, is_zero_at};
 use dense_blocks::Block;
 
@@ -121,7 +121,7 @@ impl Blocks {
             ≡ nonzero (window 0 joined.now.rows (width (take i left.now)) (slice_index_or left.now i (0, 0)).1
             (matrix_of joined.now))) }
     {
-        let height = size_in(self.live(), y);
+        let height = self.cell_and_size(y).1;
         let mut col = 0;
         for (i, cell) in left.iter().enumerate() {
             // The loop's invariant names the place.
@@ -145,7 +145,7 @@ impl Blocks {
             ≡ nonzero (window (width (take j below.now)) (slice_index_or below.now j (0, 0)).1 0 joined.now.cols
             (matrix_of joined.now))) }
     {
-        let size = size_in(self.live(), x);
+        let size = self.cell_and_size(x).1;
         let mut row = 0;
         for (j, cell) in below.iter().enumerate() {
             // The loop's invariant names the place.

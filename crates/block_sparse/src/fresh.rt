@@ -25,7 +25,7 @@ fn fresh_row(
     ensures { IfOk result (λ l. IsFreshRow (matrix_of joined.now) row height left.now old.now l) }
 {
     let parts = row_parts(alloc, joined, row, height, left)?;
-    old.merged(alloc, left, parts)
+    old.with_fresh(alloc, left, parts)
 }
 
 /// A column once the parts of some columns of a matrix have been noted at the listed cells.
@@ -43,7 +43,7 @@ fn fresh_column(
     ensures { IfOk result (λ l. IsFreshColumn (matrix_of joined.now) col size below.now old.now l) }
 {
     let marks = column_marks(alloc, joined, col, size, below)?;
-    old.merged(alloc, below, marks)
+    old.with_fresh(alloc, below, marks)
 }
 
 /// The rows of the cells below once a joined matrix has come in.

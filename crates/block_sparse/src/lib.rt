@@ -10,6 +10,7 @@ mod blocks;
 mod coboundary;
 mod comparison;
 mod fresh;
+mod live_cells;
 mod parts;
 
 pub use blocks::Blocks;

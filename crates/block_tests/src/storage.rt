@@ -9,7 +9,7 @@ use std::process::Abort;
 fn keeps_cells(rt: HostRuntime) -> Result<(), NoMemory> {
     let fork = fork(&rt, rt.alloc())?;
     assert!(rt; fork.live() == CELLS.as_slice());
-    assert!(rt; fork.size(3) == 2 && fork.size(4) == 0 && fork.sized(1) == (1, 2));
+    assert!(rt; fork.size(3) == 2 && fork.size(4) == 0 && fork.cell_and_size(1) == (1, 2));
     Ok(())
 }
 
@@ -39,7 +39,7 @@ fn clears_flags(rt: HostRuntime) -> Result<(), NoMemory> {
     let ones = Block::of(rt.alloc(), 1, 2, &[1, 1])?;
     put(&rt, &mut fork, 1, 2, ones)?;
     assert!(rt; stands(&fork, 1, 2, &[1, 1]));
-    assert!(rt; !fork.flagged(1, 2) && fork.flagged(1, 3));
+    assert!(rt; !fork.has_flag(1, 2) && fork.has_flag(1, 3));
     Ok(())
 }
 

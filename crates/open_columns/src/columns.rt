@@ -38,7 +38,7 @@ impl Columns {
         let none = First { cell: None };
         Ok(Columns {
             marks: Lines::of_cells(alloc, cells)?,
-            firsts: Line::filled(alloc, cells, &none)?,
+            firsts: Line::constant(alloc, cells, &none)?,
         })
     }
 

@@ -76,8 +76,8 @@ fn first_changed(foot: &Footprint, b: &Blocks) -> Option<(u32, u32)>
     let below = foot.below.as_slice();
     let left = &left[..count_live(b, left)];
     let below = &below[..count_live(b, below)];
-    let from = [b.sized(foot.x)];
-    let to = [b.sized(foot.y)];
+    let from = [b.cell_and_size(foot.x)];
+    let to = [b.cell_and_size(foot.y)];
     let from = &from[..usize::from(is_live_as(b, foot.x, foot.pivot.cols))];
     let to = &to[..usize::from(is_live_as(b, foot.y, foot.pivot.rows))];
     let pivot = first_other(b, from, to, &foot.pivot);

@@ -101,7 +101,7 @@ fn list(alloc: Global, b: &Blocks, there: &[u32], but: u32) -> Result<Vec<(u32, 
     there
         .iter()
         .filter(|c| **c != but)
-        .map(|c| b.sized(*c))
+        .map(|c| b.cell_and_size(*c))
         .collect(alloc)
 }
 
@@ -110,7 +110,7 @@ fn one(alloc: Global, b: &Blocks, c: u32) -> Result<Listed<(u32, u8)>, NoMemory>
     ensures { IfOk result (λ l. l ≡ (c, size_of b.now.live c) ∷ []) }
 {
     let mut cells = Vec::with_capacity(alloc, 1)?;
-    cells.push(b.sized(c))?;
+    cells.push(b.cell_and_size(c))?;
     Ok(Listed::of(cells))
 }
 

@@ -15,3 +15,9 @@ impl Duplicate for Block {
         self.copy(alloc)
     }
 }
+
+impl Duplicate for u8 {
+    fn duplicate(&self, _alloc: Global) -> Result<u8, NoMemory> {
+        Ok(*self)
+    }
+}

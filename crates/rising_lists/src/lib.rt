@@ -10,3 +10,4 @@ mod places;
 pub use duplicate::Duplicate;
 pub use line::Line;
 pub use lines::Lines;
+pub use places::place;

@@ -36,6 +36,15 @@ impl<T> Line<T> {
         }
     }
 
+    /// The values at the cells, in order.
+    pub fn of_values(cells: Vec<u32>, values: Vec<T>) -> Line<T>
+        requires rising { IsRising cells.items }
+        requires full { length values.items ≡ length cells.items }
+        ensures { result ≡ record { cells = cells.items; values = values.items } }
+    {
+        Line { cells, values }
+    }
+
     /// The cells, rising.
     pub fn cells(&self) -> &[u32]
         ensures cells { result.now ≡ self.now.cells }
@@ -96,7 +105,7 @@ impl<T: Drop> Line<T> {
 
 impl<T: Duplicate> Line<T> {
     /// The same value at each of these cells.
-    pub fn filled(alloc: Global, cells: &[u32], value: &T) -> Result<Line<T>, NoMemory>
+    pub fn constant(alloc: Global, cells: &[u32], value: &T) -> Result<Line<T>, NoMemory>
         requires { IsRising cells.now }
         ensures cells { IfOk result (λ l. l.cells ≡ cells.now) }
         ensures values { IfOk result (λ l. l.values ≡ replicate (length cells.now) value.now) }
@@ -128,7 +137,7 @@ impl<T: Duplicate> Line<T> {
     /// The line once the listed cells have got fresh values, or none; the others keep what they have.
     ///
     /// Takes one step for each cell of the line and each listed cell.
-    pub fn merged(
+    pub fn with_fresh(
         &self,
         alloc: Global,
         listed: &[(u32, u8)],

@@ -67,10 +67,10 @@ returns c =
     c.is_live_as.ensures in
     let y = counted-one c.is_live_as-2.result k (IsSized v.live foot.y foot.pivot.rows) c.from-2.ensures
     c.is_live_as-2.ensures in
-    let xs : take j (c.sized.result ∷ []) ≡ take j ((foot.x, foot.pivot.cols) ∷ []) =
-    ap (λ l. take j (l ∷ [])) c.sized.ensures ∙ taken-same v.live j foot.x foot.pivot.cols x.0 in
-    let ys : take k (c.sized-2.result ∷ []) ≡ take k ((foot.y, foot.pivot.rows) ∷ []) =
-    ap (λ l. take k (l ∷ [])) c.sized-2.ensures ∙ taken-same v.live k foot.y foot.pivot.rows y.0 in
+    let xs : take j (c.cell_and_size.result ∷ []) ≡ take j ((foot.x, foot.pivot.cols) ∷ []) =
+    ap (λ l. take j (l ∷ [])) c.cell_and_size.ensures ∙ taken-same v.live j foot.x foot.pivot.cols x.0 in
+    let ys : take k (c.cell_and_size-2.result ∷ []) ≡ take k ((foot.y, foot.pivot.rows) ∷ []) =
+    ap (λ l. take k (l ∷ [])) c.cell_and_size-2.ensures ∙ taken-same v.live k foot.y foot.pivot.rows y.0 in
     let ls : take m left.result.now ≡ take m foot.left = ap (take m) left.ensures in
     let bs : take n below.result.now ≡ take n foot.below = ap (take n) below.ensures in
     let pivot = c.first_other-pivot in

@@ -13,4 +13,4 @@ remove-requires g c =
 pub returns : goal.returns
 returns g c =
     flagged-over (g.F.Scalars.ops c.args.f.now) c.args.b.now c.flag.new.self c.args.pair.0 c.args.pair.1 c.requires.over
-    c.flag.ensures.live c.flag.ensures.held
+    c.flag.ensures.live c.flag.ensures.blocks

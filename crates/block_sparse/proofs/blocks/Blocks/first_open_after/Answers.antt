@@ -11,7 +11,7 @@ returns c =
     first_pair-same (λ s t. is_open (entry_of c.self.inside.columns s t)) (is_candidate c.args.self.now) c.args.x
     c.first_open_after.result
     (λ s t. open-candidate (record {
-      live = c.self.inside.live.items;
+      live = c.self.inside.live;
       rows = c.self.inside.rows;
       columns =
           c.self.inside.columns;

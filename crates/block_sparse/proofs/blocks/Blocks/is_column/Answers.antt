@@ -9,15 +9,14 @@ use Rattle.block_sparse.proofs.Windows.{width-next, width-within}
 use Rattle.block_sparse.proofs.blocks.Blocks.is_column.Goals as goal
 
 pub is_column_part-requires-clause-width : goal.is_column_part-requires-clause-width
-is_column_part-requires-clause-width c = c.size_in-size.ensures ∙ ap (λ l. size_of l c.args.x) c.live.ensures.live
+is_column_part-requires-clause-width c = ap (λ (p : ℕ × ℕ). p.1) c.cell_and_size-size.ensures
 
 pub is_column_part-requires-clause-height : goal.is_column_part-requires-clause-height
 is_column_part-requires-clause-height c = sym (c.requires.sized c.loop-j.j (0, 0) (omega arith)).1
 
 pub is_column_part-requires-clause-cols : goal.is_column_part-requires-clause-cols
 is_column_part-requires-clause-cols c =
-    let w : c.size_in-size.result ≡ size_of c.args.self.now.live c.args.x = c.size_in-size.ensures
-    ∙ ap (λ l. size_of l c.args.x) c.live.ensures.live in
+    let w : c.cell_and_size-size.result.1 ≡ size_of c.args.self.now.live c.args.x = ap (λ (p : ℕ × ℕ). p.1) c.cell_and_size-size.ensures in
     omega (arith, w, c.requires.cols)
 
 pub is_column_part-requires-clause-rows : goal.is_column_part-requires-clause-rows
@@ -42,8 +41,7 @@ loop-j-preserved c =
     let j : ℕ = c.loop-j.j in
     let inside : j < length below = omega arith in
     let A = matrix_of c.args.joined.now in
-    let w : c.size_in-size.result ≡ c.args.joined.now.cols = c.size_in-size.ensures
-    ∙ ap (λ l. size_of l c.args.x) c.live.ensures.live ∙ sym c.requires.cols in
+    let w : c.cell_and_size-size.result.1 ≡ c.args.joined.now.cols = ap (λ (p : ℕ × ℕ). p.1) c.cell_and_size-size.ensures ∙ sym c.requires.cols in
     let passed : c.is_column_part.result ≡ true = search rules in
     record {
       row = omega (arith, c.loop-j.invariant.row, width-next below j inside);
@@ -65,8 +63,7 @@ returns-then-not-is_column_part c =
     let j : ℕ = c.loop-j.j in
     let inside : j < length below = omega arith in
     let A = matrix_of c.args.joined.now in
-    let w : c.size_in-size.result ≡ c.args.joined.now.cols = c.size_in-size.ensures
-    ∙ ap (λ l. size_of l c.args.x) c.live.ensures.live ∙ sym c.requires.cols in
+    let w : c.cell_and_size-size.result.1 ≡ c.args.joined.now.cols = ap (λ (p : ℕ × ℕ). p.1) c.cell_and_size-size.ensures ∙ sym c.requires.cols in
     let failed : c.is_column_part.result ≡ false = search rules in (
       λ a. let e : false ≡ true = a in cc,
       λ a.

@@ -5,7 +5,7 @@ use Rattle.dense_blocks.specs.Vectors.{AllScalars}
 use Rattle.rising_lists.specs.Rising.{has}
 use Rattle.rising_lists.proofs.Keyed.{place_of}
 use Rattle.block_complexes.specs.BlockComplexes.{cells}
-use Rattle.block_sparse.specs.StoredBlocks.{StoredBlocks, block_at, matrix}
+use Rattle.block_sparse.specs.StoredBlocks.{block_at, matrix}
 use Rattle.block_sparse.specs.Invariants.{IsSound}
 use Rattle.block_complexes.proofs.LiveLaws.{cell-at, length-cells}
 use Rattle.block_sparse.proofs.ScalarBlocks.{block_at-between, none-scalars, not-block_at}
@@ -17,10 +17,9 @@ returns g c =
     let K = g.F.Scalars.ops c.args.f.now in
     let F = g.met.F.Scalars.is_field c.args.f.now in
     let v = c.args.self.now in
-    let live = c.deref.result.now in
-    let is : live ≡ v.live = c.deref.ensures.value ∙ ap (λ (v : StoredBlocks). v.live) c.self.view_is in
-    let sound : IsSound v.live v.rows v.columns = subst (λ (v : StoredBlocks). IsSound v.live v.rows v.columns)
-    c.self.view_is c.self.invariant in (
+    let live = c.live.result.now in
+    let is : live ≡ v.live = c.live.ensures.live in
+    let sound : IsSound v.live v.rows v.columns = c.live.ensures.sound in (
       λ h. stored-block_complex K F v sound (λ s t. elim (cases_Bool (is_some (block_at v s t))) [
         | inl e ↦
             let p = place_of (cells live) t (ap (λ l. has t (cells l)) is ∙ (block_at-between v sound s t e).to) in

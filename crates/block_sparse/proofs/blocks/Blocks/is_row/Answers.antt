@@ -9,15 +9,14 @@ use Rattle.block_sparse.proofs.Windows.{width-next, width-within}
 use Rattle.block_sparse.proofs.blocks.Blocks.is_row.Goals as goal
 
 pub is_row_part-requires-clause-height : goal.is_row_part-requires-clause-height
-is_row_part-requires-clause-height c = c.size_in-height.ensures ∙ ap (λ l. size_of l c.args.y) c.live.ensures.live
+is_row_part-requires-clause-height c = ap (λ (p : ℕ × ℕ). p.1) c.cell_and_size-height.ensures
 
 pub is_row_part-requires-clause-width : goal.is_row_part-requires-clause-width
 is_row_part-requires-clause-width c = sym (c.requires.sized c.loop-i.i (0, 0) (omega arith)).1
 
 pub is_row_part-requires-clause-rows : goal.is_row_part-requires-clause-rows
 is_row_part-requires-clause-rows c =
-    let h : c.size_in-height.result ≡ size_of c.args.self.now.live c.args.y = c.size_in-height.ensures
-    ∙ ap (λ l. size_of l c.args.y) c.live.ensures.live in
+    let h : c.cell_and_size-height.result.1 ≡ size_of c.args.self.now.live c.args.y = ap (λ (p : ℕ × ℕ). p.1) c.cell_and_size-height.ensures in
     omega (arith, h, c.requires.rows)
 
 pub is_row_part-requires-clause-cols : goal.is_row_part-requires-clause-cols
@@ -42,8 +41,7 @@ loop-i-preserved c =
     let i : ℕ = c.loop-i.i in
     let inside : i < length left = omega arith in
     let A = matrix_of c.args.joined.now in
-    let h : c.size_in-height.result ≡ c.args.joined.now.rows = c.size_in-height.ensures
-    ∙ ap (λ l. size_of l c.args.y) c.live.ensures.live ∙ sym c.requires.rows in
+    let h : c.cell_and_size-height.result.1 ≡ c.args.joined.now.rows = ap (λ (p : ℕ × ℕ). p.1) c.cell_and_size-height.ensures ∙ sym c.requires.rows in
     let passed : c.is_row_part.result ≡ true = search rules in
     record {
       col = omega (arith, c.loop-i.invariant.col, width-next left i inside);
@@ -65,8 +63,7 @@ returns-then-not-is_row_part c =
     let i : ℕ = c.loop-i.i in
     let inside : i < length left = omega arith in
     let A = matrix_of c.args.joined.now in
-    let h : c.size_in-height.result ≡ c.args.joined.now.rows = c.size_in-height.ensures
-    ∙ ap (λ l. size_of l c.args.y) c.live.ensures.live ∙ sym c.requires.rows in
+    let h : c.cell_and_size-height.result.1 ≡ c.args.joined.now.rows = ap (λ (p : ℕ × ℕ). p.1) c.cell_and_size-height.ensures ∙ sym c.requires.rows in
     let failed : c.is_row_part.result ≡ false = search rules in (
       λ a. let e : false ≡ true = a in cc,
       λ a.

@@ -11,7 +11,7 @@ returns c =
     first_from-same (λ t. is_open (entry_of c.self.inside.columns c.args.x t)) (is_candidate c.args.self.now c.args.x)
     c.args.from c.next_open.result
     (λ t. open-candidate (record {
-      live = c.self.inside.live.items;
+      live = c.self.inside.live;
       rows = c.self.inside.rows;
       columns =
           c.self.inside.columns;

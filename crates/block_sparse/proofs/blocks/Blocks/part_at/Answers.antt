@@ -19,7 +19,7 @@ loop-s-init g c =
     let K = g.F.Scalars.ops c.args.f.now in
     let n = size_of c.args.self.now.live c.args.t in
     let none : c.in_ok-sum.sum.items ≡ zeros n = c.in_ok-sum.ensures.items
-    ∙ ap zeros (c.size_in-size.ensures ∙ ap (λ l. size_of l c.args.t) c.live.ensures.live) in
+    ∙ ap zeros (ap (λ (p : ℕ × ℕ). p.1) c.cell_and_size-size.ensures) in
     record {
       sum = none;
       vector =
@@ -52,7 +52,7 @@ returns g c =
     let row = c.row-s-items.result.now in
     let end : length row ≤ c.loop-s.s-index = omega arith in
     let value : ℕ → List ℕ = value_at (of_degree c.args.starts.now.degree v.live) c.args.z.now in
-    let sound = c.live.ensures.sound in
+    let sound = c.live-live.ensures.sound in
     c.loop-s.invariant.sum
     ∙ ap (sum_over K (size_of v.live t) (λ s. image_of K (matrix v s t) (value s))) (take_all c.loop-s.s-index row end)
     ∙ sym (sum_into-row K (g.met.F.Scalars.is_field c.args.f.now) v sound value t row c.requires.live

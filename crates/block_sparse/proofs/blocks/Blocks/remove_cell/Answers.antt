@@ -11,13 +11,13 @@ clear-requires c = λ s t. some-mark (entry_of c.self.inside.columns s t) (entry
 
 pub invariant_of-self : goal.invariant_of-self
 invariant_of-self c =
-    subst (λ live. IsSound live c.clear.new.rows c.clear.new.columns) (sym c.remove_live.ensures)
-    (sound-without c.args.c c.self.inside.live.items c.self.inside.rows c.clear.new.rows c.self.inside.columns
+    subst (λ live. IsSound live c.clear.new.rows c.clear.new.columns) (sym c.remove.ensures)
+    (sound-without c.args.c c.self.inside.live c.self.inside.rows c.clear.new.rows c.self.inside.columns
     c.clear.new.columns c.self.invariant
     c.clear.ensures.row_cells c.clear.ensures.column_cells c.clear.ensures.rows c.clear.ensures.columns)
 
-pub returns-clause-held : goal.returns-clause-held
-returns-clause-held c = λ s t.
+pub returns-clause-blocks : goal.returns-clause-blocks
+returns-clause-blocks c = λ s t.
     block_at-without (eqb s c.args.c || eqb t c.args.c) (entry_of c.self.inside.rows t s)
     (entry_of c.clear.new.rows t s) (entry_of c.self.inside.columns s t) (entry_of c.clear.new.columns s t)
     (c.clear.ensures.rows s t) (c.clear.ensures.columns s t)

@@ -24,7 +24,7 @@ invariant_of-self c =
     let below = c.args.below.now in
     let rows = c.self.inside.rows in
     let columns = c.self.inside.columns in
-    let live = c.self.inside.live.items in
+    let live = c.self.inside.live in
     let same : c.args.self.now.live ≡ live = sym (ap (λ v. v.live) c.self.view_is) in
     sound-done A left below live rows c.install.new.self columns c.install-2.new.self
     (is_done A left below c.requires.left_rises c.requires.below_rises rows c.install.new.self c.in_ok-rows.rows.items
@@ -47,14 +47,14 @@ install-requires-2-clause-within c = λ k h.
     c.self.invariant.has_column k (ap (λ v. has k (cells v.live)) c.self.view_is
     ∙ sized-live c.args.self.now.live c.args.left.now c.requires.left_sized k h)
 
-pub returns-clause-held : goal.returns-clause-held
-returns-clause-held c = λ s t.
+pub returns-clause-blocks : goal.returns-clause-blocks
+returns-clause-blocks c = λ s t.
     let A = matrix_of c.args.joined.now in
     let left = c.args.left.now in
     let below = c.args.below.now in
     let rows = c.self.inside.rows in
     let columns = c.self.inside.columns in
-    block_at-done A left below c.self.inside.live.items rows c.install.new.self columns c.install-2.new.self
+    block_at-done A left below c.self.inside.live rows c.install.new.self columns c.install-2.new.self
     (is_done A left below c.requires.left_rises c.requires.below_rises rows c.install.new.self c.in_ok-rows.rows.items
     c.in_ok-rows.ensures.count c.in_ok-rows.ensures.fresh c.install.ensures.lines
     columns c.install-2.new.self c.in_ok-columns.columns.items c.in_ok-columns.ensures.count

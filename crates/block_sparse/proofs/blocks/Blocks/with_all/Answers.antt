@@ -16,15 +16,15 @@ loop-member-preserved c =
     record {
       live = c.in_ok-place.ensures.live ∙ c.loop-member.invariant.live;
       blocks = λ p q.
-          with_blocks-same (drop (i + 1) list) (block_at c.place.new.self) after c.in_ok-place.ensures.held p q
+          with_blocks-same (drop (i + 1) list) (block_at c.place.new.self) after c.in_ok-place.ensures.blocks p q
           ∙ ap (λ k. with_blocks after (drop k list) p q) (add-one i)
           ∙ ap (λ l. with_blocks before l p q)
           (sym (drop-cons list i m inside ∙ ap (λ x. x ∷ drop (suc i) list) (sym c.member-item.is)))
           ∙ c.loop-member.invariant.blocks p q;
     }
 
-pub returns-clause-held : goal.returns-clause-held
-returns-clause-held c = λ p q.
+pub returns-clause-blocks : goal.returns-clause-blocks
+returns-clause-blocks c = λ p q.
     let list = c.args.list.now in
     let end : length list ≤ c.loop-member.member-index = omega arith in
     ap (λ l. with_blocks (block_at c.loop-member.changed) l p q) (sym (drop-done c.loop-member.member-index list end))

@@ -65,11 +65,11 @@ returns-clause-removed g c =
     c.set_grid.new.self c.remove_cell.new.self w
     (record {
       grid_live = c.in_ok-set_grid.ensures.live;
-      grid_blocks = c.in_ok-set_grid.ensures.held;
+      grid_blocks = c.in_ok-set_grid.ensures.blocks;
       first_live = c.remove_cell.ensures.live;
-      first_blocks = c.remove_cell.ensures.held;
+      first_blocks = c.remove_cell.ensures.blocks;
       second_live = c.remove_cell-2.ensures.live;
-      second_blocks = c.remove_cell-2.ensures.held;
+      second_blocks = c.remove_cell-2.ensures.blocks;
     }))
 
 pub returns-clause-step_from : goal.returns-clause-step_from

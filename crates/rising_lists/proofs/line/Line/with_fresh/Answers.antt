@@ -3,7 +3,7 @@ use Rattle.std.proofs.lemmas.List.{length-map}
 use Rattle.std.specs.Vec.Iter.{into_iter_items}
 use Rattle.rising_lists.specs.Rising.{IsRising, keys, look, entry, entry_after}
 use Rattle.rising_lists.proofs.MergeLaws.{merged-next, merged-all, next-due, next-smaller}
-use Rattle.rising_lists.proofs.line.Line.merged.Goals as goal
+use Rattle.rising_lists.proofs.line.Line.with_fresh.Goals as goal
 
 pub loop-i-smaller : goal.loop-i-smaller
 loop-i-smaller g c =

@@ -1,6 +1,6 @@
 use Rattle.std.proofs.Common.{◌∙◌, sym}
 use Rattle.block_complexes.proofs.WithoutLaws.{without-at, without-absent}
-use Rattle.block_sparse.proofs.blocks.remove_live.Goals as goal
+use Rattle.block_sparse.proofs.live_cells.remove_live.Goals as goal
 
 pub returns-in-Some : goal.returns-in-Some
 returns-in-Some c =

@@ -2,7 +2,7 @@ use Rattle.std.proofs.Common.{length, ◌-◌, ◌+◌}
 use Rattle.std.specs.Vec.Iter.{into_iter_items}
 use Rattle.rising_lists.specs.Rising.{keys}
 use Rattle.rising_lists.proofs.MergeLaws.{Merged}
-use Rattle.rising_lists.proofs.line.Line.merged.Given as goal
+use Rattle.rising_lists.proofs.line.Line.with_fresh.Given as goal
 
 abbrev pub invariant-loop-i : goal.invariant-loop-i
 invariant-loop-i g l = Merged l.old l.self-inside.values.items (keys l.listed) l.fn.fresh.items (into_iter_items l.left)

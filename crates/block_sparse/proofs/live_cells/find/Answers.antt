@@ -1,8 +1,8 @@
 use Rattle.std.proofs.Common.{arith}
 use Rattle.block_complexes.proofs.LiveLaws.{absent-at}
-use Rattle.block_sparse.proofs.blocks.find.Goals as goal
-use Rattle.block_sparse.proofs.blocks.find.Goals.{else-at-live-via-then-at-live+else-live-at}
-use Rattle.block_sparse.proofs.blocks.find.Goals.{else-at-live-via-else-at-live}
+use Rattle.block_sparse.proofs.live_cells.find.Goals as goal
+use Rattle.block_sparse.proofs.live_cells.find.Goals.{else-at-live-via-then-at-live+else-live-at}
+use Rattle.block_sparse.proofs.live_cells.find.Goals.{else-at-live-via-else-at-live}
 
 pub returns-else-at-live : goal.returns-else-at-live
 returns-else-at-live c =

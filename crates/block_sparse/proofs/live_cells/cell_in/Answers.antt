@@ -3,7 +3,7 @@ use Rattle.rising_lists.specs.Rising.{has}
 use Rattle.rising_lists.proofs.Keyed.{has-at}
 use Rattle.block_complexes.specs.BlockComplexes.{cells}
 use Rattle.block_complexes.proofs.LiveLaws.{cell-at, length-cells, of_cell-at}
-use Rattle.block_sparse.proofs.blocks.cell_in.Goals as goal
+use Rattle.block_sparse.proofs.live_cells.cell_in.Goals as goal
 
 pub returns-in-Some : goal.returns-in-Some
 returns-in-Some c =

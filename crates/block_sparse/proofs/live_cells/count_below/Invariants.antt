@@ -1,6 +1,6 @@
 use Rattle.std.proofs.Common.{◌≤◌, ◌<◌, ◌-◌, ℕ, get_or, length}
 use Rattle.block_complexes.specs.BlockComplexes.{cells}
-use Rattle.block_sparse.proofs.blocks.count_below.Given as goal
+use Rattle.block_sparse.proofs.live_cells.count_below.Given as goal
 
 abbrev pub invariant-loop-low : goal.invariant-loop-low
 invariant-loop-low l = record {

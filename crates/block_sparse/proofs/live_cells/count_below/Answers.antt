@@ -2,7 +2,7 @@ use Rattle.std.proofs.Common.{◌<◌, ◌+◌, ◌-◌, ◌/◌, ℕ, length, a
 use Rattle.rising_lists.proofs.Keyed.{rising_le}
 use Rattle.block_complexes.specs.BlockComplexes.{cells}
 use Rattle.block_complexes.proofs.LiveLaws.{cell-at, length-cells}
-use Rattle.block_sparse.proofs.blocks.count_below.Goals as goal
+use Rattle.block_sparse.proofs.live_cells.count_below.Goals as goal
 
 pub loop-low-preserved-then-live-middle : goal.loop-low-preserved-then-live-middle
 loop-low-preserved-then-live-middle c =
