@@ -1,79 +1,139 @@
-ghost use Rattle.std.specs.Prelude.{◌≡◌, ◌≤◌, length, All, IfOk};
+ghost use Rattle.std.specs.Prelude.{◌≡◌, ◌<◌, ◌≤◌, length, All, IfOk};
 ghost use Rattle.dense_blocks.specs.Vectors.{AllScalars};
 ghost use Rattle.dense_blocks.specs.Two.{two};
 
-use crate::failure::Failure;
-use crate::report::{Report, Watch, checksum};
-use crate::sequence::Sequence;
+use crate::report::{Failure, Report, checksum, timed};
 use dense_blocks::{Block, Inverse, Scalars, Solution, Two, invert, product, solve};
 use std::alloc::{AllocError as NoMemory, Global};
 use std::rt::Clock;
-use std::time::Duration;
+use std::time::{Duration, Instant};
 
-pub(crate) fn run_product<R: Clock + AllocGlobal>(rt: &R, size: u32) -> Result<Report, Failure>
-    requires { size ≤ 1024 }
-{
-    let mut sequence = Sequence::new();
-    let a = sequence.block(rt.alloc(), size)?;
-    let b = sequence.block(rt.alloc(), size)?;
-    let watch = Watch::start(rt);
-    let c = product(rt.alloc(), &Two, &a, &b)?;
-    let time = watch.time(rt);
-    Ok(operations(2 * size * size * size, c.entries.as_slice(), time))
+/// Which entries of a block are scalars of the sequence: all; or those below the diagonal, or above it, and then there
+/// are ones on the diagonal and zeros beyond it.
+#[derive(Clone, Copy)]
+enum Shape {
+    Full,
+    Lower,
+    Upper,
 }
 
-pub(crate) fn run_solve<R: Clock + AllocGlobal>(rt: &R, size: u32) -> Result<Report, Failure>
-    requires { size ≤ 1024 }
-{
-    let n = size as usize;
-    let columns = Sequence::new().columns(rt.alloc(), n, n)?;
-    let sum = sum_of(rt.alloc(), n, &columns)?;
-    let watch = Watch::start(rt);
-    let solution = solve(rt.alloc(), &Two, &columns, &sum)?;
-    let time = watch.time(rt);
-    match solution {
-        Solution::Combination(coefficients) => {
-            Ok(operations(size * size * (size + 1), &coefficients, time))
+/// Scalars of the field of two elements that look like chance, and are the same in every run.
+#[derive(Drop)]
+struct Sequence {
+    state: u64,
+}
+
+impl Sequence {
+    /// The next scalar: a high bit of a linear congruential sequence, since the low ones soon repeat.
+    fn scalar(&mut self) -> u8
+        ensures { result < two.order }
+    {
+        self.state = self
+            .state
+            .wrapping_mul(6_364_136_223_846_793_005)
+            .wrapping_add(1_442_695_040_888_963_407);
+        (self.state >> 63) as u8
+    }
+
+    /// The entry in row `i` and column `j` of a block of this shape.
+    fn entry(&mut self, shape: Shape, i: usize, j: usize) -> u8
+        ensures { result < two.order }
+    {
+        match shape {
+            Shape::Full => self.scalar(),
+            Shape::Lower if j < i => self.scalar(),
+            Shape::Upper if i < j => self.scalar(),
+            _ => u8::from(i == j),
         }
+    }
+
+    /// A block of m rows and n columns.
+    fn block(&mut self, alloc: Global, m: u32, n: u32, shape: Shape) -> Result<Block, NoMemory>
+        requires rows { m ≤ 1024 }
+        requires cols { n ≤ 1024 }
+        ensures rows { IfOk result (λ b. b.rows ≡ m) }
+        ensures cols { IfOk result (λ b. b.cols ≡ n) }
+        ensures scalars { IfOk result (λ b. AllScalars two b.entries) }
+    {
+        // Without columns there is no entry, and nothing is divided by 0.
+        let width = n.max(1) as usize;
+        let mut entries = Vec::new(alloc);
+        for place in 0..m as usize * n as usize {
+            entries.push(self.entry(shape, place / width, place % width))?;
+        }
+        Block::of(alloc, m, n, &entries)
+    }
+}
+
+pub fn time_product<R: Clock + AllocGlobal>(rt: &R, n: u32) -> Result<Report, Failure>
+    requires { n ≤ 1024 }
+{
+    let mut sequence = Sequence { state: 1 };
+    let a = sequence.block(rt.alloc(), n, n, Shape::Full)?;
+    let b = sequence.block(rt.alloc(), n, n, Shape::Full)?;
+    let start = Instant::now(rt)?;
+    let c = product(rt.alloc(), &Two, &a, &b)?;
+    let time = start.elapsed(rt)?;
+    Ok(report(rt.alloc(), time, 2 * n * n * n, c.entries.as_slice())?)
+}
+
+pub fn time_solve<R: Clock + AllocGlobal>(rt: &R, n: u32) -> Result<Report, Failure>
+    requires { n ≤ 1024 }
+{
+    let columns = columns(rt.alloc(), n)?;
+    let sum = sum_of(rt.alloc(), n as usize, &columns)?;
+    let start = Instant::now(rt)?;
+    let solution = solve(rt.alloc(), &Two, &columns, &sum)?;
+    let time = start.elapsed(rt)?;
+    match solution {
+        Solution::Combination(c) => Ok(report(rt.alloc(), time, n * n * (n + 1), &c)?),
         Solution::Apart(_) => Err(Failure::Made),
     }
 }
 
-pub(crate) fn run_invert<R: Clock + AllocGlobal>(rt: &R, size: u32) -> Result<Report, Failure>
-    requires positive { 1 ≤ size }
-    requires small { size ≤ 1024 }
+pub fn time_invert<R: Clock + AllocGlobal>(rt: &R, n: u32) -> Result<Report, Failure>
+    requires { n ≤ 1024 }
 {
-    let a = invertible(rt.alloc(), size)?;
-    let watch = Watch::start(rt);
+    let a = invertible(rt.alloc(), n)?;
+    let start = Instant::now(rt)?;
     let inverse = invert(rt.alloc(), &Two, &a)?;
-    let time = watch.time(rt);
+    let time = start.elapsed(rt)?;
     match inverse {
-        Inverse::Both(b) => Ok(operations(2 * size * size * size, b.entries.as_slice(), time)),
+        Inverse::Both(b) => Ok(report(rt.alloc(), time, 2 * n * n * n, b.entries.as_slice())?),
         Inverse::Singular(_) => Err(Failure::Made),
     }
 }
 
-/// The report of so many operations in the field, and of a result of these scalars.
-fn operations(count: u32, scalars: &[u8], time: Option<Duration>) -> Report {
-    Report {
-        count,
-        unit: "field operations",
-        checksum: checksum(scalars),
-        time,
-    }
+/// The report of a call whose result has these scalars.
+fn report(alloc: Global, time: Duration, count: u32, scalars: &[u8]) -> Result<Report, NoMemory> {
+    timed(alloc, time, count, "field operations", checksum(0, scalars))
 }
 
 /// A block that has an inverse: a product of two triangles.
-fn invertible(alloc: Global, size: u32) -> Result<Block, NoMemory>
-    requires positive { 1 ≤ size }
-    requires small { size ≤ 1024 }
+fn invertible(alloc: Global, n: u32) -> Result<Block, NoMemory>
+    requires { n ≤ 1024 }
     ensures square { IfOk result (λ b. b.rows ≡ b.cols) }
     ensures scalars { IfOk result (λ b. AllScalars two b.entries) }
 {
-    let mut sequence = Sequence::new();
-    let lower = sequence.triangle(alloc, size, false)?;
-    let upper = sequence.triangle(alloc, size, true)?;
+    let mut sequence = Sequence { state: 1 };
+    let lower = sequence.block(alloc, n, n, Shape::Lower)?;
+    let upper = sequence.block(alloc, n, n, Shape::Upper)?;
     product(alloc, &Two, &lower, &upper)
+}
+
+/// n columns of n coordinates.
+fn columns(alloc: Global, n: u32) -> Result<Vec<Vec<u8>>, NoMemory>
+    requires { n ≤ 1024 }
+    ensures sizes { IfOk result (λ cs. All (λ c. length c.items ≡ n) cs.items) }
+    ensures scalars { IfOk result (λ cs. All (λ c. AllScalars two c.items) cs.items) }
+{
+    let mut sequence = Sequence { state: 1 };
+    let mut columns = Vec::new(alloc);
+    for _column in 0..n {
+        let column = sequence.block(alloc, 1, n, Shape::Full)?;
+        columns.push(Vec::from_slice(alloc, column.entries.as_slice())?)?;
+    }
+    Ok(columns)
 }
 
 /// The sum of columns of `size` coordinates.

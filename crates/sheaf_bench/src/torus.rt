@@ -1,155 +1,126 @@
 ghost use Rattle.std.specs.Prelude.{◌≡◌, ◌<◌, ◌≤◌, ◌^◌, length, IfOk, OnOk};
 
-use crate::failure::Failure;
-use crate::report::{Report, Watch, checksum};
+use crate::report::{Failure, Report, checksum, timed};
 use field_table::Field;
 use sheaf_data::{Draft, Sheaf};
 use sheaf_text::read;
 use std::alloc::{AllocError as NoMemory, Global};
 use std::rt::Clock;
-use std::time::Duration;
+use std::time::Instant;
 
-/// The text of the constant sheaf of scalars over 31 on a torus of `size` by `size` squares.
+/// The text of the constant sheaf of scalars over 31 on a torus of `n` by `n` squares.
 ///
 /// On a grid of n by n places, whose indices are taken modulo n, each place has a vertex, an edge to the next row, an
 /// edge to the next column, and a square between these two edges and those across. First come all vertices, row by row,
 /// then all edges of the first kind, all of the second, and all squares.
-fn torus_text(alloc: Global, size: u32) -> Result<Vec<u8>, NoMemory>
-    requires positive { 1 ≤ size }
-    requires small { size ≤ 32 }
+fn torus_text(alloc: Global, n: u8) -> Result<String, NoMemory>
+    requires { 1 ≤ n }
 {
-    let mut text = Vec::from_slice(alloc, b"field 31\n")?;
-    for dim in [0, 1, 1, 2] {
-        add_cells(alloc, &mut text, dim, size * size)?;
+    let area = u32::from(u16::from(n) * u16::from(n));
+    let mut text = String::new(alloc);
+    text.push_str("field 31\n")?;
+    for line in ["cell 0 1\n", "cell 1 1\n", "cell 1 1\n", "cell 2 1\n"] {
+        text.push_str(line.repeat(alloc, area as usize)?.as_str())?;
     }
-    add_faces(alloc, &mut text, size)?;
-    text.extend_from_slice(b"done\n")?;
+    for place in 0..area {
+        add_faces(alloc, &mut text, n, area, place)?;
+    }
+    text.push_str("done\n")?;
     Ok(text)
 }
 
-/// Adds the lines of so many cells of this dimension.
-fn add_cells(alloc: Global, text: &mut Vec<u8>, dim: u8, count: u32) -> Result<(), NoMemory> {
-    let line = format!(in alloc; "cell {dim} 1\n")?;
-    for _cell in 0..count {
-        text.extend_from_slice(line.as_bytes())?;
-    }
-    Ok(())
-}
-
-/// Adds the lines of all faces.
-fn add_faces(alloc: Global, text: &mut Vec<u8>, size: u32) -> Result<(), NoMemory>
-    requires positive { 1 ≤ size }
-    requires small { size ≤ 32 }
+/// Adds the lines of the faces of the edges and of the square at one of `area` places.
+fn add_faces(alloc: Global, text: &mut String, n: u8, area: u32, place: u32) -> Result<(), NoMemory>
+    requires positive { 1 ≤ n }
+    requires place { place < area }
+    requires small { area < 2 ^ 16 }
 {
-    for place in 0..size * size {
-        add_place(alloc, text, size, place / size, place % size)?;
-    }
-    Ok(())
-}
-
-/// Adds the lines of the faces of the edges and of the square at the place.
-fn add_place(
-    alloc: Global,
-    text: &mut Vec<u8>,
-    size: u32,
-    row: u32,
-    column: u32,
-) -> Result<(), NoMemory>
-    requires positive { 1 ≤ size }
-    requires small { size ≤ 32 }
-    requires row { row ≤ 1024 }
-    requires column { column ≤ 1024 }
-{
-    let places = size * size;
-    let here = vertex(size, row, column);
-    let (below, beside) = (vertex(size, row + 1, column), vertex(size, row, column + 1));
-    let (down, right, square) = (places + here, 2 * places + here, 3 * places + here);
+    let n = u32::from(n);
+    let below = (place + n) % area;
+    let beside = place - place % n + (place + 1) % n;
+    let (down, right, square) = (area + place, 2 * area + place, 3 * area + place);
     let incidences = [
-        (here, down, '-'),
+        (place, down, '-'),
         (below, down, '+'),
-        (here, right, '-'),
+        (place, right, '-'),
         (beside, right, '+'),
         (down, square, '+'),
-        (2 * places + below, square, '+'),
-        (places + beside, square, '-'),
+        (2 * area + below, square, '+'),
+        (area + beside, square, '-'),
         (right, square, '-'),
     ];
     for (s, t, sign) in incidences {
         let line = format!(in alloc; "face {s} {t} {sign} 1\n")?;
-        text.extend_from_slice(line.as_bytes())?;
+        text.push_str(line.as_str())?;
     }
     Ok(())
 }
 
-/// The vertex at the place.
-fn vertex(size: u32, row: u32, column: u32) -> u32
-    requires positive { 1 ≤ size }
-    requires small { size ≤ 32 }
-    ensures { result < 2 ^ 20 }
-{
-    row % size * size + column % size
-}
-
-/// The report of a call on this draft.
-fn report(
-    alloc: Global,
-    count: u32,
-    unit: &'static str,
-    draft: &Draft<Field>,
-    time: Option<Duration>,
-) -> Result<Report, NoMemory> {
-    let mut entries = Vec::new(alloc);
-    for block in draft.blocks.as_slice() {
-        entries.extend_from_slice(block.entries.as_slice())?;
-    }
-    let checksum = checksum(&entries);
-    Ok(Report {
-        count,
-        unit,
-        checksum,
-        time,
-    })
-}
-
-pub(crate) fn run_read<R: Clock + AllocGlobal>(rt: &R, size: u32) -> Result<Report, Failure>
-    requires positive { 1 ≤ size }
-    requires small { size ≤ 32 }
-{
-    let text = torus_text(rt.alloc(), size)?;
-    let watch = Watch::start(rt);
-    let input = read(rt.alloc(), &text).map_err(|_| Failure::Input)?;
-    let time = watch.time(rt);
-    let count = u32::try_from(text.len()).unwrap_or(u32::MAX);
-    Ok(report(rt.alloc(), count, "bytes", &input.draft, time)?)
-}
-
 /// The constant sheaf on the torus, not yet sealed.
-fn torus_draft(alloc: Global, size: u32) -> Result<Draft<Field>, Failure>
-    requires positive { 1 ≤ size }
-    requires small { size ≤ 32 }
+fn torus(alloc: Global, n: u8) -> Result<Draft<Field>, Failure>
+    requires { 1 ≤ n }
 {
-    let text = torus_text(alloc, size)?;
-    let input = read(alloc, &text).map_err(|_| Failure::Input)?;
-    Ok(input.draft)
+    draft_of(alloc, torus_text(alloc, n)?.as_bytes())
 }
 
-/// The sheaf of the draft.
-pub(crate) fn sealed(draft: Draft<Field>) -> Result<Sheaf<Field>, Failure> {
-    match draft.seal() {
-        Ok(sheaf) => Ok(sheaf),
-        Err(_) => Err(Failure::Input),
+/// What the input describes.
+pub fn draft_of(alloc: Global, input: &[u8]) -> Result<Draft<Field>, Failure> {
+    Ok(read(alloc, input).map_err(|_| Failure::Input)?.draft)
+}
+
+pub fn sealed(draft: Draft<Field>) -> Result<Sheaf<Field>, Failure> {
+    draft.seal().map_err(|_| Failure::Input)
+}
+
+/// The checksum of the restrictions.
+fn checksum_of(draft: &Draft<Field>) -> u32 {
+    let mut sum = 0;
+    for block in draft.blocks.as_slice() {
+        sum = checksum(sum, block.entries.as_slice());
     }
+    sum
 }
 
-pub(crate) fn run_seal<R: Clock + AllocGlobal>(rt: &R, size: u32) -> Result<Report, Failure>
-    requires positive { 1 ≤ size }
-    requires small { size ≤ 32 }
+pub fn time_read<R: Clock + AllocGlobal>(rt: &R, n: u8) -> Result<Report, Failure>
+    requires { 1 ≤ n }
 {
-    let draft = torus_draft(rt.alloc(), size)?;
-    let watch = Watch::start(rt);
+    let text = torus_text(rt.alloc(), n)?;
+    let start = Instant::now(rt)?;
+    let draft = draft_of(rt.alloc(), text.as_bytes())?;
+    let time = start.elapsed(rt)?;
+    let count = u32::try_from(text.len()).unwrap_or(u32::MAX);
+    Ok(timed(rt.alloc(), time, count, "bytes", checksum_of(&draft))?)
+}
+
+pub fn time_seal<R: Clock + AllocGlobal>(rt: &R, n: u8) -> Result<Report, Failure>
+    requires { 1 ≤ n }
+{
+    let draft = torus(rt.alloc(), n)?;
+    let start = Instant::now(rt)?;
     let sheaf = sealed(draft)?;
-    let time = watch.time(rt);
-    Ok(report(rt.alloc(), 4 * size * size, "squares", sheaf.draft(), time)?)
+    let time = start.elapsed(rt)?;
+    let count = 4 * u32::from(n) * u32::from(n);
+    Ok(timed(
+        rt.alloc(),
+        time,
+        count,
+        "squares",
+        checksum_of(sheaf.draft()),
+    )?)
+}
+
+pub fn time_put<R: Clock + AllocGlobal>(rt: &R, n: u8) -> Result<Report, Failure>
+    requires { 1 ≤ n }
+{
+    let mut sheaf = sealed(torus(rt.alloc(), n)?)?;
+    let Draft { stalks, blocks, .. } = draft_with_face(rt.alloc(), &sheaf)?;
+    let start = Instant::now(rt)?;
+    let answer = sheaf.put_all(stalks, blocks, &[0]);
+    let time = start.elapsed(rt)?;
+    if answer.is_err() {
+        return Err(Failure::Made);
+    }
+    Ok(timed(rt.alloc(), time, 2, "squares", checksum_of(sheaf.draft()))?)
 }
 
 /// A copy of the draft of a sheaf that has a face.
@@ -162,19 +133,4 @@ fn draft_with_face(alloc: Global, sheaf: &Sheaf<Field>) -> Result<Draft<Field>, 
         return Err(Failure::Made);
     }
     Ok(draft)
-}
-
-pub(crate) fn run_put<R: Clock + AllocGlobal>(rt: &R, size: u32) -> Result<Report, Failure>
-    requires positive { 1 ≤ size }
-    requires small { size ≤ 32 }
-{
-    let mut sheaf = sealed(torus_draft(rt.alloc(), size)?)?;
-    let Draft { stalks, blocks, .. } = draft_with_face(rt.alloc(), &sheaf)?;
-    let watch = Watch::start(rt);
-    let answer = sheaf.put_all(stalks, blocks, &[0]);
-    let time = watch.time(rt);
-    if answer.is_err() {
-        return Err(Failure::Made);
-    }
-    Ok(report(rt.alloc(), 2, "squares", sheaf.draft(), time)?)
 }
