@@ -23,15 +23,16 @@ use std::{env, io};
 
 /// The table of the workloads: of each its name, its sizes, and what runs it.
 fn run<R: Clock + Input + AllocGlobal>(rt: &R, name: &str, size: u32) -> Result<Report, Failure> {
+    let alloc = rt.alloc();
     match (name, size) {
-        ("product", 1..=1024) => time_product(rt, size),
-        ("solve", 1..=1024) => time_solve(rt, size),
-        ("invert", 1..=1024) => time_invert(rt, size),
-        ("merge", 1..=64) => time_merge(rt, size as u8),
-        ("seal", 2..=32) => time_seal(rt, size as u8),
-        ("put", 2..=32) => time_put(rt, size as u8),
-        ("read-torus", 2..=32) => time_read(rt, size as u8),
-        ("reduce", 0) => reduce_input(rt),
+        ("product", 1..=1024) => time_product(rt, alloc, size),
+        ("solve", 1..=1024) => time_solve(rt, alloc, size),
+        ("invert", 1..=1024) => time_invert(rt, alloc, size),
+        ("merge", 1..=64) => time_merge(rt, alloc, size as u8),
+        ("seal", 2..=32) => time_seal(rt, alloc, size as u8),
+        ("put", 2..=32) => time_put(rt, alloc, size as u8),
+        ("read-torus", 2..=32) => time_read(rt, alloc, size as u8),
+        ("reduce", 0) => reduce_input(rt, alloc),
         _ => Err(Failure::Words),
     }
 }

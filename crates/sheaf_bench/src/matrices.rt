@@ -2,11 +2,11 @@ ghost use Rattle.std.specs.Prelude.{◌≡◌, ◌<◌, ◌≤◌, length, All, 
 ghost use Rattle.dense_blocks.specs.Vectors.{AllScalars};
 ghost use Rattle.dense_blocks.specs.Two.{two};
 
-use crate::report::{Failure, Report, checksum, timed};
+use crate::report::{Failure, Report, Span, checksum, timed};
 use dense_blocks::{Block, Inverse, Scalars, Solution, Two, invert, product, solve};
 use std::alloc::{AllocError as NoMemory, Global};
 use std::rt::Clock;
-use std::time::{Duration, Instant};
+use std::time::Instant;
 
 /// Which entries of a block are scalars of the sequence: all; or those below the diagonal, or above it, and then there
 /// are ones on the diagonal and zeros beyond it.
@@ -65,48 +65,48 @@ impl Sequence {
     }
 }
 
-pub fn time_product<R: Clock + AllocGlobal>(rt: &R, n: u32) -> Result<Report, Failure>
+pub fn time_product<R: Clock>(rt: &R, alloc: Global, n: u32) -> Result<Report, Failure>
     requires { n ≤ 1024 }
 {
     let mut sequence = Sequence { state: 1 };
-    let a = sequence.block(rt.alloc(), n, n, Shape::Full)?;
-    let b = sequence.block(rt.alloc(), n, n, Shape::Full)?;
-    let start = Instant::now(rt)?;
-    let c = product(rt.alloc(), &Two, &a, &b)?;
-    let time = start.elapsed(rt)?;
-    Ok(report(rt.alloc(), time, 2 * n * n * n, c.entries.as_slice())?)
+    let a = sequence.block(alloc, n, n, Shape::Full)?;
+    let b = sequence.block(alloc, n, n, Shape::Full)?;
+    let start = Instant::now(rt).ok();
+    let c = product(alloc, &Two, &a, &b)?;
+    let end = Instant::now(rt).ok();
+    report(alloc, (start, end), 2 * n * n * n, c.entries.as_slice())
 }
 
-pub fn time_solve<R: Clock + AllocGlobal>(rt: &R, n: u32) -> Result<Report, Failure>
+pub fn time_solve<R: Clock>(rt: &R, alloc: Global, n: u32) -> Result<Report, Failure>
     requires { n ≤ 1024 }
 {
-    let columns = columns(rt.alloc(), n)?;
-    let sum = sum_of(rt.alloc(), n as usize, &columns)?;
-    let start = Instant::now(rt)?;
-    let solution = solve(rt.alloc(), &Two, &columns, &sum)?;
-    let time = start.elapsed(rt)?;
+    let columns = columns(alloc, n)?;
+    let sum = sum_of(alloc, n as usize, &columns)?;
+    let start = Instant::now(rt).ok();
+    let solution = solve(alloc, &Two, &columns, &sum)?;
+    let end = Instant::now(rt).ok();
     match solution {
-        Solution::Combination(c) => Ok(report(rt.alloc(), time, n * n * (n + 1), &c)?),
+        Solution::Combination(c) => report(alloc, (start, end), n * n * (n + 1), &c),
         Solution::Apart(_) => Err(Failure::Made),
     }
 }
 
-pub fn time_invert<R: Clock + AllocGlobal>(rt: &R, n: u32) -> Result<Report, Failure>
+pub fn time_invert<R: Clock>(rt: &R, alloc: Global, n: u32) -> Result<Report, Failure>
     requires { n ≤ 1024 }
 {
-    let a = invertible(rt.alloc(), n)?;
-    let start = Instant::now(rt)?;
-    let inverse = invert(rt.alloc(), &Two, &a)?;
-    let time = start.elapsed(rt)?;
+    let a = invertible(alloc, n)?;
+    let start = Instant::now(rt).ok();
+    let inverse = invert(alloc, &Two, &a)?;
+    let end = Instant::now(rt).ok();
     match inverse {
-        Inverse::Both(b) => Ok(report(rt.alloc(), time, 2 * n * n * n, b.entries.as_slice())?),
+        Inverse::Both(b) => report(alloc, (start, end), 2 * n * n * n, b.entries.as_slice()),
         Inverse::Singular(_) => Err(Failure::Made),
     }
 }
 
 /// The report of a call whose result has these scalars.
-fn report(alloc: Global, time: Duration, count: u32, scalars: &[u8]) -> Result<Report, NoMemory> {
-    timed(alloc, time, count, "field operations", checksum(0, scalars))
+fn report(alloc: Global, span: Span, count: u32, scalars: &[u8]) -> Result<Report, Failure> {
+    timed(alloc, span, count, "field operations", checksum(0, scalars))
 }
 
 /// A block that has an inverse: a product of two triangles.
@@ -121,7 +121,6 @@ fn invertible(alloc: Global, n: u32) -> Result<Block, NoMemory>
     product(alloc, &Two, &lower, &upper)
 }
 
-/// n columns of n coordinates.
 fn columns(alloc: Global, n: u32) -> Result<Vec<Vec<u8>>, NoMemory>
     requires { n ≤ 1024 }
     ensures sizes { IfOk result (λ cs. All (λ c. length c.items ≡ n) cs.items) }
@@ -136,7 +135,6 @@ fn columns(alloc: Global, n: u32) -> Result<Vec<Vec<u8>>, NoMemory>
     Ok(columns)
 }
 
-/// The sum of columns of `size` coordinates.
 fn sum_of(alloc: Global, size: usize, columns: &[Vec<u8>]) -> Result<Vec<u8>, NoMemory>
     requires sizes { All (λ c. length c.items ≡ size) columns.now }
     requires scalars { All (λ c. AllScalars two c.items) columns.now }

@@ -31,13 +31,22 @@ fn crossed(alloc: Global, n: u8) -> Result<Blocks, Failure> {
     Ok(blocks)
 }
 
-/// The block complex of `count` cells of degree 0 and as many of degree 1, without any block.
+/// `count` cells of degree 0 and as many of degree 1, each with one coordinate.
+fn cells(alloc: Global, count: u32) -> Result<Vec<(u32, u8, u8)>, NoMemory>
+    requires { count ≤ 511 }
+{
+    let mut cells = Vec::new(alloc);
+    for cell in 0..2 * count {
+        cells.push((cell, u8::from(cell >= count), 1))?;
+    }
+    Ok(cells)
+}
+
+/// The block complex of these cells, without any block.
 fn without_blocks(alloc: Global, count: u32) -> Result<Blocks, Failure>
     requires { count ≤ 511 }
 {
-    let cells: Vec<(u32, u8, u8)> = (0..2 * count)
-        .map(|cell| (cell, u8::from(cell >= count), 1))
-        .collect(alloc)?;
+    let cells = cells(alloc, count)?;
     if !Blocks::may_live(&cells) {
         return Err(Failure::Made);
     }
@@ -49,7 +58,6 @@ fn has_block(i: u32, j: u32) -> bool {
     (i != 0 || j == 0 || j % 2 == 1) && (j != 0 || i == 0 || i % 2 == 1)
 }
 
-/// Puts a block of the entry 1.
 fn put(alloc: Global, blocks: &mut Blocks, s: u32, t: u32) -> Result<(), Failure> {
     let one = Block::identity(alloc, 1)?;
     if !blocks.fits(s, t, &one) {
@@ -58,21 +66,22 @@ fn put(alloc: Global, blocks: &mut Blocks, s: u32, t: u32) -> Result<(), Failure
     Ok(blocks.set(s, t, one)?)
 }
 
-pub fn time_merge<R: Clock + AllocGlobal>(rt: &R, n: u8) -> Result<Report, Failure>
+pub fn time_merge<R: Clock>(rt: &R, alloc: Global, n: u8) -> Result<Report, Failure>
     requires { 1 ≤ n }
 {
-    let mut blocks = crossed(rt.alloc(), n)?;
+    let mut blocks = crossed(alloc, n)?;
     let y = 2 * u32::from(n) + 1;
-    let foot = footprint(rt.alloc(), &blocks, y)?;
-    let negative = negative(rt.alloc(), &foot)?;
+    let foot = footprint(alloc, &blocks, y)?;
+    let negative = negative(alloc, &foot)?;
     let grid = u32::from(n) * u32::from(n);
     let rounds = PUT / grid;
-    let start = Instant::now(rt)?;
+    let start = Instant::now(rt).ok();
     merge(&mut blocks, &foot, &negative, rounds)?;
-    let time = start.elapsed(rt)?;
-    let put = footprint(rt.alloc(), &blocks, y)?;
+    let end = Instant::now(rt).ok();
+    let put = footprint(alloc, &blocks, y)?;
     let sum = checksum(0, put.corners.entries.as_slice());
-    Ok(timed(rt.alloc(), time, rounds.saturating_mul(grid), "blocks", sum)?)
+    let count = rounds.saturating_mul(grid);
+    timed(alloc, (start, end), count, "blocks", sum)
 }
 
 /// The footprint of the pair of the cells 0 and `y`.

@@ -26,22 +26,21 @@ struct Tally {
     updates: u64,
 }
 
-pub fn reduce_input<R: Input + AllocGlobal>(rt: &R) -> Result<Report, Failure> {
-    let sheaf = input_sheaf(rt)?;
-    let mut blocks = start(rt.alloc(), &sheaf)?;
-    let Tally { pairs, updates } = reduce(rt.alloc(), sheaf.draft().field, &mut blocks)?;
+pub fn reduce_input<R: Input>(rt: &R, alloc: Global) -> Result<Report, Failure> {
+    let sheaf = input_sheaf(rt, alloc)?;
+    let mut blocks = start(alloc, &sheaf)?;
+    let Tally { pairs, updates } = reduce(alloc, sheaf.draft().field, &mut blocks)?;
     let left = blocks.live().len();
     Ok(Report {
-        result: format!(in rt.alloc(); "{pairs} pairs, {updates} updates, {left} cells left")?,
+        result: format!(in alloc; "{pairs} pairs, {updates} updates, {left} cells left")?,
         time: None,
     })
 }
 
-/// The sheaf of standard input.
-fn input_sheaf<R: Input + AllocGlobal>(rt: &R) -> Result<Sheaf<Field>, Failure> {
+fn input_sheaf<R: Input>(rt: &R, alloc: Global) -> Result<Sheaf<Field>, Failure> {
     let mut source = StdSource::new(rt.reader());
-    let text = read_all(rt.alloc(), &mut source, MOST_BYTES).map_err(|_| Failure::Input)?;
-    sealed(draft_of(rt.alloc(), &text)?)
+    let text = read_all(alloc, &mut source, MOST_BYTES).map_err(|_| Failure::Input)?;
+    sealed(draft_of(alloc, &text)?)
 }
 
 /// The block complex of a sheaf, over its field.

@@ -1,5 +1,5 @@
 use std::alloc::{AllocError as NoMemory, Global};
-use std::time::Duration;
+use std::time::{Duration, Instant};
 use std::{fmt, io};
 
 /// What came of a workload.
@@ -11,17 +11,23 @@ pub struct Report {
     pub time: Option<(Duration, u32)>,
 }
 
-/// The report of a call that took so long over so many of a unit, and whose result has this checksum.
+/// The readings of the clock before and after a call, none where it failed.
+pub type Span = (Option<Instant>, Option<Instant>);
+
+/// The report of a call over so many of a unit, whose result has this checksum.
 pub fn timed(
     alloc: Global,
-    time: Duration,
+    span: Span,
     count: u32,
     unit: &str,
     checksum: u32,
-) -> Result<Report, NoMemory> {
+) -> Result<Report, Failure> {
+    let (Some(start), Some(end)) = span else {
+        return Err(Failure::Outside);
+    };
     Ok(Report {
         result: format!(in alloc; "{count} {unit}, checksum {checksum:08x}")?,
-        time: Some((time, count)),
+        time: Some((end.duration_since(start), count)),
     })
 }
 

@@ -1,6 +1,6 @@
 ghost use Rattle.std.specs.Prelude.{◌≡◌, ◌<◌, ◌≤◌, ◌^◌, length, IfOk, OnOk};
 
-use crate::report::{Failure, Report, checksum, timed};
+use crate::report::{Failure, Report, Span, checksum, timed};
 use field_table::Field;
 use sheaf_data::{Draft, Sheaf};
 use sheaf_text::read;
@@ -63,7 +63,6 @@ fn torus(alloc: Global, n: u8) -> Result<Draft<Field>, Failure>
     draft_of(alloc, torus_text(alloc, n)?.as_bytes())
 }
 
-/// What the input describes.
 pub fn draft_of(alloc: Global, input: &[u8]) -> Result<Draft<Field>, Failure> {
     Ok(read(alloc, input).map_err(|_| Failure::Input)?.draft)
 }
@@ -72,55 +71,54 @@ pub fn sealed(draft: Draft<Field>) -> Result<Sheaf<Field>, Failure> {
     draft.seal().map_err(|_| Failure::Input)
 }
 
-/// The checksum of the restrictions.
-fn checksum_of(draft: &Draft<Field>) -> u32 {
+fn report(
+    alloc: Global,
+    span: Span,
+    n: u32,
+    unit: &str,
+    d: &Draft<Field>,
+) -> Result<Report, Failure> {
     let mut sum = 0;
-    for block in draft.blocks.as_slice() {
+    for block in d.blocks.as_slice() {
         sum = checksum(sum, block.entries.as_slice());
     }
-    sum
+    timed(alloc, span, n, unit, sum)
 }
 
-pub fn time_read<R: Clock + AllocGlobal>(rt: &R, n: u8) -> Result<Report, Failure>
+pub fn time_read<R: Clock>(rt: &R, alloc: Global, n: u8) -> Result<Report, Failure>
     requires { 1 ≤ n }
 {
-    let text = torus_text(rt.alloc(), n)?;
-    let start = Instant::now(rt)?;
-    let draft = draft_of(rt.alloc(), text.as_bytes())?;
-    let time = start.elapsed(rt)?;
+    let text = torus_text(alloc, n)?;
+    let start = Instant::now(rt).ok();
+    let draft = draft_of(alloc, text.as_bytes())?;
+    let end = Instant::now(rt).ok();
     let count = u32::try_from(text.len()).unwrap_or(u32::MAX);
-    Ok(timed(rt.alloc(), time, count, "bytes", checksum_of(&draft))?)
+    report(alloc, (start, end), count, "bytes", &draft)
 }
 
-pub fn time_seal<R: Clock + AllocGlobal>(rt: &R, n: u8) -> Result<Report, Failure>
+pub fn time_seal<R: Clock>(rt: &R, alloc: Global, n: u8) -> Result<Report, Failure>
     requires { 1 ≤ n }
 {
-    let draft = torus(rt.alloc(), n)?;
-    let start = Instant::now(rt)?;
+    let draft = torus(alloc, n)?;
+    let start = Instant::now(rt).ok();
     let sheaf = sealed(draft)?;
-    let time = start.elapsed(rt)?;
+    let end = Instant::now(rt).ok();
     let count = 4 * u32::from(n) * u32::from(n);
-    Ok(timed(
-        rt.alloc(),
-        time,
-        count,
-        "squares",
-        checksum_of(sheaf.draft()),
-    )?)
+    report(alloc, (start, end), count, "squares", sheaf.draft())
 }
 
-pub fn time_put<R: Clock + AllocGlobal>(rt: &R, n: u8) -> Result<Report, Failure>
+pub fn time_put<R: Clock>(rt: &R, alloc: Global, n: u8) -> Result<Report, Failure>
     requires { 1 ≤ n }
 {
-    let mut sheaf = sealed(torus(rt.alloc(), n)?)?;
-    let Draft { stalks, blocks, .. } = draft_with_face(rt.alloc(), &sheaf)?;
-    let start = Instant::now(rt)?;
+    let mut sheaf = sealed(torus(alloc, n)?)?;
+    let Draft { stalks, blocks, .. } = draft_with_face(alloc, &sheaf)?;
+    let start = Instant::now(rt).ok();
     let answer = sheaf.put_all(stalks, blocks, &[0]);
-    let time = start.elapsed(rt)?;
+    let end = Instant::now(rt).ok();
     if answer.is_err() {
         return Err(Failure::Made);
     }
-    Ok(timed(rt.alloc(), time, 2, "squares", checksum_of(sheaf.draft()))?)
+    report(alloc, (start, end), 2, "squares", sheaf.draft())
 }
 
 /// A copy of the draft of a sheaf that has a face.
