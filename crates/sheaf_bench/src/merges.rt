@@ -1,7 +1,7 @@
 ghost use Rattle.std.specs.Prelude.{◌≡◌, ◌≤◌, IfOk, OnOk};
 ghost use Rattle.sheaf_bench.specs.Merges.{MayJoin};
 
-use crate::report::{Failure, Report, checksum, timed};
+use crate::report::{Failure, Report, Span, checksum, timed};
 use block_sparse::Blocks;
 use dense_blocks::{Block, minus};
 use field_table::Field;
@@ -71,17 +71,27 @@ pub fn time_merge<R: Clock>(rt: &R, alloc: Global, n: u8) -> Result<Report, Fail
 {
     let mut blocks = crossed(alloc, n)?;
     let y = 2 * u32::from(n) + 1;
-    let foot = footprint(alloc, &blocks, y)?;
-    let negative = negative(alloc, &foot)?;
     let grid = u32::from(n) * u32::from(n);
     let rounds = PUT / grid;
-    let start = Instant::now(rt).ok();
-    merge(&mut blocks, &foot, &negative, rounds)?;
-    let end = Instant::now(rt).ok();
+    let span = time_rounds(rt, alloc, &mut blocks, y, rounds)?;
     let put = footprint(alloc, &blocks, y)?;
     let sum = checksum(0, put.corners.entries.as_slice());
-    let count = rounds.saturating_mul(grid);
-    timed(alloc, (start, end), count, "blocks", sum)
+    timed(alloc, span, rounds.saturating_mul(grid), "blocks", sum)
+}
+
+/// Puts the corners of the pair of the cells 0 and `y`, so many times in all.
+fn time_rounds<R: Clock>(
+    rt: &R,
+    alloc: Global,
+    blocks: &mut Blocks,
+    y: u32,
+    rounds: u32,
+) -> Result<Span, Failure> {
+    let foot = footprint(alloc, blocks, y)?;
+    let negative = negative(alloc, &foot)?;
+    let start = Instant::now(rt).ok();
+    merge(blocks, &foot, &negative, rounds)?;
+    Ok((start, Instant::now(rt).ok()))
 }
 
 /// The footprint of the pair of the cells 0 and `y`.

@@ -24,13 +24,16 @@ struct Tally {
     pairs: u64,
     /// How many corners it computed anew: at each removal the cells on the left times the cells below.
     updates: u64,
+    /// How many cells are left.
+    left: usize,
 }
 
 pub fn reduce_input<R: Input>(rt: &R, alloc: Global) -> Result<Report, Failure> {
-    let sheaf = input_sheaf(rt, alloc)?;
-    let mut blocks = start(alloc, &sheaf)?;
-    let Tally { pairs, updates } = reduce(alloc, sheaf.draft().field, &mut blocks)?;
-    let left = blocks.live().len();
+    let Tally {
+        pairs,
+        updates,
+        left,
+    } = reduce_sheaf(alloc, input_sheaf(rt, alloc)?)?;
     Ok(Report {
         result: format!(in alloc; "{pairs} pairs, {updates} updates, {left} cells left")?,
         time: None,
@@ -41,6 +44,11 @@ fn input_sheaf<R: Input>(rt: &R, alloc: Global) -> Result<Sheaf<Field>, Failure>
     let mut source = StdSource::new(rt.reader());
     let text = read_all(alloc, &mut source, MOST_BYTES).map_err(|_| Failure::Input)?;
     sealed(draft_of(alloc, &text)?)
+}
+
+fn reduce_sheaf(alloc: Global, sheaf: Sheaf<Field>) -> Result<Tally, Failure> {
+    let mut blocks = start(alloc, &sheaf)?;
+    reduce(alloc, sheaf.draft().field, &mut blocks)
 }
 
 /// The block complex of a sheaf, over its field.
@@ -61,6 +69,7 @@ fn reduce(alloc: Global, f: Field, b: &mut Blocks) -> Result<Tally, Failure>
     let mut tally = Tally {
         pairs: 0,
         updates: 0,
+        left: 0,
     };
     let mut from = (0, 0);
     for _step in 0..u64::MAX {
@@ -69,6 +78,7 @@ fn reduce(alloc: Global, f: Field, b: &mut Blocks) -> Result<Tally, Failure>
         };
         from = try_pair(alloc, f, b, pair, &mut tally)?;
     }
+    tally.left = b.live().len();
     Ok(tally)
 }
 

@@ -111,7 +111,12 @@ pub fn time_put<R: Clock>(rt: &R, alloc: Global, n: u8) -> Result<Report, Failur
     requires { 1 ≤ n }
 {
     let mut sheaf = sealed(torus(alloc, n)?)?;
-    let Draft { stalks, blocks, .. } = draft_with_face(alloc, &sheaf)?;
+    put_again(rt, alloc, &mut sheaf)
+}
+
+/// Puts the stalks and blocks that stand.
+fn put_again<R: Clock>(rt: &R, alloc: Global, sheaf: &mut Sheaf<Field>) -> Result<Report, Failure> {
+    let Draft { stalks, blocks, .. } = draft_with_face(alloc, sheaf)?;
     let start = Instant::now(rt).ok();
     let answer = sheaf.put_all(stalks, blocks, &[0]);
     let end = Instant::now(rt).ok();
