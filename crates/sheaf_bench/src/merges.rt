@@ -98,7 +98,10 @@ fn time_rounds<R: Clock>(
 fn footprint(alloc: Global, blocks: &Blocks, y: u32) -> Result<Footprint, Failure>
     ensures { IfOk result (λ foot. MayJoin blocks.now.live foot.left foot.below) }
 {
-    if blocks.get(0, y).is_none() || blocks.size(y) != blocks.size(0) {
+    let Some(_) = blocks.get(0, y) else {
+        return Err(Failure::Made);
+    };
+    if blocks.size(y) != blocks.size(0) {
         return Err(Failure::Made);
     }
     // This call is made for its clauses alone.
