@@ -10,6 +10,7 @@ mod matrices;
 mod merges;
 mod reduction;
 mod report;
+mod texts;
 mod torus;
 
 use crate::matrices::{time_invert, time_product, time_solve};

@@ -1,7 +1,9 @@
 ghost use Rattle.std.specs.Prelude.{◌≡◌, ◌≤◌, IfOk, OnOk};
 ghost use Rattle.sheaf_bench.specs.Merges.{MayJoin};
 
+use crate::reduction::start;
 use crate::report::{Failure, Report, Span, checksum, timed};
+use crate::texts::{add_cells, add_face, sheaf_of};
 use block_sparse::Blocks;
 use dense_blocks::{Block, minus};
 use field_table::Field;
@@ -13,57 +15,38 @@ use std::time::Instant;
 /// How many blocks are put in all, or a few less.
 const PUT: u32 = 65_536;
 
-/// A block complex of blocks of one entry, each 1, between `2n + 1` cells of degree 0 and as many of degree 1.
+/// Adds the text of a sheaf whose blocks have one entry, each 1, between `2n + 1` cells of degree 2 and as
+/// many of degree 3.
 ///
 /// From each of the first to each of the second goes a block, with two exceptions: from the first cell blocks go to the
-/// first and to every second of the others alone, and to the first cell of degree 1 they go from the first and from
+/// first and to every second of the others alone, and to the first cell of degree 3 they go from the first and from
 /// every second of the others alone. So the pair of the two first cells has `n` cells on the left and `n` below, and
 /// all rows and columns of these hold `n + 1` other blocks.
-fn crossed(alloc: Global, n: u8) -> Result<Blocks, Failure> {
+fn add_crossed(alloc: Global, text: &mut String, n: u8) -> Result<(), NoMemory> {
     let count = 2 * u32::from(n) + 1;
-    let mut blocks = without_blocks(alloc, count)?;
+    text.push_str("field 31\n")?;
+    add_cells(text, count, "cell 2 1\n")?;
+    add_cells(text, count, "cell 3 1\n")?;
     for pair in 0..count * count {
         let (i, j) = (pair % count, pair / count);
         if has_block(i, j) {
-            put(alloc, &mut blocks, i, count + j)?;
+            add_face(alloc, text, (i, count + j), '+')?;
         }
     }
-    Ok(blocks)
+    text.push_str("done\n")
 }
 
-/// `count` cells of degree 0 and as many of degree 1, each with one coordinate.
-fn cells(alloc: Global, count: u32) -> Result<Vec<(u32, u8, u8)>, NoMemory>
-    requires { count ≤ 511 }
-{
-    let mut cells = Vec::new(alloc);
-    for cell in 0..2 * count {
-        cells.push((cell, u8::from(cell >= count), 1))?;
-    }
-    Ok(cells)
-}
-
-/// The block complex of these cells, without any block.
-fn without_blocks(alloc: Global, count: u32) -> Result<Blocks, Failure>
-    requires { count ≤ 511 }
-{
-    let cells = cells(alloc, count)?;
-    if !Blocks::may_live(&cells) {
-        return Err(Failure::Made);
-    }
-    Ok(Blocks::of_cells(alloc, &cells)?)
-}
-
-/// Whether a block goes from the cell at `i` of degree 0 to that at `j` of degree 1.
+/// Whether a block goes from the cell at `i` of degree 2 to that at `j` of degree 3.
 fn has_block(i: u32, j: u32) -> bool {
     (i != 0 || j == 0 || j % 2 == 1) && (j != 0 || i == 0 || i % 2 == 1)
 }
 
-fn put(alloc: Global, blocks: &mut Blocks, s: u32, t: u32) -> Result<(), Failure> {
-    let one = Block::identity(alloc, 1)?;
-    if !blocks.fits(s, t, &one) {
-        return Err(Failure::Made);
-    }
-    Ok(blocks.set(s, t, one)?)
+/// The block complex of that sheaf.
+fn crossed(alloc: Global, n: u8) -> Result<Blocks, Failure> {
+    let mut text = String::new(alloc);
+    add_crossed(alloc, &mut text, n)?;
+    let sheaf = sheaf_of(alloc, text.as_bytes())?;
+    Ok(start(alloc, &sheaf)?)
 }
 
 pub fn time_merge<R: Clock>(rt: &R, alloc: Global, n: u8) -> Result<Report, Failure>

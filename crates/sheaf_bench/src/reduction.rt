@@ -5,7 +5,7 @@ ghost use Rattle.block_sparse.specs.Candidates.{is_candidate};
 ghost use Rattle.block_sparse.specs.StoredBlocks.{complex_in};
 
 use crate::report::{Failure, Report};
-use crate::torus::{draft_of, sealed};
+use crate::texts::sheaf_of;
 use block_sparse::Blocks;
 use coboundary::{full, start_is_block_complex};
 use field_table::Field;
@@ -29,21 +29,18 @@ struct Tally {
 }
 
 pub fn reduce_input<R: Input>(rt: &R, alloc: Global) -> Result<Report, Failure> {
-    let Tally {
-        pairs,
-        updates,
-        left,
-    } = reduce_sheaf(alloc, input_sheaf(rt, alloc)?)?;
-    Ok(Report {
-        result: format!(in alloc; "{pairs} pairs, {updates} updates, {left} cells left")?,
-        time: None,
-    })
+    let t = reduce_sheaf(alloc, input_sheaf(rt, alloc)?)?;
+    let result = format!(in alloc;
+        "{} pairs, {} updates, {} cells left",
+        t.pairs, t.updates, t.left
+    )?;
+    Ok(Report { result, time: None })
 }
 
 fn input_sheaf<R: Input>(rt: &R, alloc: Global) -> Result<Sheaf<Field>, Failure> {
     let mut source = StdSource::new(rt.reader());
     let text = read_all(alloc, &mut source, MOST_BYTES).map_err(|_| Failure::Input)?;
-    sealed(draft_of(alloc, &text)?)
+    sheaf_of(alloc, &text)
 }
 
 fn reduce_sheaf(alloc: Global, sheaf: Sheaf<Field>) -> Result<Tally, Failure> {
@@ -52,7 +49,7 @@ fn reduce_sheaf(alloc: Global, sheaf: Sheaf<Field>) -> Result<Tally, Failure> {
 }
 
 /// The block complex of a sheaf, over its field.
-fn start(alloc: Global, sheaf: &Sheaf<Field>) -> Result<Blocks, NoMemory>
+pub fn start(alloc: Global, sheaf: &Sheaf<Field>) -> Result<Blocks, NoMemory>
     ensures { IfOk result (λ b. IsBlockComplex (ops_of sheaf.now.field) (complex_in b)) }
 {
     // These two calls are made for their clauses alone.
@@ -124,14 +121,14 @@ fn count_removal(foot: &Footprint, tally: &mut Tally) -> (u32, u32) {
     }
 }
 
-fn remove(b: &mut Blocks, record: Record<Field>) -> Result<(), Failure>
-    requires { IsBlockComplex (ops_of record.f) (complex_in b.old) }
-    ensures { OnOk result (IsBlockComplex (ops_of record.f) (complex_in b.new)) }
+fn remove(b: &mut Blocks, removal: Record<Field>) -> Result<(), Failure>
+    requires { IsBlockComplex (ops_of removal.f) (complex_in b.old) }
+    ensures { OnOk result (IsBlockComplex (ops_of removal.f) (complex_in b.new)) }
 {
     removal_keeps_block_complex();
-    let Ok(()) = record.fits(b) else {
+    let Ok(()) = removal.fits(b) else {
         return Err(Failure::Made);
     };
-    record.apply(b)?;
+    removal.apply(b)?;
     Ok(())
 }

@@ -1,6 +1,7 @@
 use std::alloc::{AllocError as NoMemory, Global};
+use std::io;
 use std::time::{Duration, Instant};
-use std::{fmt, io};
+use thiserror::Error;
 
 /// What came of a workload.
 #[derive(Drop)]
@@ -41,38 +42,24 @@ pub fn checksum(mut sum: u32, bytes: &[u8]) -> u32 {
 }
 
 /// Why a workload was refused, or gave nothing.
-#[derive(Drop)]
+#[derive(Clone, Copy, Debug, Error)]
 pub enum Failure {
+    #[error("wanted are a workload and a size of it, as docs/PERFORMANCE.md lists them")]
     Words,
-    Memory,
+    #[error("out of memory")]
+    Memory(#[from] NoMemory),
+    #[error("the clock, the words, the input or the output failed")]
     Outside,
+    #[error("the input cannot be read, or is no sheaf")]
     Input,
+    #[error("the workload was not made as it was to be")]
     Made,
-}
-
-impl fmt::Display for Failure {
-    fn fmt<W: fmt::Write>(&self, f: &mut fmt::Formatter<W>) -> fmt::Result {
-        f.write_str(match self {
-            Failure::Words =>
-                "wanted are a workload and a size of it, as docs/PERFORMANCE.md lists them",
-            Failure::Memory => "out of memory",
-            Failure::Outside => "the clock, the words, the input or the output failed",
-            Failure::Input => "the input cannot be read, or is no sheaf",
-            Failure::Made => "the workload was not made as it was to be",
-        })
-    }
-}
-
-impl From<NoMemory> for Failure {
-    fn from(_: NoMemory) -> Self {
-        Failure::Memory
-    }
 }
 
 /// Memory ran out, and what was handed in came back.
 impl<T: Drop> From<(T, NoMemory)> for Failure {
-    fn from(_: (T, NoMemory)) -> Self {
-        Failure::Memory
+    fn from((_, fault): (T, NoMemory)) -> Self {
+        Failure::Memory(fault)
     }
 }
 
