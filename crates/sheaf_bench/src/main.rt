@@ -16,14 +16,14 @@ mod torus;
 use crate::matrices::{time_invert, time_product, time_solve};
 use crate::merges::time_merge;
 use crate::reduction::reduce_input;
-use crate::report::{Failure, Report};
+use crate::report::{Failure, Outcome, Report};
 use crate::torus::{time_put, time_read, time_seal};
 use std::process::ExitCode;
 use std::rt::{Clock, Env};
 use std::{env, io};
 
 /// The table of the workloads: of each its name, its sizes, and what runs it.
-fn run<R: Clock + Input + AllocGlobal>(rt: &R, name: &str, size: u32) -> Result<Report, Failure> {
+fn run<R: Clock + Input + AllocGlobal>(rt: &R, name: &str, size: u32) -> Outcome {
     let alloc = rt.alloc();
     match (name, size) {
         ("product", 1..=1024) => time_product(rt, alloc, size),

@@ -2,20 +2,15 @@ ghost use Rattle.std.specs.Prelude.{◌≡◌, ◌<◌, ◌≤◌, length, All, 
 ghost use Rattle.dense_blocks.specs.Vectors.{AllScalars};
 ghost use Rattle.dense_blocks.specs.Two.{two};
 
-use crate::report::{Failure, Report, Span, checksum, timed};
+use crate::report::{Failure, Outcome, Span, checksum, timed};
 use dense_blocks::{Block, Inverse, Scalars, Solution, Two, invert, product, solve};
 use std::alloc::{AllocError as NoMemory, Global};
+use std::cmp::Ordering;
 use std::rt::Clock;
 use std::time::Instant;
 
-/// Which entries of a block are scalars of the sequence: all; or those below the diagonal, or above it, and then there
-/// are ones on the diagonal and zeros beyond it.
-#[derive(Clone, Copy)]
-enum Shape {
-    Full,
-    Lower,
-    Upper,
-}
+/// The side of the diagonal where a triangle has scalars of the sequence; none for a block that is no triangle.
+type Side = Option<Ordering>;
 
 /// Scalars of the field of two elements that look like chance, and are the same in every run.
 #[derive(Drop)]
@@ -28,27 +23,23 @@ impl Sequence {
     fn scalar(&mut self) -> u8
         ensures { result < two.order }
     {
-        self.state = self
-            .state
-            .wrapping_mul(6_364_136_223_846_793_005)
-            .wrapping_add(1_442_695_040_888_963_407);
+        let product = self.state.wrapping_mul(6_364_136_223_846_793_005);
+        self.state = product.wrapping_add(1_442_695_040_888_963_407);
         (self.state >> 63) as u8
     }
 
-    /// The entry in row `i` and column `j` of a block of this shape.
-    fn entry(&mut self, shape: Shape, i: usize, j: usize) -> u8
+    /// The entry in row `i` and column `j` of a block. On the diagonal of a triangle are ones, and beyond it zeros.
+    fn entry(&mut self, side: Side, i: usize, j: usize) -> u8
         ensures { result < two.order }
     {
-        match shape {
-            Shape::Full => self.scalar(),
-            Shape::Lower if j < i => self.scalar(),
-            Shape::Upper if i < j => self.scalar(),
-            _ => u8::from(i == j),
+        match side {
+            Some(side) if j.cmp(&i) != side => u8::from(i == j),
+            _ => self.scalar(),
         }
     }
 
     /// A block of m rows and n columns.
-    fn block(&mut self, alloc: Global, m: u32, n: u32, shape: Shape) -> Result<Block, NoMemory>
+    fn block(&mut self, alloc: Global, m: u32, n: u32, side: Side) -> Result<Block, NoMemory>
         requires rows { m ≤ 1024 }
         requires cols { n ≤ 1024 }
         ensures rows { IfOk result (λ b. b.rows ≡ m) }
@@ -59,25 +50,25 @@ impl Sequence {
         let width = n.max(1) as usize;
         let mut entries = Vec::new(alloc);
         for place in 0..m as usize * n as usize {
-            entries.push(self.entry(shape, place / width, place % width))?;
+            entries.push(self.entry(side, place / width, place % width))?;
         }
         Block::of(alloc, m, n, &entries)
     }
 }
 
-pub fn time_product<R: Clock>(rt: &R, alloc: Global, n: u32) -> Result<Report, Failure>
+pub fn time_product<R: Clock>(rt: &R, alloc: Global, n: u32) -> Outcome
     requires { n ≤ 1024 }
 {
     let mut sequence = Sequence { state: 1 };
-    let a = sequence.block(alloc, n, n, Shape::Full)?;
-    let b = sequence.block(alloc, n, n, Shape::Full)?;
+    let a = sequence.block(alloc, n, n, None)?;
+    let b = sequence.block(alloc, n, n, None)?;
     let start = Instant::now(rt).ok();
     let c = product(alloc, &Two, &a, &b)?;
     let end = Instant::now(rt).ok();
     report(alloc, (start, end), 2 * n * n * n, c.entries.as_slice())
 }
 
-pub fn time_solve<R: Clock>(rt: &R, alloc: Global, n: u32) -> Result<Report, Failure>
+pub fn time_solve<R: Clock>(rt: &R, alloc: Global, n: u32) -> Outcome
     requires { n ≤ 1024 }
 {
     let columns = columns(alloc, n)?;
@@ -91,7 +82,7 @@ pub fn time_solve<R: Clock>(rt: &R, alloc: Global, n: u32) -> Result<Report, Fai
     }
 }
 
-pub fn time_invert<R: Clock>(rt: &R, alloc: Global, n: u32) -> Result<Report, Failure>
+pub fn time_invert<R: Clock>(rt: &R, alloc: Global, n: u32) -> Outcome
     requires { n ≤ 1024 }
 {
     let a = invertible(alloc, n)?;
@@ -105,7 +96,7 @@ pub fn time_invert<R: Clock>(rt: &R, alloc: Global, n: u32) -> Result<Report, Fa
 }
 
 /// The report of a call whose result has these scalars.
-fn report(alloc: Global, span: Span, count: u32, scalars: &[u8]) -> Result<Report, Failure> {
+fn report(alloc: Global, span: Span, count: u32, scalars: &[u8]) -> Outcome {
     timed(alloc, span, count, "field operations", checksum(0, scalars))
 }
 
@@ -116,8 +107,8 @@ fn invertible(alloc: Global, n: u32) -> Result<Block, NoMemory>
     ensures scalars { IfOk result (λ b. AllScalars two b.entries) }
 {
     let mut sequence = Sequence { state: 1 };
-    let lower = sequence.block(alloc, n, n, Shape::Lower)?;
-    let upper = sequence.block(alloc, n, n, Shape::Upper)?;
+    let lower = sequence.block(alloc, n, n, Some(Ordering::Less))?;
+    let upper = sequence.block(alloc, n, n, Some(Ordering::Greater))?;
     product(alloc, &Two, &lower, &upper)
 }
 
@@ -129,7 +120,7 @@ fn columns(alloc: Global, n: u32) -> Result<Vec<Vec<u8>>, NoMemory>
     let mut sequence = Sequence { state: 1 };
     let mut columns = Vec::new(alloc);
     for _column in 0..n {
-        let column = sequence.block(alloc, 1, n, Shape::Full)?;
+        let column = sequence.block(alloc, 1, n, None)?;
         columns.push(Vec::from_slice(alloc, column.entries.as_slice())?)?;
     }
     Ok(columns)

@@ -2,7 +2,7 @@ ghost use Rattle.std.specs.Prelude.{◌≡◌, ◌≤◌, IfOk, OnOk};
 ghost use Rattle.sheaf_bench.specs.Merges.{MayJoin};
 
 use crate::reduction::start;
-use crate::report::{Failure, Report, Span, checksum, timed};
+use crate::report::{Failure, Outcome, Span, checksum, timed};
 use crate::texts::{add_cells, add_face, sheaf_of};
 use block_sparse::Blocks;
 use dense_blocks::{Block, minus};
@@ -49,7 +49,7 @@ fn crossed(alloc: Global, n: u8) -> Result<Blocks, Failure> {
     Ok(start(alloc, &sheaf)?)
 }
 
-pub fn time_merge<R: Clock>(rt: &R, alloc: Global, n: u8) -> Result<Report, Failure>
+pub fn time_merge<R: Clock>(rt: &R, alloc: Global, n: u8) -> Outcome
     requires { 1 ≤ n }
 {
     let mut blocks = crossed(alloc, n)?;
@@ -105,20 +105,15 @@ fn negative(alloc: Global, foot: &Footprint) -> Result<Block, Failure>
     Ok(minus(alloc, &field, &foot.corners)?)
 }
 
-/// Puts the negative of the corners and the corners in turn, so many times in all.
-fn merge(
-    blocks: &mut Blocks,
-    foot: &Footprint,
-    negative: &Block,
-    rounds: u32,
-) -> Result<(), NoMemory>
+/// Puts this joined matrix and the corners in turn, so many times in all.
+fn merge(blocks: &mut Blocks, foot: &Footprint, first: &Block, rounds: u32) -> Result<(), NoMemory>
     requires joined { MayJoin blocks.old.live foot.now.left foot.now.below }
-    requires rows { negative.now.rows ≡ foot.now.corners.rows }
-    requires cols { negative.now.cols ≡ foot.now.corners.cols }
+    requires rows { first.now.rows ≡ foot.now.corners.rows }
+    requires cols { first.now.cols ≡ foot.now.corners.cols }
 {
     for round in 0..rounds {
         if round % 2 == 0 {
-            put_grid(blocks, foot, negative)?;
+            put_grid(blocks, foot, first)?;
         } else {
             put_grid(blocks, foot, &foot.corners)?;
         }

@@ -4,7 +4,7 @@ ghost use Rattle.block_complexes.specs.BlockComplexes.{IsBlockComplex};
 ghost use Rattle.block_sparse.specs.Candidates.{is_candidate};
 ghost use Rattle.block_sparse.specs.StoredBlocks.{complex_in};
 
-use crate::report::{Failure, Report};
+use crate::report::{Failure, Outcome, Report};
 use crate::texts::sheaf_of;
 use block_sparse::Blocks;
 use coboundary::{full, start_is_block_complex};
@@ -28,7 +28,7 @@ struct Tally {
     left: usize,
 }
 
-pub fn reduce_input<R: Input>(rt: &R, alloc: Global) -> Result<Report, Failure> {
+pub fn reduce_input<R: Input>(rt: &R, alloc: Global) -> Outcome {
     let t = reduce_sheaf(alloc, input_sheaf(rt, alloc)?)?;
     let result = format!(in alloc;
         "{} pairs, {} updates, {} cells left",

@@ -12,17 +12,14 @@ pub struct Report {
     pub time: Option<(Duration, u32)>,
 }
 
+/// What came of a workload, or why nothing did.
+pub type Outcome = Result<Report, Failure>;
+
 /// The readings of the clock before and after a call, none where it failed.
 pub type Span = (Option<Instant>, Option<Instant>);
 
 /// The report of a call over so many of a unit, whose result has this checksum.
-pub fn timed(
-    alloc: Global,
-    span: Span,
-    count: u32,
-    unit: &str,
-    checksum: u32,
-) -> Result<Report, Failure> {
+pub fn timed(alloc: Global, span: Span, count: u32, unit: &str, checksum: u32) -> Outcome {
     let (Some(start), Some(end)) = span else {
         return Err(Failure::Outside);
     };

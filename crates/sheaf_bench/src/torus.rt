@@ -1,6 +1,6 @@
 ghost use Rattle.std.specs.Prelude.{◌<◌, ◌≤◌, ◌^◌};
 
-use crate::report::{Failure, Report, Span, checksum, timed};
+use crate::report::{Failure, Outcome, Span, checksum, timed};
 use crate::texts::{add_cells, add_face, draft_of, sealed};
 use field_table::Field;
 use sheaf_data::{Draft, Sheaf};
@@ -57,13 +57,7 @@ fn torus(alloc: Global, n: u8) -> Result<Draft<Field>, Failure>
 }
 
 /// The report of a call that gave this draft.
-fn report(
-    alloc: Global,
-    span: Span,
-    n: u32,
-    unit: &str,
-    d: &Draft<Field>,
-) -> Result<Report, Failure> {
+fn report(alloc: Global, span: Span, n: u32, unit: &str, d: &Draft<Field>) -> Outcome {
     let mut sum = 0;
     for block in d.blocks.as_slice() {
         sum = checksum(sum, block.entries.as_slice());
@@ -71,7 +65,7 @@ fn report(
     timed(alloc, span, n, unit, sum)
 }
 
-pub fn time_read<R: Clock>(rt: &R, alloc: Global, n: u8) -> Result<Report, Failure>
+pub fn time_read<R: Clock>(rt: &R, alloc: Global, n: u8) -> Outcome
     requires { 1 ≤ n }
 {
     let mut text = String::new(alloc);
@@ -83,7 +77,7 @@ pub fn time_read<R: Clock>(rt: &R, alloc: Global, n: u8) -> Result<Report, Failu
     report(alloc, (start, end), count, "bytes", &draft)
 }
 
-pub fn time_seal<R: Clock>(rt: &R, alloc: Global, n: u8) -> Result<Report, Failure>
+pub fn time_seal<R: Clock>(rt: &R, alloc: Global, n: u8) -> Outcome
     requires { 1 ≤ n }
 {
     let draft = torus(alloc, n)?;
@@ -94,7 +88,7 @@ pub fn time_seal<R: Clock>(rt: &R, alloc: Global, n: u8) -> Result<Report, Failu
     report(alloc, (start, end), count, "squares", sheaf.draft())
 }
 
-pub fn time_put<R: Clock>(rt: &R, alloc: Global, n: u8) -> Result<Report, Failure>
+pub fn time_put<R: Clock>(rt: &R, alloc: Global, n: u8) -> Outcome
     requires { 1 ≤ n }
 {
     let mut sheaf = sealed(torus(alloc, n)?)?;
@@ -102,7 +96,7 @@ pub fn time_put<R: Clock>(rt: &R, alloc: Global, n: u8) -> Result<Report, Failur
 }
 
 /// Puts the stalks and blocks that stand.
-fn put_again<R: Clock>(rt: &R, alloc: Global, sheaf: &mut Sheaf<Field>) -> Result<Report, Failure> {
+fn put_again<R: Clock>(rt: &R, alloc: Global, sheaf: &mut Sheaf<Field>) -> Outcome {
     if sheaf.draft().complex.face_count() == 0 {
         return Err(Failure::Made);
     }

@@ -23,3 +23,7 @@ pub remove-requires : goal.remove-requires
 remove-requires c =
     let is = subst (Finishes (ops_of c.args.f) c.args.f c.in_ok-foot.foot) c.in-Made.is c.in_ok-finish.ensures.finish in
     subst (λ f. IsBlockComplex (ops_of f) (complex_in c.args.b.now)) (sym is.field) c.requires.over
+
+pub returns : goal.returns
+returns c = flagged-over (ops_of c.args.f) c.args.b.now c.flag.new.self c.args.pair.0 c.args.pair.1 c.requires.over
+    c.flag.ensures.live c.flag.ensures.held
