@@ -11,11 +11,6 @@ use Rattle.block_complexes.proofs.SameLaws.{same-block_complex}
 use Rattle.block_sparse.specs.StoredBlocks.{StoredBlocks, StoredBlock, block_at, matrix_or, with_flag, complex_in}
 use Rattle.block_sparse.specs.Candidates.{is_candidate, is_unflagged}
 use Rattle.pair_find.specs.Pairs.{IsNextFrom}
-use Rattle.reduce_step.specs.declared.footprint.Footprint.{Footprint}
-use Rattle.reduce_step.specs.declared.finish.Finish.{Finish}
-use Rattle.reduce_step.specs.declared.finish.Finish.TheVariants.{Made, Singular}
-use Rattle.reduce_step.specs.Finishes.{Finishes}
-use Rattle.sheaf_bench.specs.Reductions.{IsOfField}
 
 unflagged-some : (o : Option StoredBlock) → is_unflagged o ≡ true → is_some o ≡ true
 unflagged-some None e = absurd (let f : false ≡ true = e in cc)
@@ -69,9 +64,3 @@ next-candidate v from p h = elim h [
   | inl a ↦ a.candidate
   | inr b ↦ b.1.candidate
 ]
-
--- a record that is made of a footprint is over its field
-pub finishes-field : {F : Type 0} (K : Ops) (f : F) (foot : Footprint) (r : Finish F) → Finishes K f foot r
-    → IsOfField f r
-finishes-field K f foot (Made r) h = h.field
-finishes-field K f foot (Singular x y pivot kernel) h = tt

@@ -1,119 +1,93 @@
-ghost use Rattle.std.specs.Prelude.{◌≡◌, ◌≤◌, true, is_some, IfOk, OnOk};
-ghost use Rattle.block_complexes.specs.BlockComplexes.{size_of};
-ghost use Rattle.block_sparse.specs.StoredBlocks.{block_at};
+ghost use Rattle.std.specs.Prelude.{◌≡◌, ◌≤◌, IfOk, OnOk};
 ghost use Rattle.sheaf_bench.specs.Merges.{MayJoin};
 
-use crate::failure::Failure;
-use crate::report::{Report, Watch, checksum};
+use crate::reduction::start;
+use crate::report::{Failure, Outcome, Span, checksum, timed};
+use crate::texts::{add_cells, add_face, sheaf_of};
 use block_sparse::Blocks;
 use dense_blocks::{Block, minus};
 use field_table::Field;
 use reduce_step::Footprint;
 use std::alloc::{AllocError as NoMemory, Global};
 use std::rt::Clock;
+use std::time::Instant;
 
 /// How many blocks are put in all, or a few less.
 const PUT: u32 = 65_536;
 
-/// The cells of a block complex of blocks of one entry, each 1: `2n + 1` of degree 0, and as many of degree 1.
+/// Adds the text of a sheaf whose blocks have one entry, each 1, between `2n + 1` cells of degree 2 and as
+/// many of degree 3.
 ///
 /// From each of the first to each of the second goes a block, with two exceptions: from the first cell blocks go to the
-/// first and to every second of the others alone, and to the first cell of degree 1 they go from the first and from
+/// first and to every second of the others alone, and to the first cell of degree 3 they go from the first and from
 /// every second of the others alone. So the pair of the two first cells has `n` cells on the left and `n` below, and
 /// all rows and columns of these hold `n + 1` other blocks.
-fn cells(alloc: Global, n: u32) -> Result<Vec<(u32, u8, u8)>, NoMemory>
-    requires { n ≤ 64 }
-{
-    let mut cells = Vec::new(alloc);
-    for cell in 0..4 * n + 2 {
-        let degree = u8::from(cell > 2 * n);
-        cells.push((cell, degree, 1))?;
+fn add_crossed(alloc: Global, text: &mut String, n: u8) -> Result<(), NoMemory> {
+    let count = 2 * u32::from(n) + 1;
+    text.push_str("field 31\n")?;
+    add_cells(text, count, "cell 2 1\n")?;
+    add_cells(text, count, "cell 3 1\n")?;
+    for pair in 0..count * count {
+        let (i, j) = (pair % count, pair / count);
+        if has_block(i, j) {
+            add_face(alloc, text, (i, count + j), '+')?;
+        }
     }
-    Ok(cells)
+    text.push_str("done\n")
 }
 
-/// Whether a block goes from the cell at `i` of degree 0 to that at `j` of degree 1.
+/// Whether a block goes from the cell at `i` of degree 2 to that at `j` of degree 3.
 fn has_block(i: u32, j: u32) -> bool {
     (i != 0 || j == 0 || j % 2 == 1) && (j != 0 || i == 0 || i % 2 == 1)
 }
 
-/// The block complex of these cells and blocks.
-fn crossed(alloc: Global, n: u32) -> Result<Blocks, Failure>
-    requires { n ≤ 64 }
-{
-    let cells = cells(alloc, n)?;
-    if !Blocks::may_live(&cells) {
-        return Err(Failure::Made);
-    }
-    let mut blocks = Blocks::of_cells(alloc, &cells)?;
-    put_blocks(alloc, n, &mut blocks)?;
-    Ok(blocks)
+/// The block complex of that sheaf.
+fn crossed(alloc: Global, n: u8) -> Result<Blocks, Failure> {
+    let mut text = String::new(alloc);
+    add_crossed(alloc, &mut text, n)?;
+    let sheaf = sheaf_of(alloc, text.as_bytes())?;
+    Ok(start(alloc, &sheaf)?)
 }
 
-/// Puts all blocks.
-fn put_blocks(alloc: Global, n: u32, blocks: &mut Blocks) -> Result<(), Failure>
-    requires { n ≤ 64 }
+pub fn time_merge<R: Clock>(rt: &R, alloc: Global, n: u8) -> Outcome
+    requires { 1 ≤ n }
 {
-    let cells = 2 * n + 1;
-    for pair in 0..cells * cells {
-        let (i, j) = (pair % cells, pair / cells);
-        if has_block(i, j) {
-            put(alloc, blocks, i, cells.saturating_add(j))?;
-        }
-    }
-    Ok(())
+    let mut blocks = crossed(alloc, n)?;
+    let y = 2 * u32::from(n) + 1;
+    let grid = u32::from(n) * u32::from(n);
+    let rounds = PUT / grid;
+    let span = time_rounds(rt, alloc, &mut blocks, y, rounds)?;
+    let put = footprint(alloc, &blocks, y)?;
+    let sum = checksum(0, put.corners.entries.as_slice());
+    timed(alloc, span, rounds.saturating_mul(grid), "blocks", sum)
 }
 
-/// Puts a block of the entry 1.
-fn put(alloc: Global, blocks: &mut Blocks, s: u32, t: u32) -> Result<(), Failure> {
-    let one = Block::identity(alloc, 1)?;
-    if !blocks.fits(s, t, &one) {
-        return Err(Failure::Made);
-    }
-    match blocks.set(s, t, one) {
-        Ok(()) => Ok(()),
-        Err(_) => Err(Failure::Memory),
-    }
-}
-
-pub(crate) fn run_merge<R: Clock + AllocGlobal>(rt: &R, size: u32) -> Result<Report, Failure>
-    requires positive { 1 ≤ size }
-    requires small { size ≤ 64 }
-{
-    let mut blocks = crossed(rt.alloc(), size)?;
-    let foot = footprint(rt.alloc(), &blocks, 2 * size + 1)?;
-    let negative = negative(rt.alloc(), &foot)?;
-    let rounds = PUT / (size * size);
-    let watch = Watch::start(rt);
-    merge(&mut blocks, &foot, &negative, rounds)?;
-    let time = watch.time(rt);
-    let merged = footprint(rt.alloc(), &blocks, 2 * size + 1)?;
-    Ok(Report {
-        count: rounds.saturating_mul(size * size),
-        unit: "blocks",
-        checksum: checksum(merged.corners.entries.as_slice()),
-        time,
-    })
+/// Puts the corners of the pair of the cells 0 and `y`, so many times in all.
+fn time_rounds<R: Clock>(
+    rt: &R,
+    alloc: Global,
+    blocks: &mut Blocks,
+    y: u32,
+    rounds: u32,
+) -> Result<Span, Failure> {
+    let foot = footprint(alloc, blocks, y)?;
+    let negative = negative(alloc, &foot)?;
+    let start = Instant::now(rt).ok();
+    merge(blocks, &foot, &negative, rounds)?;
+    Ok((start, Instant::now(rt).ok()))
 }
 
 /// The footprint of the pair of the cells 0 and `y`.
 fn footprint(alloc: Global, blocks: &Blocks, y: u32) -> Result<Footprint, Failure>
     ensures { IfOk result (λ foot. MayJoin blocks.now.live foot.left foot.below) }
 {
-    if blocks.get(0, y).is_some() && blocks.size(0) == blocks.size(y) {
-        let foot = copied(alloc, blocks, y)?;
-        Ok(foot)
-    } else {
-        Err(Failure::Made)
+    let Some(_) = blocks.get(0, y) else {
+        return Err(Failure::Made);
+    };
+    if blocks.size(y) != blocks.size(0) {
+        return Err(Failure::Made);
     }
-}
-
-/// That footprint, where a square block stands.
-fn copied(alloc: Global, blocks: &Blocks, y: u32) -> Result<Footprint, NoMemory>
-    requires stands { is_some (block_at blocks.now 0 y) ≡ true }
-    requires square { size_of blocks.now.live y ≡ size_of blocks.now.live 0 }
-    ensures { IfOk result (λ foot. MayJoin blocks.now.live foot.left foot.below) }
-{
+    // This call is made for its clauses alone.
     let _live = blocks.live();
     let foot = Footprint::copy(alloc, blocks, 0, y)?;
     Ok(foot)
@@ -128,24 +102,18 @@ fn negative(alloc: Global, foot: &Footprint) -> Result<Block, Failure>
     if !foot.is_over(&field) {
         return Err(Failure::Made);
     }
-    let negative = minus(alloc, &field, &foot.corners)?;
-    Ok(negative)
+    Ok(minus(alloc, &field, &foot.corners)?)
 }
 
-/// Puts the negative of the corners and the corners in turn, so many times in all.
-fn merge(
-    blocks: &mut Blocks,
-    foot: &Footprint,
-    negative: &Block,
-    rounds: u32,
-) -> Result<(), NoMemory>
+/// Puts this joined matrix and the corners in turn, so many times in all.
+fn merge(blocks: &mut Blocks, foot: &Footprint, first: &Block, rounds: u32) -> Result<(), NoMemory>
     requires joined { MayJoin blocks.old.live foot.now.left foot.now.below }
-    requires rows { negative.now.rows ≡ foot.now.corners.rows }
-    requires cols { negative.now.cols ≡ foot.now.corners.cols }
+    requires rows { first.now.rows ≡ foot.now.corners.rows }
+    requires cols { first.now.cols ≡ foot.now.corners.cols }
 {
     for round in 0..rounds {
         if round % 2 == 0 {
-            put_grid(blocks, foot, negative)?;
+            put_grid(blocks, foot, first)?;
         } else {
             put_grid(blocks, foot, &foot.corners)?;
         }

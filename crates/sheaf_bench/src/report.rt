@@ -1,50 +1,67 @@
-use std::rt::Clock;
+use std::alloc::{AllocError as NoMemory, Global};
+use std::io;
 use std::time::{Duration, Instant};
+use thiserror::Error;
 
-/// What a call gave, and how long it took.
-#[derive(Clone, Copy, Debug)]
+/// What came of a workload.
+#[derive(Drop)]
 pub struct Report {
-    /// How much there was of what the workload counts.
-    pub count: u32,
-    /// What is counted.
-    pub unit: &'static str,
-    /// A number that the whole result determines.
-    pub checksum: u32,
-    /// How long the call took; none where the clock failed.
-    pub time: Option<Duration>,
+    /// What its result is, in words.
+    pub result: String,
+    /// How long the call took, and how much there was of what it counts; none where it is not timed.
+    pub time: Option<(Duration, u32)>,
 }
 
-/// A reading of the clock, if it gave one.
-#[derive(Clone, Copy)]
-pub struct Watch {
-    start: Option<Instant>,
+/// What came of a workload, or why nothing did.
+pub type Outcome = Result<Report, Failure>;
+
+/// The readings of the clock before and after a call, none where it failed.
+pub type Span = (Option<Instant>, Option<Instant>);
+
+/// The report of a call over so many of a unit, whose result has this checksum.
+pub fn timed(alloc: Global, span: Span, count: u32, unit: &str, checksum: u32) -> Outcome {
+    let (Some(start), Some(end)) = span else {
+        return Err(Failure::Outside);
+    };
+    Ok(Report {
+        result: format!(in alloc; "{count} {unit}, checksum {checksum:08x}")?,
+        time: Some((end.duration_since(start), count)),
+    })
 }
 
-impl Watch {
-    /// Reads the clock.
-    pub fn start<R: Clock>(rt: &R) -> Watch {
-        Watch {
-            start: Instant::now(rt).ok(),
-        }
-    }
-
-    /// The time since then; none where a reading failed.
-    pub fn time<R: Clock>(self, rt: &R) -> Option<Duration> {
-        match self.start {
-            Some(start) => start.elapsed(rt).ok(),
-            None => None,
-        }
-    }
-}
-
-/// A number that the bytes, in their order, determine.
-pub fn checksum(bytes: &[u8]) -> u32 {
-    let mut sum: u32 = 0;
+/// A number that the bytes, in their order, determine; `sum` is that of those before them, 0 where there are none.
+pub fn checksum(mut sum: u32, bytes: &[u8]) -> u32 {
     for byte in bytes {
-        sum = sum
-            .wrapping_add(u32::from(*byte))
-            .wrapping_add(1)
-            .wrapping_mul(16_777_619);
+        let next = sum.wrapping_add(u32::from(*byte) + 1);
+        sum = next.wrapping_mul(16_777_619);
     }
     sum
+}
+
+/// Why a workload was refused, or gave nothing.
+#[derive(Clone, Copy, Debug, Error)]
+pub enum Failure {
+    #[error("wanted are a workload and a size of it, as docs/PERFORMANCE.md lists them")]
+    Words,
+    #[error("out of memory")]
+    Memory(#[from] NoMemory),
+    #[error("the clock, the words, the input or the output failed")]
+    Outside,
+    #[error("the input cannot be read, or is no sheaf")]
+    Input,
+    #[error("the workload was not made as it was to be")]
+    Made,
+}
+
+/// Memory ran out, and what was handed in came back.
+impl<T: Drop> From<(T, NoMemory)> for Failure {
+    fn from((_, fault): (T, NoMemory)) -> Self {
+        Failure::Memory(fault)
+    }
+}
+
+impl From<io::Error> for Failure {
+    fn from(_: io::Error) -> Self {
+        Failure::Outside
+    }
 }

@@ -1,180 +1,111 @@
-ghost use Rattle.std.specs.Prelude.{◌≡◌, ◌<◌, ◌≤◌, ◌^◌, length, IfOk, OnOk};
+ghost use Rattle.std.specs.Prelude.{◌<◌, ◌≤◌, ◌^◌};
 
-use crate::failure::Failure;
-use crate::report::{Report, Watch, checksum};
+use crate::report::{Failure, Outcome, Span, checksum, timed};
+use crate::texts::{add_cells, add_face, draft_of, sealed};
 use field_table::Field;
 use sheaf_data::{Draft, Sheaf};
-use sheaf_text::read;
 use std::alloc::{AllocError as NoMemory, Global};
 use std::rt::Clock;
-use std::time::Duration;
+use std::time::Instant;
 
-/// The text of the constant sheaf of scalars over 31 on a torus of `size` by `size` squares.
+/// Adds the text of the constant sheaf of scalars over 31 on a torus of `n` by `n` squares.
 ///
 /// On a grid of n by n places, whose indices are taken modulo n, each place has a vertex, an edge to the next row, an
 /// edge to the next column, and a square between these two edges and those across. First come all vertices, row by row,
 /// then all edges of the first kind, all of the second, and all squares.
-fn torus_text(alloc: Global, size: u32) -> Result<Vec<u8>, NoMemory>
-    requires positive { 1 ≤ size }
-    requires small { size ≤ 32 }
+fn add_torus(alloc: Global, text: &mut String, n: u8) -> Result<(), NoMemory>
+    requires { 1 ≤ n }
 {
-    let mut text = Vec::from_slice(alloc, b"field 31\n")?;
-    for dim in [0, 1, 1, 2] {
-        add_cells(alloc, &mut text, dim, size * size)?;
+    let area = u32::from(u16::from(n) * u16::from(n));
+    text.push_str("field 31\n")?;
+    add_cells(text, area, "cell 0 1\n")?;
+    add_cells(text, 2 * area, "cell 1 1\n")?;
+    add_cells(text, area, "cell 2 1\n")?;
+    for place in 0..area {
+        add_faces(alloc, text, n, area, place)?;
     }
-    add_faces(alloc, &mut text, size)?;
-    text.extend_from_slice(b"done\n")?;
-    Ok(text)
+    text.push_str("done\n")
 }
 
-/// Adds the lines of so many cells of this dimension.
-fn add_cells(alloc: Global, text: &mut Vec<u8>, dim: u8, count: u32) -> Result<(), NoMemory> {
-    let line = format!(in alloc; "cell {dim} 1\n")?;
-    for _cell in 0..count {
-        text.extend_from_slice(line.as_bytes())?;
-    }
-    Ok(())
-}
-
-/// Adds the lines of all faces.
-fn add_faces(alloc: Global, text: &mut Vec<u8>, size: u32) -> Result<(), NoMemory>
-    requires positive { 1 ≤ size }
-    requires small { size ≤ 32 }
+/// Adds the faces of the edges and of the square at one of `area` places.
+fn add_faces(alloc: Global, text: &mut String, n: u8, area: u32, place: u32) -> Result<(), NoMemory>
+    requires positive { 1 ≤ n }
+    requires place { place < area }
+    requires small { area < 2 ^ 16 }
 {
-    for place in 0..size * size {
-        add_place(alloc, text, size, place / size, place % size)?;
-    }
-    Ok(())
+    let n = u32::from(n);
+    let below = (place + n) % area;
+    let beside = place - place % n + (place + 1) % n;
+    let (down, right, square) = (area + place, 2 * area + place, 3 * area + place);
+    add_face(alloc, text, (place, down), '-')?;
+    add_face(alloc, text, (below, down), '+')?;
+    add_face(alloc, text, (place, right), '-')?;
+    add_face(alloc, text, (beside, right), '+')?;
+    add_face(alloc, text, (down, square), '+')?;
+    add_face(alloc, text, (2 * area + below, square), '+')?;
+    add_face(alloc, text, (area + beside, square), '-')?;
+    add_face(alloc, text, (right, square), '-')
 }
 
-/// Adds the lines of the faces of the edges and of the square at the place.
-fn add_place(
-    alloc: Global,
-    text: &mut Vec<u8>,
-    size: u32,
-    row: u32,
-    column: u32,
-) -> Result<(), NoMemory>
-    requires positive { 1 ≤ size }
-    requires small { size ≤ 32 }
-    requires row { row ≤ 1024 }
-    requires column { column ≤ 1024 }
+/// That sheaf, not yet sealed.
+fn torus(alloc: Global, n: u8) -> Result<Draft<Field>, Failure>
+    requires { 1 ≤ n }
 {
-    let places = size * size;
-    let here = vertex(size, row, column);
-    let (below, beside) = (vertex(size, row + 1, column), vertex(size, row, column + 1));
-    let (down, right, square) = (places + here, 2 * places + here, 3 * places + here);
-    let incidences = [
-        (here, down, '-'),
-        (below, down, '+'),
-        (here, right, '-'),
-        (beside, right, '+'),
-        (down, square, '+'),
-        (2 * places + below, square, '+'),
-        (places + beside, square, '-'),
-        (right, square, '-'),
-    ];
-    for (s, t, sign) in incidences {
-        let line = format!(in alloc; "face {s} {t} {sign} 1\n")?;
-        text.extend_from_slice(line.as_bytes())?;
+    let mut text = String::new(alloc);
+    add_torus(alloc, &mut text, n)?;
+    draft_of(alloc, text.as_bytes())
+}
+
+/// The report of a call that gave this draft.
+fn report(alloc: Global, span: Span, n: u32, unit: &str, d: &Draft<Field>) -> Outcome {
+    let mut sum = 0;
+    for block in d.blocks.as_slice() {
+        sum = checksum(sum, block.entries.as_slice());
     }
-    Ok(())
+    timed(alloc, span, n, unit, sum)
 }
 
-/// The vertex at the place.
-fn vertex(size: u32, row: u32, column: u32) -> u32
-    requires positive { 1 ≤ size }
-    requires small { size ≤ 32 }
-    ensures { result < 2 ^ 20 }
+pub fn time_read<R: Clock>(rt: &R, alloc: Global, n: u8) -> Outcome
+    requires { 1 ≤ n }
 {
-    row % size * size + column % size
-}
-
-/// The report of a call on this draft.
-fn report(
-    alloc: Global,
-    count: u32,
-    unit: &'static str,
-    draft: &Draft<Field>,
-    time: Option<Duration>,
-) -> Result<Report, NoMemory> {
-    let mut entries = Vec::new(alloc);
-    for block in draft.blocks.as_slice() {
-        entries.extend_from_slice(block.entries.as_slice())?;
-    }
-    let checksum = checksum(&entries);
-    Ok(Report {
-        count,
-        unit,
-        checksum,
-        time,
-    })
-}
-
-pub(crate) fn run_read<R: Clock + AllocGlobal>(rt: &R, size: u32) -> Result<Report, Failure>
-    requires positive { 1 ≤ size }
-    requires small { size ≤ 32 }
-{
-    let text = torus_text(rt.alloc(), size)?;
-    let watch = Watch::start(rt);
-    let input = read(rt.alloc(), &text).map_err(|_| Failure::Input)?;
-    let time = watch.time(rt);
+    let mut text = String::new(alloc);
+    add_torus(alloc, &mut text, n)?;
+    let start = Instant::now(rt).ok();
+    let draft = draft_of(alloc, text.as_bytes())?;
+    let end = Instant::now(rt).ok();
     let count = u32::try_from(text.len()).unwrap_or(u32::MAX);
-    Ok(report(rt.alloc(), count, "bytes", &input.draft, time)?)
+    report(alloc, (start, end), count, "bytes", &draft)
 }
 
-/// The constant sheaf on the torus, not yet sealed.
-fn torus_draft(alloc: Global, size: u32) -> Result<Draft<Field>, Failure>
-    requires positive { 1 ≤ size }
-    requires small { size ≤ 32 }
+pub fn time_seal<R: Clock>(rt: &R, alloc: Global, n: u8) -> Outcome
+    requires { 1 ≤ n }
 {
-    let text = torus_text(alloc, size)?;
-    let input = read(alloc, &text).map_err(|_| Failure::Input)?;
-    Ok(input.draft)
-}
-
-/// The sheaf of the draft.
-pub(crate) fn sealed(draft: Draft<Field>) -> Result<Sheaf<Field>, Failure> {
-    match draft.seal() {
-        Ok(sheaf) => Ok(sheaf),
-        Err(_) => Err(Failure::Input),
-    }
-}
-
-pub(crate) fn run_seal<R: Clock + AllocGlobal>(rt: &R, size: u32) -> Result<Report, Failure>
-    requires positive { 1 ≤ size }
-    requires small { size ≤ 32 }
-{
-    let draft = torus_draft(rt.alloc(), size)?;
-    let watch = Watch::start(rt);
+    let draft = torus(alloc, n)?;
+    let start = Instant::now(rt).ok();
     let sheaf = sealed(draft)?;
-    let time = watch.time(rt);
-    Ok(report(rt.alloc(), 4 * size * size, "squares", sheaf.draft(), time)?)
+    let end = Instant::now(rt).ok();
+    let count = 4 * u32::from(n) * u32::from(n);
+    report(alloc, (start, end), count, "squares", sheaf.draft())
 }
 
-/// A copy of the draft of a sheaf that has a face.
-fn draft_with_face(alloc: Global, sheaf: &Sheaf<Field>) -> Result<Draft<Field>, Failure>
-    ensures same { IfOk result (λ d. d ≡ sheaf.now) }
-    ensures face { OnOk result (0 < length sheaf.now.complex.faces) }
+pub fn time_put<R: Clock>(rt: &R, alloc: Global, n: u8) -> Outcome
+    requires { 1 ≤ n }
 {
-    let draft = sheaf.draft().copy(alloc)?;
-    if draft.complex.face_count() == 0 {
+    let mut sheaf = sealed(torus(alloc, n)?)?;
+    put_again(rt, alloc, &mut sheaf)
+}
+
+/// Puts the stalks and blocks that stand.
+fn put_again<R: Clock>(rt: &R, alloc: Global, sheaf: &mut Sheaf<Field>) -> Outcome {
+    if sheaf.draft().complex.face_count() == 0 {
         return Err(Failure::Made);
     }
-    Ok(draft)
-}
-
-pub(crate) fn run_put<R: Clock + AllocGlobal>(rt: &R, size: u32) -> Result<Report, Failure>
-    requires positive { 1 ≤ size }
-    requires small { size ≤ 32 }
-{
-    let mut sheaf = sealed(torus_draft(rt.alloc(), size)?)?;
-    let Draft { stalks, blocks, .. } = draft_with_face(rt.alloc(), &sheaf)?;
-    let watch = Watch::start(rt);
+    let Draft { stalks, blocks, .. } = sheaf.draft().copy(alloc)?;
+    let start = Instant::now(rt).ok();
     let answer = sheaf.put_all(stalks, blocks, &[0]);
-    let time = watch.time(rt);
+    let end = Instant::now(rt).ok();
     if answer.is_err() {
         return Err(Failure::Made);
     }
-    Ok(report(rt.alloc(), 2, "squares", sheaf.draft(), time)?)
+    report(alloc, (start, end), 2, "squares", sheaf.draft())
 }

@@ -1,7 +1,7 @@
 use Rattle.std.proofs.Common.{◌≡◌, length}
 use Rattle.dense_blocks.specs.Vectors.{AllScalars}
 use Rattle.dense_blocks.specs.Two.{two}
-use Rattle.sheaf_bench.proofs.sequence.Sequence.triangle.Given as goal
+use Rattle.sheaf_bench.proofs.matrices.Sequence.block.Given as goal
 
 abbrev pub invariant-loop-place : goal.invariant-loop-place
 invariant-loop-place l = record {

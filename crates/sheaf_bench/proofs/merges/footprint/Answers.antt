@@ -1,5 +1,5 @@
 use Rattle.reduce_step.proofs.AppliedLaws.{listed-degrees}
-use Rattle.sheaf_bench.proofs.merges.copied.Goals as goal
+use Rattle.sheaf_bench.proofs.merges.footprint.Goals as goal
 
 pub returns : goal.returns
 returns c =
@@ -9,5 +9,5 @@ returns c =
       left_sized = is.left_sized;
       below_sized = is.below_sized;
       degrees = listed-degrees c.args.blocks.now c.live-live.ensures.sound 0 c.args.y foot.left foot.below
-          (record { stands = c.requires.stands; on_left = is.left; is_below = is.below });
+          (record { stands = c.in-Some.ensures.stands; on_left = is.left; is_below = is.below });
     }
