@@ -140,41 +140,7 @@ fn finds_a_singular_pivot(rt: HostRuntime) -> Result<(), NoMemory> {
     Ok(())
 }
 
-/// An entry put at a pair, and the first pair that differs then.
-type Change = (Entry, Option<Differs>);
-
-/// The record of (1, 4) has 2 on the left and 3 below: nothing of it changes; its pivot; a corner; a cell is new.
-const CHANGES: [Change; 4] = [
-    ((0, 5, 0), None),
-    ((1, 4, 0), Some(Differs { s: 1, t: 4 })),
-    ((2, 3, 1), Some(Differs { s: 2, t: 3 })),
-    ((0, 4, 1), Some(Differs { s: 0, t: 4 })),
-];
-
-/// The first pair that differs from the record of (1, 4) once the entry is put.
-fn differs(rt: &impl Abort, alloc: Global, entry: Entry) -> Result<Option<Differs>, NoMemory> {
-    let mut b = circle(rt, alloc)?;
-    let record = record(rt, alloc, &b, 1, 4)?;
-    put(rt, alloc, &mut b, (entry.0, entry.1), 1, &[entry.2])?;
-    Ok(record.fits(&b).err())
-}
-
-/// Whether these are the first pairs that differ.
-fn are_first(rt: &impl Abort, alloc: Global, changes: &[Change]) -> Result<bool, NoMemory> {
-    for (entry, first) in changes {
-        if differs(rt, alloc, *entry)? != *first {
-            return Ok(false);
-        }
-    }
-    Ok(true)
-}
-
-#[test]
-fn finds_the_block_that_changed(rt: HostRuntime) -> Result<(), NoMemory> {
-    assert!(rt; are_first(&rt, rt.alloc(), &CHANGES)?);
-    Ok(())
-}
-
+/// The record of (1, 4) has the cell 2 on the left and 3 below.
 #[test]
 fn finds_the_cell_that_is_gone(rt: HostRuntime) -> Result<(), NoMemory> {
     let mut b = circle(&rt, rt.alloc())?;

@@ -19,14 +19,14 @@ use Rattle.sheaf_run.specs.declared.job.Job.{Job}
 use Rattle.sheaf_run.specs.declared.status.Status.{Status}
 use Rattle.sheaf_run.specs.declared.status.Status.TheVariants.{Done, ReadFault, WriteFault, NoMemory, BadComplex}
 use Rattle.sheaf_run.specs.declared.status.Status.TheVariants.{BadSheaf}
-use Rattle.sheaf_run.specs.Answers.{Outcome, IsAnswer, DraftIsDue, IsDue, refusal, AnswersDraft}
+use Rattle.sheaf_run.specs.Answers.{Outcome, IsAnswer, DraftIsDue, IsDue, bad_draft, AnswersDraft}
 use Rattle.sheaf_run.specs.Answers.{AnswersReading, AnswersJob}
 use Rattle.sheaf_run.specs.Runs.{IsSent, IsRun, IsServed}
 use Rattle.sheaf_run.specs.Views.{SourceView, SinkView}
 
 -- a refused draft is due what it is refused with
 due_of_fault : (d : SheafData Field) (fault : SealFault) → IsFault (ops_of d.field) d.complex d.blocks fault
-    → DraftIsDue d (refusal fault).status
+    → DraftIsDue d (bad_draft fault).status
 due_of_fault d (Complex (EdgeEnds t)) first = first.0
 due_of_fault d (Complex (Middles s u count)) first = first.0
 due_of_fault d (Complex (Signs s u)) first = first.0
@@ -104,7 +104,7 @@ done_serves : (job : Job) (bytes : List ℕ) (source_new : SourceView) (sink sin
     → (r : Reading) → reading bytes ≡ r → AnswersReading job r a → IsServed job bytes source_new sink sink_new
 done_serves job bytes source_new sink sink_new result a done end sent (readings.Good v) e found = by found.2
   where
-    not_refused : (fault : SealFault) → (refusal fault).status ≡ Done → ⊥
+    not_refused : (fault : SealFault) → (bad_draft fault).status ≡ Done → ⊥
     not_refused (Complex (EdgeEnds t)) is = cc
     not_refused (Complex (Middles s u count)) is = cc
     not_refused (Complex (Signs s u)) is = cc

@@ -19,7 +19,7 @@ use Rattle.sheaf_text.proofs.Kept.{reading-long}
 use Rattle.sheaf_words.specs.declared.query.Command.{Command}
 use Rattle.sheaf_run.specs.declared.job.Job.{Job}
 use Rattle.sheaf_run.specs.Answers.{Outcome, IsAnswer, AnswersDraft, AnswersReading, AnswersJob}
-use Rattle.sheaf_run.specs.Answers.{refusal, bad_line, over_limit}
+use Rattle.sheaf_run.specs.Answers.{bad_draft, bad_line, over_limit}
 use Rattle.sheaf_run.specs.Replies.{IsRight, Replies}
 use Rattle.sheaf_run.specs.Runs.{IsSent, IsRun}
 use Rattle.sheaf_run.specs.Views.{SourceView, SinkView}
@@ -66,10 +66,10 @@ replies_weaker P Q weaker replies = record {
 -- a draft that is refused with its first fault is answered
 pub replies_refused : (job : Job) (d : SheafData Field) (scripts : List (List Command)) (fault : SealFault)
     {sink sink_new : SinkView} {result : Status}
-    → IsFault (ops_of d.field) d.complex d.blocks fault → Replies (λ a. a ≡ refusal fault) sink sink_new result
+    → IsFault (ops_of d.field) d.complex d.blocks fault → Replies (λ a. a ≡ bad_draft fault) sink sink_new result
     → Replies (AnswersDraft job d scripts) sink sink_new result
 replies_refused job d scripts fault first replies =
-    replies_weaker (λ a. a ≡ refusal fault) (AnswersDraft job d scripts)
+    replies_weaker (λ a. a ≡ bad_draft fault) (AnswersDraft job d scripts)
     (λ a is. inl (fault, first, is)) replies
 
 -- nothing was done with bytes that were not read, and what is replied is right for them

@@ -62,14 +62,14 @@ over_limit line which =
     record { status = Limit; text = line_text (codes "limit" ∷ limit_word which ∷ decimal line ∷ []) }
 
 -- what is wrong with a draft that is no sheaf
-abbrev pub refusal : SealFault → Outcome
-refusal (Complex (EdgeEnds t)) =
+abbrev pub bad_draft : SealFault → Outcome
+bad_draft (Complex (EdgeEnds t)) =
     record { status = BadComplex; text = line_text (codes "bad complex edge" ∷ decimal t ∷ []) }
-refusal (Complex (Middles s u count)) =
+bad_draft (Complex (Middles s u count)) =
     record { status = BadComplex; text = line_text (codes "bad complex middles" ∷ map decimal (s ∷ u ∷ count ∷ [])) }
-refusal (Complex (Signs s u)) =
+bad_draft (Complex (Signs s u)) =
     record { status = BadComplex; text = line_text (codes "bad complex signs" ∷ map decimal (s ∷ u ∷ [])) }
-refusal (Noncommuting s u) =
+bad_draft (Noncommuting s u) =
     record { status = BadSheaf; text = line_text (codes "bad sheaf square" ∷ map decimal (s ∷ u ∷ [])) }
 
 -- what is written of a sheaf and the scripts of its clients: under `solve` the transcript of one legal order of all
@@ -84,7 +84,7 @@ IsTextOf Check d scripts text =
 -- a draft that is no sheaf is refused with its first fault; a sheaf is answered with such a text
 abbrev pub AnswersDraft : Job → SheafData Field → List (List Command) → Outcome → Type 0
 AnswersDraft job d scripts a =
-    ((fault : SealFault) × IsFault (ops_of d.field) d.complex d.blocks fault × (a ≡ refusal fault))
+    ((fault : SealFault) × IsFault (ops_of d.field) d.complex d.blocks fault × (a ≡ bad_draft fault))
     ⊎ (IsSheaf (ops_of d.field) d.complex d.stalks d.blocks × (a.status ≡ Done) × IsTextOf job d scripts a.text)
 
 -- a good reading is answered by its draft, and a line that is refused or passes a limit by what is said of it

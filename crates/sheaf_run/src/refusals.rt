@@ -1,6 +1,6 @@
 ghost use Rattle.std.specs.Prelude.{◌≡◌, ◌≢◌, ◌++◌, codes};
 ghost use Rattle.sheaf_run.specs.Words.{cause_word, limit_word};
-ghost use Rattle.sheaf_run.specs.Answers.{bad_words, bad_line, over_limit, refusal};
+ghost use Rattle.sheaf_run.specs.Answers.{bad_words, bad_line, over_limit, bad_draft};
 ghost use Rattle.sheaf_run.specs.Replies.{Replies};
 ghost use Rattle.sheaf_run.specs.Views.{sink_view};
 ghost use Rattle.sheaf_data.specs.declared.fault.SealFault.TheVariants.{Complex};
@@ -82,7 +82,7 @@ pub fn refuse_limit<K: Sink>(sink: &mut K, line: u32, which: Which) -> Status
 
 /// Writes why the complex is refused. Takes no memory.
 fn refuse_complex<K: Sink>(sink: &mut K, fault: Incidence) -> Status
-    ensures { Replies (λ a. a ≡ refusal (Complex fault))
+    ensures { Replies (λ a. a ≡ bad_draft (Complex fault))
         (sink_view K.taken K.flushed K.fault_count sink.old)
         (sink_view K.taken K.flushed K.fault_count sink.new) result }
 {
@@ -108,7 +108,7 @@ fn refuse_complex<K: Sink>(sink: &mut K, fault: Incidence) -> Status
 
 /// Writes why the draft is refused. Takes no memory.
 pub fn refuse_draft<K: Sink>(sink: &mut K, fault: SealFault) -> Status
-    ensures { Replies (λ a. a ≡ refusal fault)
+    ensures { Replies (λ a. a ≡ bad_draft fault)
         (sink_view K.taken K.flushed K.fault_count sink.old)
         (sink_view K.taken K.flushed K.fault_count sink.new) result }
 {
