@@ -4,7 +4,8 @@ use Rattle.std.proofs.Common.{[], ◌∷◌, filter, eqb}
 use Rattle.std.proofs.lemmas.Bool.{eq-eqb, ne_eqb, cases_eq}
 use Rattle.dense_blocks.specs.Field.{Ops}
 use Rattle.dense_blocks.specs.FieldLaws.{IsField}
-use Rattle.dense_blocks.specs.Vectors.{zeros, plus, negative}
+use Rattle.dense_blocks.specs.Vectors.{zeros, plus}
+use Rattle.dense_blocks.specs.MatrixFacts.{negative}
 use Rattle.dense_blocks.specs.Matrices.{image_of}
 use Rattle.dense_blocks.proofs.Shapes.{Vector, Matrix}
 use Rattle.dense_blocks.proofs.VectorLaws.{plus-left-comm, zeros-plus, negative-zeros, negative-of-plus}

@@ -1,6 +1,6 @@
 -- Complexes: a list of the dimensions of the cells, and a list of faces.
 use Rattle.std.specs.Prelude.{ℕ, Bool, List, Option, length, filter}
-use Rattle.std.specs.Prelude.{find, position, ◌==◌, ◌&&◌}
+use Rattle.std.specs.Prelude.{find, ◌==◌, ◌&&◌}
 use Rattle.std.specs.List.{list_any, range_with_len}
 use Rattle.std.specs.Option.{option_map}
 use Rattle.cell_complex.specs.declared.face.Face.{Face}
@@ -26,10 +26,6 @@ is_face c s t = list_any (joins s t) c.faces
 -- the sign of s in t, where it is a face
 abbrev pub sign : CellComplex → ℕ → ℕ → Option Sign
 sign c s t = option_map (λ f. f.sign) (find (joins s t) c.faces)
-
--- the place of s in t among the faces, where it is one
-abbrev pub place : CellComplex → ℕ → ℕ → Option ℕ
-place c s t = position (joins s t) c.faces
 
 -- the cells that are faces of t, in rising order
 abbrev pub faces_of : CellComplex → ℕ → List ℕ

@@ -1,6 +1,6 @@
--- What holds of every complex, and a complex with one face more.
+-- What holds of every complex, look-ups in it, and a complex with one face more.
 use Rattle.std.specs.Prelude.{◌≡◌, ℕ, ◌+◌, ◌<◌, ◌≤◌, List, [], ◌∷◌, ◌++◌, length, slice_index, filter}
-use Rattle.std.specs.Prelude.{All, AllPairs, false}
+use Rattle.std.specs.Prelude.{All, AllPairs, false, Option, position}
 use Rattle.cell_complex.specs.declared.face.Face.{Face}
 use Rattle.cell_complex.specs.Complexes.{CellComplex, joins, all_cells, is_face}
 
@@ -24,6 +24,10 @@ pub record IsComplex (c : CellComplex) : Type 0 where
   pub small : AreCells c.dims
   pub fit : All (JoinsCells c.dims) c.faces
   pub apart : AllPairs AreApart c.faces
+
+-- the place of s in t among the faces, where it is one
+abbrev pub place : CellComplex → ℕ → ℕ → Option ℕ
+place c s t = position (joins s t) c.faces
 
 -- the cells of which s is a face, in rising order
 abbrev pub cofaces_of : CellComplex → ℕ → List ℕ

@@ -3,8 +3,8 @@ ghost use Rattle.std.specs.Prelude.{nat_eq, slice_index_or, ◌&&◌, IsTrue, If
 ghost use Rattle.std.specs.List.Sorted.{IsStrictlyIncreasing, IsNonDecreasing};
 ghost use Rattle.indexmap.specs.IndexMap.{get};
 ghost use Rattle.cell_complex.specs.Neighbours.{neighbour_lists, with_cell};
-ghost use Rattle.cell_complex.specs.Complexes.{sign, place, faces_of, middles};
-ghost use Rattle.cell_complex.specs.Invariants.{AreCells, IsComplex, cofaces_of, with_face};
+ghost use Rattle.cell_complex.specs.Complexes.{sign, faces_of, middles};
+ghost use Rattle.cell_complex.specs.Invariants.{place, AreCells, IsComplex, cofaces_of, with_face};
 ghost use Rattle.cell_complex.specs.Verdicts.{face_fault};
 ghost use Rattle.cell_complex.specs.Builds.{AllAccepted, IsFirstFault};
 

@@ -118,18 +118,18 @@ module _ (K : Ops) (F : IsField K) (c : CellComplex) (stalks : List ℕ) (blocks
   size t = slice_index stalks t
 
   abbrev pub from_stalks : AreRestrictions K c blocks
-  from_stalks = record { stalks = stalks; shapes = sheaf.restrictions.shapes; scalars = sheaf.restrictions.scalars }
+  from_stalks = record { stalks = stalks; shapes = sheaf.shapes; scalars = sheaf.scalars }
 
   same : length blocks ≡ length c.faces
-  same = sheaf.restrictions.shapes.count
+  same = sheaf.shapes.count
 
   pub rows : (t : ℕ) → RowsInto W.arrows (size t) t
   unfolding RowsInto
   rows t = all-arrows K (λ (a : Arrow). a.to ≡ t → length a.matrix ≡ size t) c.faces blocks
       (λ p f b is_f is_b e.
-      let shapes = sheaf.restrictions.shapes in
+      let shapes = sheaf.shapes in
       let matrix = block-matrix_at K b (size f.t) (size f.s) (shapes.rows p f b is_f is_b) (shapes.cols p f b is_f is_b)
-      (all-at (λ (b : Block). AllScalars K b.entries) blocks p b sheaf.restrictions.scalars is_b) in
+      (all-at (λ (b : Block). AllScalars K b.entries) blocks p b sheaf.scalars is_b) in
       matrix-size K (size f.t) (size f.s) (signed_matrix K f.sign (matrix_of b))
       (signed_matrix-matrix K F (size f.t) (size f.s) f.sign (matrix_of b) matrix) ∙ ap size e)
 
@@ -140,7 +140,7 @@ module _ (K : Ops) (F : IsField K) (c : CellComplex) (stalks : List ℕ) (blocks
 
   sized : All (λ (u : Cell). (u.size ≡ size u.cell) × (u.degree ≡ slice_index c.dims u.cell)) W.cells
   sized = all-numbered_cells (λ (u : Cell). (u.size ≡ size u.cell) × (u.degree ≡ slice_index c.dims u.cell)) 0 c.dims
-      stalks sheaf.stalks_fit.one_each
+      stalks sheaf.one_each
       (λ i l. let start : i ≡ 0 + i = omega arith in (ap size start, ap (slice_index c.dims) start))
 
   fits : RowsFit W
@@ -167,7 +167,7 @@ module _ (K : Ops) (F : IsField K) (c : CellComplex) (stalks : List ℕ) (blocks
           let fit = face-fits c complex p f is_f in
           let start : f.s ≡ 0 + f.s = omega arith in
           ap (size_at (cells_of W (suc k))) start
-          ∙ size-numbered_cells (suc k) 0 f.s c.dims stalks sheaf.stalks_fit.one_each fit.s_is_cell
+          ∙ size-numbered_cells (suc k) 0 f.s c.dims stalks sheaf.one_each fit.s_is_cell
           (omega (arith, fit.one_up, ap (slice_index c.dims) e)))
 
   -- from the cell s to the cell u

@@ -12,7 +12,7 @@ use Rattle.dense_blocks.specs.declared.block.Block.{Block}
 use Rattle.cochain_vec.specs.declared.cell.Cell.{Cell}
 use Rattle.cochain_vec.specs.Stalkless as stalkless
 use Rattle.cochain_vec.proofs.StalklessLaws.{has_coordinates, rising-filter}
-use Rattle.sheaf_data.specs.Sheaves.{AreStalks}
+use Rattle.sheaf_data.specs.Drafts.{AreStalks}
 use Rattle.sheaf_data.specs.Arrows.{numbered_cells}
 use Rattle.coboundary.specs.Start.{with_stalks}
 use Rattle.rising_lists.specs.Rising.{IsRising, has}

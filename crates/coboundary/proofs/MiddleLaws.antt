@@ -11,7 +11,8 @@ use Rattle.cell_complex.specs.declared.face.Sign.TheVariants.{Plus, Minus}
 use Rattle.cell_complex.specs.Complexes.{CellComplex, joins, is_face, sign}
 use Rattle.dense_blocks.specs.Field.{Ops}
 use Rattle.dense_blocks.specs.FieldLaws.{IsField}
-use Rattle.dense_blocks.specs.Vectors.{zeros, plus, negative}
+use Rattle.dense_blocks.specs.Vectors.{zeros, plus}
+use Rattle.dense_blocks.specs.MatrixFacts.{negative}
 use Rattle.dense_blocks.specs.Matrices.{image_of, product}
 use Rattle.dense_blocks.specs.declared.block.Block.{Block}
 use Rattle.dense_blocks.proofs.Shapes.{Vector, Matrix}

@@ -101,7 +101,7 @@ module _ (K : Ops) (F : IsField K) (c : CellComplex) (stalks : List ℕ) (blocks
 
   live_rises : IsRising (cells v.live)
   live_rises = subst (λ (live : List (ℕ × ℕ × ℕ)). IsRising (cells live)) (sym start.live)
-      (with_stalks-rising c.dims stalks sheaf.stalks_fit.one_each)
+      (with_stalks-rising c.dims stalks sheaf.one_each)
 
   -- a live cell has a stalk, which is as large as the cell, and its degree
   record IsAlive (t : ℕ) : Type 0 where
@@ -118,7 +118,7 @@ module _ (K : Ops) (F : IsField K) (c : CellComplex) (stalks : List ℕ) (blocks
       (All-filter has_coordinates (λ (u : Cell). (u.cell < length c.dims) × (u.size ≡ size u.cell)
       × (u.degree ≡ slice_index c.dims u.cell)) W.cells
       (all-numbered_cells (λ (u : Cell). (u.cell < length c.dims) × (u.size ≡ size u.cell)
-      × (u.degree ≡ slice_index c.dims u.cell)) 0 c.dims stalks sheaf.stalks_fit.one_each
+      × (u.degree ≡ slice_index c.dims u.cell)) 0 c.dims stalks sheaf.one_each
       (λ i l. let same : i ≡ 0 + i = omega arith in (omega arith, ap size same, ap (slice_index c.dims) same)))))
 
   alive : (t : ℕ) → has t (cells v.live) ≡ true → IsAlive t
@@ -142,7 +142,7 @@ module _ (K : Ops) (F : IsField K) (c : CellComplex) (stalks : List ℕ) (blocks
 
   joined : (s t : ℕ) → is_face c s t ≡ true → Joined s t
   joined s t h =
-      let a = has_arrow c blocks sheaf.restrictions.shapes.count s t h in
+      let a = has_arrow c blocks sheaf.shapes.count s t h in
       let fit = restriction-fits K c blocks (from_stalks K F c stalks blocks complex sheaf) s t a.its_block h a.block_is
       in
       record {
@@ -151,7 +151,7 @@ module _ (K : Ops) (F : IsField K) (c : CellComplex) (stalks : List ℕ) (blocks
             a.block_is;
         shape = signed_matrix-matrix K F (size t) (size s) a.its_sign (matrix_of a.its_block)
             (block-matrix_at K a.its_block (size t) (size s) fit.rows fit.cols fit.scalars);
-        acts = λ value. between-face K F s t (size t) value c.faces blocks sheaf.restrictions.shapes.count complex.apart
+        acts = λ value. between-face K F s t (size t) value c.faces blocks sheaf.shapes.count complex.apart
             (rows K F c stalks blocks complex sheaf t)
             a.its_sign a.its_block a.sign_is a.block_is;
       }
@@ -272,7 +272,7 @@ module _ (K : Ops) (F : IsField K) (c : CellComplex) (stalks : List ℕ) (blocks
   }
     where
       rising : stalkless.HasRisingCells W.cells
-      rising = numbered_cells-rising 0 c.dims stalks sheaf.stalks_fit.one_each
+      rising = numbered_cells-rising 0 c.dims stalks sheaf.one_each
 
       each : (k : ℕ) (z : List ℕ)
           → All (λ (t : Cell). sum_into K (complex_of v).arrows (value_at (cells_of (complex_of v) k) z) t.size t.cell

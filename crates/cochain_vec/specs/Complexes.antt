@@ -39,8 +39,7 @@ value_at (c ∷ cs) z s = if c.cell == s then take c.size z else value_at cs (dr
 abbrev pub IsCochain : Ops → CellularComplex → ℕ → List ℕ → Type 0
 IsCochain K F k z = IsVector K (coordinates F k) z
 
--- the sum, over the matrices into the cell t of n coordinates, of the matrix times the value at the cell that it comes
--- from
+-- the sum, over the matrices into the cell t of n coordinates, of the matrix times the value at where it comes from
 abbrev pub sum_into : Ops → List Arrow → (ℕ → List ℕ) → ℕ → ℕ → List ℕ
 sum_into K [] value n t = zeros n
 sum_into K (a ∷ others) value n t =

@@ -19,14 +19,12 @@ use Rattle.core_machine.specs.Replies.{IsRightReply}
 
 -- ---- states
 
--- where a client is: so many of its commands are done, and nothing is pending; or besides, the next one is a question
--- on this version, and waits for its answer
+-- where a client is: so many of its commands are done; and the next one, a question on this version, may be waiting
 pub data Lane : Type 0 where
   free_lane : ℕ → Lane
   waiting_lane : ℕ → ℕ → Lane
 
--- the sheaf of each version, from version 0 on; the lane of each client; and the pairs of cells that were removed from
--- each version that was asked, none where it was not
+-- the sheaf of each version, from 0 on; the lane of each client; the pairs removed from each version that was asked
 pub record State (F : Type 0) : Type 0 where
   pub sheaves : List (SheafData F)
   pub lanes : ℕ → Lane
@@ -49,8 +47,7 @@ AreVersionsAfter {F} K sheaf edit Accepted old new = (edited : SheafData F) × I
     × (new ≡ old ++ edited ∷ [])
 AreVersionsAfter K sheaf edit (Refused cause) old new = new ≡ old
 
--- client c has nothing pending and comes to an edit; the verdict is that on it and the sheaf of the current version,
--- the last
+-- client c, with nothing pending, comes to an edit; the verdict is that on it and the current version, the last
 pub record EditStep {F : Type 0} (K : Ops) (scripts : List (List Command)) (c : ℕ) (verdict : Verdict) (s t : State F) :
     Type 0 where
   pub position : ℕ
@@ -66,8 +63,7 @@ pub record EditStep {F : Type 0} (K : Ops) (scripts : List (List Command)) (c : 
   pub lanes : t.lanes ≡ with_lane s.lanes c (free_lane (position + 1))
   pub pairs : t.pairs ≡ s.pairs
 
--- client c has nothing pending and comes to a question: it is put on the current version; where that was not asked
--- before, no pair has been removed from it
+-- client c, with nothing pending, comes to a question: it is put on the current version, which counts as asked
 pub record AskStep {F : Type 0} (scripts : List (List Command)) (c : ℕ) (s t : State F) : Type 0 where
   pub position : ℕ
   pub query : Query
@@ -79,8 +75,7 @@ pub record AskStep {F : Type 0} (scripts : List (List Command)) (c : ℕ) (s t :
   pub lanes : t.lanes ≡ with_lane s.lanes c (waiting_lane position version)
   pub pairs : t.pairs ≡ update nat_eq s.pairs version (Some (unwrap_or (s.pairs version) []))
 
--- client c waits for the answer to a question on a version, and the reply is right for the question and the whole
--- complex of the sheaf of that version
+-- client c waits for an answer on a version, and the reply is right for the whole complex of the sheaf there
 pub record ReplyStep {F : Type 0} (K : Ops) (scripts : List (List Command)) (c : ℕ) (reply : Answer) (s t : State F) :
     Type 0 where
   pub position : ℕ

@@ -4,9 +4,9 @@ use Rattle.std.proofs.Common.{subst, arith}
 use Rattle.std.proofs.lemmas.List.{take_all, take_more, get_or-map, length-map}
 use Rattle.dense_blocks.specs.Field.{Ops}
 use Rattle.dense_blocks.specs.FieldLaws.{IsField}
-use Rattle.dense_blocks.specs.Vectors.{AllScalars, plus, negative, dot, combination}
-use Rattle.dense_blocks.specs.Matrices.{cut, image_of, product, matrix_negative}
-use Rattle.dense_blocks.specs.MatrixFacts.{matrix_sum}
+use Rattle.dense_blocks.specs.Vectors.{AllScalars, plus, dot, combination}
+use Rattle.dense_blocks.specs.MatrixFacts.{negative, matrix_sum, matrix_negative}
+use Rattle.dense_blocks.specs.Matrices.{cut, image_of, product}
 use Rattle.dense_blocks.specs.declared.block.Block.{Block}
 use Rattle.dense_blocks.specs.Blocks.{matrix_of}
 use Rattle.dense_blocks.specs.BlockFacts.{IsBlock}

@@ -5,9 +5,9 @@ use Rattle.std.proofs.lemmas.List.{append-nil, take_at, drop_at, take-append-dro
 use Rattle.std.proofs.lemmas.List.{drop-map, take_all, take_more, map_more}
 use Rattle.std.proofs.lemmas.List.Elements.{All-append, All-nil, All-take, All-drop}
 use Rattle.dense_blocks.specs.Field.{Ops}
-use Rattle.dense_blocks.specs.Vectors.{AllScalars, zeros, plus, negative}
-use Rattle.dense_blocks.specs.Matrices.{cut, matrix_negative}
-use Rattle.dense_blocks.specs.MatrixFacts.{identity, zero_matrix, matrix_sum}
+use Rattle.dense_blocks.specs.Vectors.{AllScalars, zeros, plus}
+use Rattle.dense_blocks.specs.MatrixFacts.{negative, identity, zero_matrix, matrix_sum, matrix_negative}
+use Rattle.dense_blocks.specs.Matrices.{cut}
 use Rattle.dense_blocks.proofs.Shapes.{Matrix, vector_of, vector-size, vector-scalars}
 use Rattle.dense_blocks.proofs.VectorLaws.{zeros-append, zeros-size}
 

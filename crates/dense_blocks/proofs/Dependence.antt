@@ -5,7 +5,8 @@ use Rattle.std.proofs.lemmas.Bool.{cases_eq}
 use Rattle.std.proofs.lemmas.List.{length-map}
 use Rattle.dense_blocks.specs.Field.{Ops}
 use Rattle.dense_blocks.specs.FieldLaws.{IsField}
-use Rattle.dense_blocks.specs.Vectors.{zeros, plus, negative, multiple, dot, combination}
+use Rattle.dense_blocks.specs.Vectors.{zeros, plus, multiple, dot, combination}
+use Rattle.dense_blocks.specs.MatrixFacts.{negative}
 use Rattle.dense_blocks.specs.Columns.{Annihilate}
 use Rattle.dense_blocks.proofs.ScalarLaws.{zero_below, one_below, neg_add, one_mul, mul_neg}
 use Rattle.dense_blocks.proofs.Shapes.{Vector, Matrix, matrix-size}

@@ -11,8 +11,8 @@ use Rattle.std.proofs.lemmas.List.{append-nil}
 use Rattle.std.proofs.lemmas.List.Elements.{All-nil, All-push, All-head, All-tail, All-take, All-get_or}
 use Rattle.dense_blocks.specs.Field.{Ops}
 use Rattle.dense_blocks.specs.FieldLaws.{IsField}
-use Rattle.dense_blocks.specs.Vectors.{IsVector, zeros, plus, negative, multiple, dot, combination}
-use Rattle.dense_blocks.specs.MatrixFacts.{IsMatrix}
+use Rattle.dense_blocks.specs.Vectors.{IsVector, zeros, plus, multiple, dot, combination}
+use Rattle.dense_blocks.specs.MatrixFacts.{negative, IsMatrix}
 use Rattle.dense_blocks.specs.Elimination.{IsPivot, rows, pivot_multiple, pivot_remainder, remainder, parts, PullsBack}
 use Rattle.dense_blocks.specs.Elimination.{Eliminates, ComesFrom}
 use Rattle.dense_blocks.specs.Solutions.{lists, IsDependent, IsDependentCoordinate, IsLeading}

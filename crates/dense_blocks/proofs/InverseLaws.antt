@@ -7,9 +7,9 @@ use Rattle.std.proofs.lemmas.List.{get_or-map, get_or-take, get_or-drop, get_or-
 use Rattle.std.proofs.lemmas.List.Elements.{All-get_or}
 use Rattle.dense_blocks.specs.Field.{Ops}
 use Rattle.dense_blocks.specs.FieldLaws.{IsField}
-use Rattle.dense_blocks.specs.Vectors.{zeros, plus, negative, dot}
+use Rattle.dense_blocks.specs.Vectors.{zeros, plus, dot}
+use Rattle.dense_blocks.specs.MatrixFacts.{negative, identity, IsInverse}
 use Rattle.dense_blocks.specs.Matrices.{image_of, product}
-use Rattle.dense_blocks.specs.MatrixFacts.{identity, IsInverse}
 use Rattle.dense_blocks.specs.Columns.{Annihilate, unit, StartUnits, HasUnitColumns, HasNoPivot, beside, kernel_vector}
 use Rattle.dense_blocks.specs.Inverses.{InKernel}
 use Rattle.dense_blocks.proofs.ScalarLaws.{zero_below, one_below, zero_add, zero_mul, one_mul, neg_add}

@@ -3,10 +3,9 @@
 use Rattle.std.proofs.Common.{◌≡◌, ℕ, zero, suc, ◌<◌, List, [], ◌∷◌, map, get_or, refl, sym, ap, ap₂, ◌∙◌, arith}
 use Rattle.dense_blocks.specs.Field.{Ops}
 use Rattle.dense_blocks.specs.FieldLaws.{IsField}
-use Rattle.dense_blocks.specs.Vectors.{zeros, plus, negative, multiple, dot, combination}
-use Rattle.dense_blocks.specs.Matrices.{image_of, product, matrix_negative}
-use Rattle.dense_blocks.specs.MatrixFacts.{identity, zero_matrix, matrix_sum}
-use Rattle.dense_blocks.specs.MatrixFacts.{IsInverse}
+use Rattle.dense_blocks.specs.Vectors.{zeros, plus, multiple, dot, combination}
+use Rattle.dense_blocks.specs.MatrixFacts.{negative, identity, zero_matrix, matrix_sum, IsInverse, matrix_negative}
+use Rattle.dense_blocks.specs.Matrices.{image_of, product}
 use Rattle.dense_blocks.proofs.ScalarLaws.{zero_below, one_below, zero_add, mul_zero, zero_mul, one_mul}
 use Rattle.dense_blocks.proofs.Shapes.{Vector, Matrix, to_matrix}
 use Rattle.dense_blocks.proofs.VectorLaws.{zeros-vector, plus-vector, negative-vector}

@@ -6,7 +6,8 @@ use Rattle.std.proofs.lemmas.List.{take_all, take_more, get_or-take}
 use Rattle.std.proofs.lemmas.List.Elements.{All-cons, All-head, All-tail, All-get_or}
 use Rattle.dense_blocks.specs.Field.{Ops}
 use Rattle.dense_blocks.specs.FieldLaws.{IsField}
-use Rattle.dense_blocks.specs.Vectors.{AllScalars, IsVector, zeros, plus, negative, multiple, dot, combination}
+use Rattle.dense_blocks.specs.Vectors.{AllScalars, IsVector, zeros, plus, multiple, dot, combination}
+use Rattle.dense_blocks.specs.MatrixFacts.{negative}
 use Rattle.dense_blocks.specs.Solutions.{IsDependent, IsDependentCoordinate, Separates}
 use Rattle.dense_blocks.specs.LeadingAnswers.{OneLeadingCombination, OneLeadingFunctional}
 use Rattle.dense_blocks.proofs.ScalarLaws.{zero_below, zero_add, neg_unique, neg_mul, mul_neg, mul_zero}

@@ -4,7 +4,8 @@ use Rattle.std.proofs.Common.{◌≡◌, ℕ, zero, suc, ◌+◌, ◌<◌, List,
 use Rattle.std.proofs.Common.{zero-add, suc-add, append_assoc, arith}
 use Rattle.dense_blocks.specs.Field.{Ops}
 use Rattle.dense_blocks.specs.FieldLaws.{IsField}
-use Rattle.dense_blocks.specs.Vectors.{zeros, plus, negative, multiple, dot, combination}
+use Rattle.dense_blocks.specs.Vectors.{zeros, plus, multiple, dot, combination}
+use Rattle.dense_blocks.specs.MatrixFacts.{negative}
 use Rattle.dense_blocks.proofs.ScalarLaws.{zero_below, one_below, zero_add, neg_add, neg_zero, neg_neg, neg_of_sum}
 use Rattle.dense_blocks.proofs.ScalarLaws.{add_cross, mul_zero, zero_mul, one_mul, add_mul, neg_mul, mul_neg}
 use Rattle.dense_blocks.proofs.ScalarLaws.{mul_left_comm}

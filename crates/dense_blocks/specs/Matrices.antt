@@ -1,7 +1,7 @@
 -- Matrices over a field, as lists of rows.
 use Rattle.std.specs.Prelude.{ℕ, zero, suc, List, [], ◌∷◌, map, take, drop}
 use Rattle.dense_blocks.specs.Field.{Ops}
-use Rattle.dense_blocks.specs.Vectors.{negative, dot, combination}
+use Rattle.dense_blocks.specs.Vectors.{dot, combination}
 
 -- a list of entries cut into so many rows of n
 abbrev pub cut : ℕ → ℕ → List ℕ → List (List ℕ)
@@ -15,7 +15,3 @@ image_of K A v = map (λ row. dot K row v) A
 -- A B, for a B of n columns: its rows are the combinations of the rows of B by the rows of A
 abbrev pub product : Ops → ℕ → List (List ℕ) → List (List ℕ) → List (List ℕ)
 product K n A B = map (λ row. combination K n row B) A
-
--- - A
-abbrev pub matrix_negative : Ops → List (List ℕ) → List (List ℕ)
-matrix_negative K A = map (negative K) A

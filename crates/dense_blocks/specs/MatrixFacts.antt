@@ -1,4 +1,4 @@
--- Shapes, sums and inverses of matrices.
+-- Shapes, negatives, sums and inverses of matrices.
 use Rattle.std.specs.Prelude.{◌≡◌, ℕ, zero, suc, List, [], ◌∷◌, length, map, All}
 use Rattle.dense_blocks.specs.Field.{Ops}
 use Rattle.dense_blocks.specs.Vectors.{IsVector, zeros, plus}
@@ -18,6 +18,14 @@ identity (suc n) = (1 ∷ zeros n) ∷ map (λ row. 0 ∷ row) (identity n)
 abbrev pub zero_matrix : ℕ → ℕ → List (List ℕ)
 zero_matrix zero n = []
 zero_matrix (suc m) n = zeros n ∷ zero_matrix m n
+
+-- - v
+abbrev pub negative : Ops → List ℕ → List ℕ
+negative K v = map K.neg v
+
+-- - A
+abbrev pub matrix_negative : Ops → List (List ℕ) → List (List ℕ)
+matrix_negative K A = map (negative K) A
 
 -- A + B, row by row
 abbrev pub matrix_sum : Ops → List (List ℕ) → List (List ℕ) → List (List ℕ)

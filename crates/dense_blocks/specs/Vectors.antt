@@ -22,10 +22,6 @@ plus K [] v = []
 plus K (a ∷ u) [] = []
 plus K (a ∷ u) (b ∷ v) = K.add a b ∷ plus K u v
 
--- - v
-abbrev pub negative : Ops → List ℕ → List ℕ
-negative K v = map K.neg v
-
 -- k v
 abbrev pub multiple : Ops → ℕ → List ℕ → List ℕ
 multiple K k v = map (K.mul k) v

@@ -1,7 +1,7 @@
 ghost use Rattle.std.specs.Prelude.{◌≡◌, length, IfOk};
 ghost use Rattle.dense_blocks.specs.Vectors.{AllScalars};
-ghost use Rattle.dense_blocks.specs.Matrices.{image_of, product, matrix_negative};
-ghost use Rattle.dense_blocks.specs.MatrixFacts.{matrix_sum};
+ghost use Rattle.dense_blocks.specs.Matrices.{image_of, product};
+ghost use Rattle.dense_blocks.specs.MatrixFacts.{matrix_negative, matrix_sum};
 ghost use Rattle.dense_blocks.specs.Blocks.{matrix_of};
 ghost use Rattle.dense_blocks.specs.BlockFacts.{IsBlock};
 

@@ -6,7 +6,7 @@ use Rattle.dense_blocks.specs.Field.{Ops}
 use Rattle.dense_blocks.specs.FieldLaws.{IsField}
 use Rattle.dense_blocks.specs.declared.block.Block.{Block}
 use Rattle.cell_complex.specs.Complexes.{CellComplex}
-use Rattle.square_check.specs.Answers.{IsFirstFailure}
+use Rattle.square_check.specs.Searches.{IsFirstFailure}
 use Rattle.square_check.specs.Squares.{Commutes}
 use Rattle.sheaf_data.specs.Sheaves.{SheafData, IsSheaf}
 use Rattle.sheaf_words.specs.declared.edit.Edit.{Edit}
@@ -50,18 +50,22 @@ edited_sheaf K old new edit field sheaf verdict is =
     let c : CellComplex = old.complex in
     let lists : SheafLists = sheaf_lists new.stalks new.blocks in
     let before : FitComplex K c (sheaf_lists old.stalks old.blocks) = record {
-      one_each = sheaf.stalks_fit.one_each;
-      low = sheaf.stalks_fit.low;
-      matrices = to-zip K old.stalks c.faces old.blocks sheaf.restrictions.shapes sheaf.restrictions.scalars;
+      one_each = sheaf.one_each;
+      low = sheaf.low;
+      matrices = to-zip K old.stalks c.faces old.blocks sheaf.shapes sheaf.scalars;
     } in
     let fits : FitComplex K c lists =
     sets-fit K (omega (arith, field.order_low)) c 0 edit.sets (sheaf_lists old.stalks old.blocks) lists is.lists before
     in
     let accepted = accepted-lists K c lists
     (subst (λ r. MatchResult r (IsListVerdict K c Accepted) (λ cause. Accepted ≡ Refused cause)) is.lists verdict) in
+    let matrices = from-zip K new.stalks c.faces new.blocks fits.matrices in
     subst (λ k. IsSheaf K k new.stalks new.blocks) (sym is.complex) (record {
       regular = sheaf.regular;
-      stalks_fit = record { one_each = fits.one_each; low = fits.low; few = accepted.0 };
-      restrictions = from-zip K new.stalks c.faces new.blocks fits.matrices;
+      one_each = fits.one_each;
+      low = fits.low;
+      few = accepted.0;
+      shapes = matrices.shapes;
+      scalars = matrices.scalars;
       commutes = accepted-squares K c new.blocks accepted.1;
     })

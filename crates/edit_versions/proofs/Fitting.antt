@@ -14,7 +14,7 @@ use Rattle.dense_blocks.specs.Vectors.{AllScalars, zeros}
 use Rattle.dense_blocks.specs.declared.block.Block.{Block}
 use Rattle.square_check.specs.Squares.{HaveShapes}
 use Rattle.square_check.proofs.Placed.{some-same}
-use Rattle.sheaf_data.specs.Sheaves.{AreBlocks}
+use Rattle.sheaf_data.specs.Drafts.{AreBlocks}
 use Rattle.sheaf_words.specs.declared.edit.Set.{Set}
 use Rattle.sheaf_words.specs.declared.edit.Set.TheVariants.{Stalk, Restrict}
 use Rattle.sheaf_words.specs.declared.edit.Cause.{Cause}

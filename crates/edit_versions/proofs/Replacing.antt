@@ -7,8 +7,8 @@ use Rattle.std.proofs.lemmas.Bool.{both_ways, lt-ltb, ltb-true, ltb_from_iff, an
 use Rattle.std.proofs.lemmas.List.Elements.{All-head, All-tail}
 use Rattle.std.proofs.lemmas.Option.{slice_get_within, get_or_from_slice_get}
 use Rattle.cell_complex.specs.declared.face.Face.{Face}
-use Rattle.cell_complex.specs.Complexes.{CellComplex, joins, is_face, place}
-use Rattle.cell_complex.specs.Invariants.{AreApart}
+use Rattle.cell_complex.specs.Complexes.{CellComplex, joins, is_face}
+use Rattle.cell_complex.specs.Invariants.{place, AreApart}
 use Rattle.square_check.proofs.Placed.{some-same}
 use Rattle.dense_blocks.specs.Blocks.{WrittenMatrix}
 use Rattle.edit_versions.specs.Works.{with_replacements}

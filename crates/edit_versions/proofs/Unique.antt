@@ -8,7 +8,7 @@ use Rattle.std.proofs.lemmas.Bool.{cases_order, lt-ltb, eq-eqb}
 use Rattle.dense_blocks.specs.Field.{Ops}
 use Rattle.dense_blocks.specs.declared.block.Block.{Block}
 use Rattle.cell_complex.specs.Complexes.{CellComplex}
-use Rattle.square_check.specs.Answers.{IsFirstFailure, is_before}
+use Rattle.square_check.specs.Searches.{IsFirstFailure, is_before}
 use Rattle.square_check.specs.Squares.{Commutes}
 use Rattle.sheaf_data.specs.Sheaves.{SheafData}
 use Rattle.sheaf_words.specs.declared.edit.Edit.{Edit}

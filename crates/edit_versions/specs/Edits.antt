@@ -22,8 +22,7 @@ pub record SheafLists : Type 0 where
 abbrev pub sheaf_lists : List ℕ → List Block → SheafLists
 sheaf_lists stalks blocks = record { stalks = stalks; matrices = map written_matrix blocks }
 
--- the first of these: a stalk of no cell, a stalk above 16; a restriction of no face, of the wrong number of entries
--- under these stalks, with an entry that is no scalar
+-- the first of these: no cell, a stalk above 16; no face, the wrong number of entries, an entry that is no scalar
 abbrev pub set_fault : Ops → CellComplex → List ℕ → ℕ → Set → Option Cause
 set_fault K c stalks i (Stalk s n) =
     if not (nat_lt s (length c.dims)) then Some (NoCell i)
@@ -40,8 +39,7 @@ abbrev pub matrix_between : List ℕ → ℕ → ℕ → List ℕ → WrittenMat
 matrix_between stalks s t entries =
     record { rows = slice_index stalks t; cols = slice_index stalks s; entries = entries }
 
--- what a set makes: a stalk's new size, and the zero matrix at each face at the cell; or the matrix of a face; at each
--- other face the matrix stays
+-- what a set makes: a stalk's size, and the zero matrix at each face there; or the matrix of a face; all else stays
 abbrev pub with_set : CellComplex → SheafLists → Set → SheafLists
 with_set c l (Stalk s n) =
     let stalks = slice_set l.stalks s n in

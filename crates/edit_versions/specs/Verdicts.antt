@@ -1,10 +1,10 @@
 -- The verdict on an edit, and the sheaf that it makes.
-use Rattle.std.specs.Prelude.{◌≡◌, ℕ, List, Option, Ok, MatchResult, MatchBool, length, map, sum, nat_lt}
+use Rattle.std.specs.Prelude.{◌≡◌, ℕ, List, Option, Ok, MatchOption, MatchResult, MatchBool, length, map, sum, nat_lt}
 use Rattle.std.specs.Option.{option_map_or}
 use Rattle.cell_complex.specs.Complexes.{CellComplex}
 use Rattle.dense_blocks.specs.Field.{Ops}
 use Rattle.dense_blocks.specs.declared.block.Block.{Block}
-use Rattle.square_check.specs.Answers.{IsFirstFailure}
+use Rattle.square_check.specs.Answers.{IsFirstOf}
 use Rattle.square_check.specs.Squares.{Commutes}
 use Rattle.sheaf_data.specs.Sheaves.{SheafData}
 use Rattle.sheaf_words.specs.declared.edit.Edit.{Edit}
@@ -19,11 +19,11 @@ pub record IsSquareVerdict (K : Ops) (c : CellComplex) (matrices : List WrittenM
   pub blocks : List Block
   pub same : map written_matrix blocks ≡ matrices
   pub bad : Option (ℕ × ℕ)
-  pub first : IsFirstFailure (Commutes K c blocks) (length c.dims) bad
+  pub first : MatchOption bad ((s u : ℕ) → Commutes K c blocks s u)
+      (λ p. IsFirstOf (Commutes K c blocks) (length c.dims) p.0 p.1)
   pub verdict : v ≡ option_map_or (λ p. Refused (Square p.0 p.1)) bad Accepted
 
--- the verdict on an edit of a sheaf over the field of K: the first set at fault; else, of what all sets make, too large
--- a total; else that on the restrictions
+-- the verdict on an edit: the first set at fault; else, of what all sets make, too large a total; else the first square
 abbrev pub IsVerdict : {F : Type 0} → Ops → SheafData F → Edit → Verdict → Type 0
 IsVerdict K sheaf edit v =
     MatchResult (sets_made K sheaf.complex (sheaf_lists sheaf.stalks sheaf.blocks) 0 edit.sets)

@@ -7,7 +7,7 @@ use Rattle.cell_complex.specs.Complexes.{CellComplex, joins}
 use Rattle.dense_blocks.specs.Field.{Ops}
 use Rattle.dense_blocks.specs.Vectors.{zeros}
 use Rattle.dense_blocks.specs.declared.block.Block.{Block}
-use Rattle.sheaf_data.specs.Sheaves.{AreBlocks}
+use Rattle.sheaf_data.specs.Drafts.{AreBlocks}
 use Rattle.sheaf_data.specs.Changes.{AreSameElsewhere}
 use Rattle.sheaf_words.specs.declared.edit.Set.{Set}
 use Rattle.edit_versions.specs.declared.work.Work.{Work}

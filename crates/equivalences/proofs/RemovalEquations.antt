@@ -5,7 +5,8 @@ use Rattle.std.proofs.Common.{◌∙◌, subst, arith, List, get_or, All}
 use Rattle.std.proofs.lemmas.Bool.{eq-eqb, eqb-true, cases_eq}
 use Rattle.dense_blocks.specs.Field.{Ops}
 use Rattle.dense_blocks.specs.FieldLaws.{IsField}
-use Rattle.dense_blocks.specs.Vectors.{zeros, plus, negative, multiple}
+use Rattle.dense_blocks.specs.Vectors.{zeros, plus, multiple}
+use Rattle.dense_blocks.specs.MatrixFacts.{negative}
 use Rattle.dense_blocks.specs.Matrices.{image_of}
 use Rattle.dense_blocks.proofs.Shapes.{Vector, matrix-size, to_vector}
 use Rattle.dense_blocks.proofs.VectorLaws.{zeros-vector, plus-vector, negative-vector, plus-zeros, zeros-plus}

@@ -3,9 +3,9 @@ use Rattle.std.specs.Prelude.{◌==◌}
 use Rattle.std.specs.List.{flat_map}
 use Rattle.std.proofs.Common.{◌≡◌, ℕ, suc, true, cond, List, [], ◌∷◌, map, refl, sym, ap, ap₂, ◌∙◌}
 use Rattle.dense_blocks.specs.Field.{Ops}
-use Rattle.dense_blocks.specs.Vectors.{combination, zeros, plus, negative}
-use Rattle.dense_blocks.specs.Matrices.{product, image_of, matrix_negative}
-use Rattle.dense_blocks.specs.MatrixFacts.{matrix_sum}
+use Rattle.dense_blocks.specs.Vectors.{combination, zeros, plus}
+use Rattle.dense_blocks.specs.MatrixFacts.{negative, matrix_sum, matrix_negative}
+use Rattle.dense_blocks.specs.Matrices.{product, image_of}
 use Rattle.cochain_vec.specs.declared.cell.Cell.{Cell}
 use Rattle.cochain_vec.specs.Complexes.{CellularComplex, cells_of, value_at, sum_into}
 use Rattle.cochain_vec.proofs.CoboundaryLaws.{joined-same}

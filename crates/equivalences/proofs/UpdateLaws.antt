@@ -8,9 +8,9 @@ use Rattle.std.proofs.lemmas.List.Elements.{All-tail, All-head}
 use Rattle.std.proofs.lemmas.Bool.{eq-eqb, ne_eqb, eqb-true, cases_eq}
 use Rattle.dense_blocks.specs.Field.{Ops}
 use Rattle.dense_blocks.specs.FieldLaws.{IsField}
-use Rattle.dense_blocks.specs.Vectors.{zeros, plus, negative, dot, combination}
-use Rattle.dense_blocks.specs.MatrixFacts.{IsMatrix, matrix_sum}
-use Rattle.dense_blocks.specs.Matrices.{image_of, product, matrix_negative}
+use Rattle.dense_blocks.specs.Vectors.{zeros, plus, dot, combination}
+use Rattle.dense_blocks.specs.MatrixFacts.{negative, IsMatrix, matrix_sum, matrix_negative}
+use Rattle.dense_blocks.specs.Matrices.{image_of, product}
 use Rattle.dense_blocks.specs.LinearMaps.{IsMatrixOf}
 use Rattle.dense_blocks.proofs.Shapes.{Vector, Matrix, vector-size, vector-nil, to_vector, to_matrix, from_matrix}
 use Rattle.dense_blocks.proofs.Shapes.{matrix-size, append-matrix}

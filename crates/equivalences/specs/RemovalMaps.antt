@@ -2,7 +2,8 @@
 use Rattle.std.specs.Prelude.{ℕ, suc, List, ◌==◌, if◌then◌else◌}
 use Rattle.std.specs.List.{flat_map}
 use Rattle.dense_blocks.specs.Field.{Ops}
-use Rattle.dense_blocks.specs.Vectors.{zeros, plus, negative}
+use Rattle.dense_blocks.specs.Vectors.{zeros, plus}
+use Rattle.dense_blocks.specs.MatrixFacts.{negative}
 use Rattle.dense_blocks.specs.Matrices.{image_of}
 use Rattle.cochain_vec.specs.Complexes.{cells_of, value_at, sum_into}
 use Rattle.block_complexes.specs.BlockComplexes.{BlockComplex, size_of}

@@ -2,9 +2,9 @@
 use Rattle.std.specs.Prelude.{◌==◌, ℕ, suc, List, [], ◌∷◌, if◌then◌else◌, map, take, drop}
 use Rattle.std.specs.List.{flat_map}
 use Rattle.dense_blocks.specs.Field.{Ops}
-use Rattle.dense_blocks.specs.Vectors.{plus, negative, combination}
-use Rattle.dense_blocks.specs.Matrices.{image_of, product, matrix_negative}
-use Rattle.dense_blocks.specs.MatrixFacts.{matrix_sum}
+use Rattle.dense_blocks.specs.Vectors.{plus, combination}
+use Rattle.dense_blocks.specs.MatrixFacts.{negative, matrix_sum, matrix_negative}
+use Rattle.dense_blocks.specs.Matrices.{image_of, product}
 use Rattle.cochain_vec.specs.declared.cell.Cell.{Cell}
 use Rattle.cochain_vec.specs.Complexes.{cells_of}
 use Rattle.block_complexes.specs.BlockComplexes.{BlockComplex}

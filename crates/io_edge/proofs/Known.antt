@@ -4,7 +4,8 @@ use Rattle.std.proofs.Common.{ap, ◌∙◌, append_assoc, arith}
 use Rattle.std.specs.Prelude.{IfSome}
 use Rattle.std.proofs.lemmas.List.{append-nil, length-append}
 use Rattle.std.specs.Io.KnownBytes.{prepend_known, append_known, IsAtEnd}
-use Rattle.io_edge.specs.Bytes.{Gave, Took, TookPrefix}
+use Rattle.io_edge.specs.Bytes.{Took, TookPrefix}
+use Rattle.io_edge.specs.Input.{Gave}
 
 pub append_known-then : (known : Option (List ℕ)) (xs ys : List ℕ) → append_known (append_known known xs) ys
     ≡ append_known known (xs ++ ys)

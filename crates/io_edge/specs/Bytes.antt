@@ -1,10 +1,6 @@
--- What calls do to the bytes that a source has left and to those that a sink took, where these are told.
+-- What calls do to the bytes that a sink took, where these are told.
 use Rattle.std.specs.Prelude.{◌≡◌, ℕ, List, length, ◌++◌, ⊤, Option, None, Some}
-use Rattle.std.specs.Io.KnownBytes.{prepend_known, append_known}
-
--- the source gave these bytes: they stood before those that it has left now
-abbrev pub Gave : Option (List ℕ) → Option (List ℕ) → List ℕ → Type 0
-Gave old new bytes = old ≡ prepend_known bytes new
+use Rattle.std.specs.Io.KnownBytes.{append_known}
 
 -- the sink took these bytes: they stand after those that it had taken before
 abbrev pub Took : Option (List ℕ) → Option (List ℕ) → List ℕ → Type 0

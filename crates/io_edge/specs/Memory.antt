@@ -1,6 +1,6 @@
 -- What callers see of a source and of a sink over memory.
 use Rattle.std.specs.Prelude.{ℕ, List, Contains}
-use Rattle.io_edge.specs.Faults.{next_count}
+use Rattle.io_edge.specs.Counts.{next_count}
 
 -- the bytes still to come, how many of them a read gives at most, which calls fail, and the counts of calls and of
 -- faults

@@ -1,7 +1,9 @@
 ghost use Rattle.std.specs.Prelude.{◌≡◌, ◌≢◌, ℕ, ◌<◌, ◌≤◌, ◌↔◌, List, [], Option, None, length, take, IfOk, IfSome};
 ghost use Rattle.std.specs.Prelude.{OnOk, OnErr};
-ghost use Rattle.io_edge.specs.Faults.{HasCause, next_count};
-ghost use Rattle.io_edge.specs.Bytes.{Gave, Took, IsFlushed};
+ghost use Rattle.io_edge.specs.Faults.{HasCause};
+ghost use Rattle.io_edge.specs.Counts.{next_count};
+ghost use Rattle.io_edge.specs.Bytes.{Took, IsFlushed};
+ghost use Rattle.std.specs.Io.KnownBytes.{prepend_known};
 
 use thiserror::Error;
 
@@ -37,7 +39,7 @@ pub trait Source {
     fn read(&mut self, buf: &mut [u8]) -> Result<usize, Failed>
         requires { 0 < length buf.old }
         ensures bound { IfOk result (λ n. n ≤ length buf.new) }
-        ensures gave { IfOk result (λ n. Gave (left self.old) (left self.new) (take n buf.new)) }
+        ensures gave { IfOk result (λ n. left self.old ≡ prepend_known (take n buf.new) (left self.new)) }
         ensures end { IfOk result (λ n. IfSome (left self.old) (λ bytes. (n ≡ 0) ↔ (bytes ≡ []))) }
         ensures failed { OnErr result (left self.new ≡ left self.old) }
         ensures cause { HasCause (fault_count self.old) (fault_count self.new) result };

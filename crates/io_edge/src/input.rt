@@ -1,8 +1,7 @@
 ghost use Rattle.std.specs.Prelude.{◌≡◌, ℕ, ◌<◌, ◌≤◌, List, length, IfOk, IfSome, OnOk, IsErrOf};
 ghost use Rattle.std.specs.Io.KnownBytes.{IsAtEnd};
 ghost use Rattle.io_edge.specs.Faults.{Rose};
-ghost use Rattle.io_edge.specs.Bytes.{Gave};
-ghost use Rattle.io_edge.specs.Input.{ReadUpTo};
+ghost use Rattle.io_edge.specs.Input.{Gave, ReadUpTo};
 ghost use Rattle.io_edge.specs.declared.input.ReadAll.TheVariants.{NoMemory};
 
 use crate::edge::Source;

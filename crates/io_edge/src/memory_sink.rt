@@ -1,6 +1,7 @@
 ghost use Rattle.std.specs.Prelude.{◌≡◌, ℕ, ◌-◌, ◌<◌, ◌≤◌, ◌↔◌, ◌⊎◌, [], ◌++◌, Some, length, take, min, IfOk, OnOk};
 ghost use Rattle.std.specs.Prelude.{OnErr, IsErr};
-ghost use Rattle.io_edge.specs.Faults.{HasCause, next_count};
+ghost use Rattle.io_edge.specs.Faults.{HasCause};
+ghost use Rattle.io_edge.specs.Counts.{next_count};
 ghost use Rattle.io_edge.specs.Bytes.{Took, IsFlushed};
 ghost use Rattle.io_edge.specs.Memory.{SinkState, FailsNext};
 

@@ -1,6 +1,7 @@
 ghost use Rattle.std.specs.Prelude.{◌≡◌, ℕ, ◌<◌, ◌≤◌, ◌↔◌, [], Some, length, take, drop, min, IfOk, OnErr, IsErr};
-ghost use Rattle.io_edge.specs.Faults.{HasCause, next_count};
-ghost use Rattle.io_edge.specs.Bytes.{Gave};
+ghost use Rattle.io_edge.specs.Faults.{HasCause};
+ghost use Rattle.io_edge.specs.Counts.{next_count};
+ghost use Rattle.io_edge.specs.Input.{Gave};
 ghost use Rattle.io_edge.specs.Memory.{SourceState, FailsNext};
 
 use crate::edge::{Failed, Source};

@@ -1,5 +1,5 @@
 ghost use Rattle.std.specs.Prelude.{◌≡◌, ◌↔◌, IsTrue};
-ghost use Rattle.io_edge.specs.Faults.{next_count};
+ghost use Rattle.io_edge.specs.Counts.{next_count};
 ghost use Rattle.io_edge.specs.Memory.{FailsNext};
 
 /// Counts one call more, up to the last value of a `u64`, and says whether it is among the failing ones.

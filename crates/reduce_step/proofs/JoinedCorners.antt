@@ -1,8 +1,8 @@
 -- The new corners of a removal, from the blocks of the joined matrices.
 use Rattle.std.proofs.Common.{◌≡◌, ℕ, true, List, [], ◌∷◌, ap, ◌∙◌, subst, arith}
 use Rattle.dense_blocks.specs.Field.{Ops}
-use Rattle.dense_blocks.specs.Matrices.{product, matrix_negative}
-use Rattle.dense_blocks.specs.MatrixFacts.{matrix_sum}
+use Rattle.dense_blocks.specs.Matrices.{product}
+use Rattle.dense_blocks.specs.MatrixFacts.{matrix_negative, matrix_sum}
 use Rattle.dense_blocks.specs.Blocks.{matrix_of}
 use Rattle.dense_blocks.specs.declared.block.Block.{Block}
 use Rattle.dense_blocks.proofs.Cutting.{Sized}

@@ -8,9 +8,9 @@ use Rattle.std.proofs.lemmas.List.{take-map, drop-map, take_all}
 use Rattle.std.proofs.lemmas.List.Elements.{All-head, All-tail}
 use Rattle.std.proofs.Math.Seq.{take-append_seam, drop-append_seam}
 use Rattle.dense_blocks.specs.Field.{Ops}
-use Rattle.dense_blocks.specs.Vectors.{zeros, plus, negative, multiple, combination}
-use Rattle.dense_blocks.specs.Matrices.{product, matrix_negative}
-use Rattle.dense_blocks.specs.MatrixFacts.{matrix_sum}
+use Rattle.dense_blocks.specs.Vectors.{zeros, plus, multiple, combination}
+use Rattle.dense_blocks.specs.MatrixFacts.{negative, matrix_sum, matrix_negative}
+use Rattle.dense_blocks.specs.Matrices.{product}
 use Rattle.dense_blocks.proofs.VectorLaws.{nil-plus, plus-nil, zeros-append, zeros-size}
 use Rattle.dense_blocks.proofs.Cutting.{Sized, sized-size}
 use Rattle.rising_lists.specs.Rising.{has, keys}

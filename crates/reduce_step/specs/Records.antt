@@ -2,8 +2,8 @@
 use Rattle.std.specs.Prelude.{ℕ, List}
 use Rattle.dense_blocks.specs.Field.{Ops}
 use Rattle.dense_blocks.specs.Vectors.{AllScalars}
-use Rattle.dense_blocks.specs.Matrices.{product, matrix_negative}
-use Rattle.dense_blocks.specs.MatrixFacts.{matrix_sum}
+use Rattle.dense_blocks.specs.Matrices.{product}
+use Rattle.dense_blocks.specs.MatrixFacts.{matrix_negative, matrix_sum}
 use Rattle.dense_blocks.specs.Blocks.{matrix_of}
 use Rattle.dense_blocks.specs.BlockFacts.{IsBlock}
 use Rattle.dense_blocks.specs.declared.block.Block.{Block}

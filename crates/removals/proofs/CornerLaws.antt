@@ -4,9 +4,9 @@ use Rattle.std.proofs.Common.{◌⊎◌, inl, inr, List, [], ◌∷◌, filter, 
 use Rattle.std.proofs.lemmas.Bool.{eq-eqb, ne_eqb, cases_eq}
 use Rattle.dense_blocks.specs.Field.{Ops}
 use Rattle.dense_blocks.specs.FieldLaws.{IsField}
-use Rattle.dense_blocks.specs.Vectors.{plus, negative}
-use Rattle.dense_blocks.specs.Matrices.{image_of, product, matrix_negative}
-use Rattle.dense_blocks.specs.MatrixFacts.{zero_matrix, matrix_sum}
+use Rattle.dense_blocks.specs.Vectors.{plus}
+use Rattle.dense_blocks.specs.MatrixFacts.{negative, zero_matrix, matrix_sum, matrix_negative}
+use Rattle.dense_blocks.specs.Matrices.{image_of, product}
 use Rattle.dense_blocks.proofs.Shapes.{Matrix, to_matrix}
 use Rattle.dense_blocks.proofs.MatrixLaws.{matrix_sum-matrix, matrix_negative-matrix, product-matrix}
 use Rattle.dense_blocks.proofs.MatrixLaws.{matrix_sum-zero_matrix, matrix_negative-zero_matrix, product-zero_matrix}

@@ -6,9 +6,9 @@ use Rattle.std.proofs.lemmas.Bool.{and_parts, eqb-true}
 use Rattle.std.proofs.lemmas.List.Elements.{All-filter}
 use Rattle.dense_blocks.specs.Field.{Ops}
 use Rattle.dense_blocks.specs.FieldLaws.{IsField}
-use Rattle.dense_blocks.specs.Vectors.{zeros, plus, negative}
+use Rattle.dense_blocks.specs.Vectors.{zeros, plus}
+use Rattle.dense_blocks.specs.MatrixFacts.{negative, IsMatrix, zero_matrix}
 use Rattle.dense_blocks.specs.Matrices.{image_of, product}
-use Rattle.dense_blocks.specs.MatrixFacts.{IsMatrix, zero_matrix}
 use Rattle.dense_blocks.proofs.Shapes.{Vector, Matrix, from_matrix}
 use Rattle.dense_blocks.proofs.VectorLaws.{plus-vector, negative-vector, plus-negative, negative-plus}
 use Rattle.dense_blocks.proofs.VectorLaws.{negative-negative, negative-zeros, negative-unique, zeros-plus-zeros}

@@ -1,8 +1,8 @@
 -- A removal from the same block complex, one that leaves the same, and two removals of one pair.
 use Rattle.std.proofs.Common.{◌≡◌, ℕ, true, cond, List, sym, ap, ap₂, ◌∙◌, subst}
 use Rattle.dense_blocks.specs.Field.{Ops}
-use Rattle.dense_blocks.specs.Matrices.{product, matrix_negative}
-use Rattle.dense_blocks.specs.MatrixFacts.{matrix_sum, IsInverse}
+use Rattle.dense_blocks.specs.Matrices.{product}
+use Rattle.dense_blocks.specs.MatrixFacts.{matrix_negative, matrix_sum, IsInverse}
 use Rattle.rising_lists.specs.Rising.{has}
 use Rattle.block_complexes.specs.BlockComplexes.{BlockComplex, AreBothLive, HaveSameMatrices, cells, size_of}
 use Rattle.block_complexes.proofs.SameLaws.{with-live}

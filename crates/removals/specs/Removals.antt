@@ -1,8 +1,8 @@
 -- The removal of a pair of cells from a block complex.
 use Rattle.std.specs.Prelude.{◌≡◌, ◌==◌, ◌&&◌, ◌||◌, ℕ, Bool, List, filter, not, if◌then◌else◌}
 use Rattle.dense_blocks.specs.Field.{Ops}
-use Rattle.dense_blocks.specs.Matrices.{product, matrix_negative}
-use Rattle.dense_blocks.specs.MatrixFacts.{matrix_sum, IsInverse}
+use Rattle.dense_blocks.specs.Matrices.{product}
+use Rattle.dense_blocks.specs.MatrixFacts.{matrix_negative, matrix_sum, IsInverse}
 use Rattle.block_complexes.specs.BlockComplexes.{BlockComplex, AreBothLive, AreConsecutive, degree_of, size_of}
 
 -- M(s, t) - M(x, t) a M(s, y), where M(s, t) is the matrix from s to t

@@ -34,14 +34,12 @@ asked_from c n v (Ask d ∷ events) = asked_from c n (if d == c then n else v) e
 asked_from c n v (Edit d Accepted ∷ events) = asked_from c (n + 1) v events
 asked_from c n v (event ∷ events) = asked_from c n v events
 
--- the version that the reply names which an event after the earlier ones gives: for a question the one that it was put
--- on, for an edit the one that stands then
+-- the version that a reply names: of a question the one that it was put on, of an edit the one that stands then
 abbrev pub version_named : List Event → Event → ℕ
 version_named earlier (Reply c r) = asked_from c 0 0 earlier
 version_named earlier event = count_by is_accepted (earlier ++ event ∷ [])
 
--- the replies to client c with this script, in order: each event that ends a command of its script gives the lines that
--- answer it
+-- the replies to client c with this script, in order: the lines of each event that ends a command of its script
 abbrev pub client_lines : ℕ → List Command → List Event → List Event → List (List (List ℕ))
 client_lines c script earlier [] = []
 client_lines c script earlier (event ∷ events) =
@@ -57,8 +55,7 @@ event_words earlier (Ask c) = codes "ask" ∷ decimal c ∷ decimal (ended_count
 event_words earlier (Pair v x y) = codes "pair" ∷ decimal v ∷ decimal x ∷ decimal y ∷ []
 event_words earlier (Reply c r) = codes "reply" ∷ decimal c ∷ decimal (ended_count c earlier + 1) ∷ []
 
--- the transcript of the events that clients with these scripts made: for each client, from 0 on, a line and the replies
--- to it; and then a line for each event, in order
+-- the transcript: for each client, from 0 on, a line and the replies to it; then a line for each event, in order
 abbrev pub transcript : List (List Command) → List Event → List ℕ
 transcript scripts events =
     flat_map line_text (flat_map (λ (p : ℕ × List Command). (codes "client" ∷ decimal p.0 ∷ [])

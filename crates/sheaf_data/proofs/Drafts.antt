@@ -18,8 +18,8 @@ use Rattle.square_check.specs.Squares.{HaveShapes, Commutes}
 use Rattle.sheaf_data.specs.declared.fault.SealFault.{SealFault}
 use Rattle.sheaf_data.specs.declared.fault.SealFault.TheVariants.{Complex, Noncommuting}
 use Rattle.sheaf_data.specs.Refusals.{IsFault}
-use Rattle.sheaf_data.specs.Sheaves.{AreBlocks, IsSheaf}
-use Rattle.sheaf_data.specs.Drafts.{HasShape, IsZero, AreZeroBlocks, IsDraft}
+use Rattle.sheaf_data.specs.Sheaves.{IsSheaf}
+use Rattle.sheaf_data.specs.Drafts.{AreBlocks, HasShape, IsZero, AreZeroBlocks, IsDraft}
 
 some-same : {X : Type 0} (x y : X) → Some x ≡ Some y → x ≡ y
 some-same x y e = cc
@@ -83,8 +83,11 @@ pub sheaf-replaced : (K : Ops) (c : CellComplex) (stalks stalks' : List ℕ) (bl
     → ((s u : ℕ) → Commutes K c blocks' s u) → IsSheaf K c stalks' blocks'
 sheaf-replaced K c stalks stalks' blocks blocks' h fits commutes = record {
   regular = h.regular;
-  stalks_fit = fits.stalks_fit;
-  restrictions = fits.blocks_fit;
+  one_each = fits.stalks_fit.one_each;
+  low = fits.stalks_fit.low;
+  few = fits.stalks_fit.few;
+  shapes = fits.blocks_fit.shapes;
+  scalars = fits.blocks_fit.scalars;
   commutes = commutes;
 }
 

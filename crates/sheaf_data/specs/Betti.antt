@@ -7,17 +7,15 @@ use Rattle.cell_complex.specs.declared.face.Sign.TheVariants.{Plus, Minus}
 use Rattle.cell_complex.specs.Complexes.{CellComplex}
 use Rattle.cochain_vec.specs.Complexes.{CellularComplex}
 use Rattle.dense_blocks.specs.Field.{Ops}
-use Rattle.dense_blocks.specs.Matrices.{matrix_negative}
 use Rattle.dense_blocks.specs.Blocks.{matrix_of}
 use Rattle.dense_blocks.specs.declared.block.Block.{Block}
 
 -- a sign times a matrix
 abbrev pub signed_matrix : Ops → Sign → List (List ℕ) → List (List ℕ)
 signed_matrix K Plus A = A
-signed_matrix K Minus A = matrix_negative K A
+signed_matrix K Minus A = map (map K.neg) A
 
--- the whole complex: every cell, with its dimension as its degree and its stalk as its size; and for every face the
--- sign times the matrix of its block, from the coordinates of s to those of t
+-- the whole complex: each cell, with its dimension as degree and its stalk as size; each face's sign times its matrix
 abbrev pub cochain_complex_of : Ops → CellComplex → List ℕ → List Block → CellularComplex
 cochain_complex_of K c stalks blocks = record {
   cells = map (λ (p : ℕ × (ℕ × ℕ)). record { cell = p.0; degree = p.1.0; size = p.1.1 })

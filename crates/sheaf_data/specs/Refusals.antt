@@ -9,8 +9,7 @@ use Rattle.square_check.specs.Squares.{Commutes}
 use Rattle.sheaf_data.specs.declared.fault.SealFault.{SealFault}
 use Rattle.sheaf_data.specs.declared.fault.SealFault.TheVariants.{Complex, Noncommuting}
 
--- the incidences are not regular, with their first fault; or they are, with the first pair whose square does not
--- commute
+-- the incidences are not regular, with their first fault; or they are, with the first square that does not commute
 abbrev pub IsFault : Ops → CellComplex → List Block → SealFault → Type 0
 IsFault K c blocks (Complex fault) = (HasRegularIncidences c → ⊥) × (slice_get (faults c) 0 ≡ Some fault)
 IsFault K c blocks (Noncommuting s u) = HasRegularIncidences c × IsFirstOf (Commutes K c blocks) (length c.dims) s u

@@ -1,7 +1,6 @@
 ghost use Rattle.std.specs.Prelude.{◌≡◌, ℕ, ◌<◌, ◌↔◌, ◌≤◌, IsTrue, IfOk, IfSome, length, slice_get, slice_set, sum};
 ghost use Rattle.dense_blocks.specs.Vectors.{AllScalars};
-ghost use Rattle.sheaf_data.specs.Sheaves.{AreStalks};
-ghost use Rattle.sheaf_data.specs.Drafts.{HasShape, IsZero, AreZeroBlocks, IsDraft};
+ghost use Rattle.sheaf_data.specs.Drafts.{AreStalks, HasShape, IsZero, AreZeroBlocks, IsDraft};
 
 use cell_complex::{Complex, Face};
 use dense_blocks::{Block, Listed, Scalars, all_scalars};

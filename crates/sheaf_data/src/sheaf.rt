@@ -1,5 +1,6 @@
 ghost use Rattle.std.specs.Prelude.{◌≡◌, ℕ, ◌<◌, ◌↔◌, All, IsOk, IfOk, IfErr, OnOk, OnErr, MatchOption, length};
-ghost use Rattle.square_check.specs.Answers.{IsFirstOf, IsFirstFailure};
+ghost use Rattle.square_check.specs.Answers.{IsFirstOf};
+ghost use Rattle.square_check.specs.Searches.{IsFirstFailure};
 ghost use Rattle.square_check.specs.Squares.{Commutes};
 ghost use Rattle.sheaf_data.specs.Sheaves.{IsSheaf};
 ghost use Rattle.sheaf_data.specs.Drafts.{IsDraft};

@@ -1,5 +1,5 @@
 ghost use Rattle.std.specs.Prelude.{◌↔◌, ◌≤◌, IsTrue, sum};
-ghost use Rattle.sheaf_data.specs.Sheaves.{AreStalks};
+ghost use Rattle.sheaf_data.specs.Drafts.{AreStalks};
 
 /// The most coordinates of a stalk.
 const MOST_OF_A_STALK: u8 = 16;

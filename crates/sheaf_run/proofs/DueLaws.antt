@@ -15,6 +15,7 @@ use Rattle.sheaf_text.specs.Readings.{Reading, reading}
 use Rattle.sheaf_text.specs.Readings as readings
 use Rattle.sheaf_text.specs.declared.input.Input.{Input}
 use Rattle.sheaf_text.proofs.Inputs.{input_value-injective}
+use Rattle.sheaf_text.specs.declared.fault.Refusal.TheVariants.{Bad, Over}
 use Rattle.sheaf_run.specs.declared.job.Job.{Job}
 use Rattle.sheaf_run.specs.declared.status.Status.{Status}
 use Rattle.sheaf_run.specs.declared.status.Status.TheVariants.{Done, ReadFault, WriteFault, NoMemory, BadComplex}
@@ -69,8 +70,7 @@ draft_due_only d _ other h due = absurd h
 due_of_reading : (job : Job) (r : Reading) (a : Outcome) → AnswersReading job r a → IsDue job r a.status
 due_of_reading job (readings.Good v) a found =
     (found.0, found.1, due_of_draft job found.0.draft found.0.scripts a found.2)
-due_of_reading job (readings.BadLine line cause) a is = ap (λ (o : Outcome). o.status) is
-due_of_reading job (readings.Limit line which) a is = ap (λ (o : Outcome). o.status) is
+due_of_reading job (readings.RefusedLine line refusal) a is = ap (λ (o : Outcome). o.status) is
 
 reading_due_only : (job : Job) (r : Reading) (a : Outcome) → AnswersReading job r a → (status : Status)
     → IsDue job r status → a.status ≡ status
@@ -78,8 +78,8 @@ reading_due_only job (readings.Good v) a found status due =
     draft_due_only found.0.draft a.status status (due_of_draft job found.0.draft found.0.scripts a found.2)
     (subst (λ (i : Input). DraftIsDue i.draft status)
     (input_value-injective due.0 found.0 (sym due.1 ∙ found.1)) due.2)
-reading_due_only job (readings.BadLine line cause) a is status due = ap (λ (o : Outcome). o.status) is ∙ sym due
-reading_due_only job (readings.Limit line which) a is status due = ap (λ (o : Outcome). o.status) is ∙ sym due
+reading_due_only job (readings.RefusedLine line refusal) a is status due =
+    ap (λ (o : Outcome). o.status) is ∙ sym due
 
 -- ---- what is answered
 
@@ -122,9 +122,9 @@ done_serves job bytes source_new sink sink_new result a done end sent (readings.
       flushed = sent.flushed;
       at_end = end;
     }
-done_serves job bytes source_new sink sink_new result a done end sent (readings.BadLine line cause) e is =
+done_serves job bytes source_new sink sink_new result a done end sent (readings.RefusedLine line (Bad cause)) e is =
     let same = sym (ap (λ (o : Outcome). o.status) is) ∙ done in absurd cc
-done_serves job bytes source_new sink sink_new result a done end sent (readings.Limit line which) e is =
+done_serves job bytes source_new sink sink_new result a done end sent (readings.RefusedLine line (Over which)) e is =
     let same = sym (ap (λ (o : Outcome). o.status) is) ∙ done in absurd cc
 
 pub serves : (job : Job) (source source_new : SourceView) (sink sink_new : SinkView) (result : Status)

@@ -7,6 +7,7 @@ use Rattle.io_edge.specs.Bytes.{Took, TookPrefix}
 use Rattle.io_edge.proofs.Known.{took_prefix_then, took_prefix_longer}
 use Rattle.reply_text.specs.Lines.{line_text}
 use Rattle.sheaf_text.specs.declared.fault.LineCause.{LineCause}
+use Rattle.sheaf_text.specs.declared.fault.Refusal.TheVariants.{Bad}
 use Rattle.sheaf_run.specs.Answers.{bad_line}
 use Rattle.sheaf_run.specs.Parts.{spaced_numbers, text_of_parts}
 use Rattle.sheaf_run.specs.Words.{cause_word}
@@ -50,7 +51,7 @@ line_of_numbers words numbers = ap (λ text. text ++ 10 ∷ []) (join-numbers wo
 -- the line of a line that is refused
 pub line_of_cause : (line : ℕ) (cause : LineCause)
     → text_of_parts (codes "bad line") (line ∷ []) (codes " " ++ (cause_word cause ++ codes "\n"))
-    ≡ (bad_line line cause).text
+    ≡ (bad_line line (Bad cause)).text
 line_of_cause line cause =
     let digits = decimal line in
     let end = cause_word cause in

@@ -2,7 +2,8 @@
 use Rattle.std.proofs.Common.{◌≡◌, ℕ, ◌<◌, List, length, Option, Some, None, inl, refl, sym, subst, ap₂, ◌∙◌}
 use Rattle.std.specs.Prelude.{◌≢◌, IfSome}
 use Rattle.std.specs.Io.KnownBytes.{IsAtEnd}
-use Rattle.io_edge.specs.Bytes.{Gave, TookPrefix}
+use Rattle.io_edge.specs.Bytes.{TookPrefix}
+use Rattle.io_edge.specs.Input.{Gave}
 use Rattle.io_edge.proofs.Known.{gave_whole}
 use Rattle.field_table.specs.declared.field.Field.{Field}
 use Rattle.field_table.specs.Table.{ops_of}
@@ -17,9 +18,10 @@ use Rattle.sheaf_text.specs.declared.fault.Which.{Which}
 use Rattle.sheaf_text.specs.declared.fault.Which.TheVariants as limits
 use Rattle.sheaf_text.proofs.Kept.{reading-long}
 use Rattle.sheaf_words.specs.declared.query.Command.{Command}
+use Rattle.sheaf_text.specs.declared.fault.Refusal.TheVariants.{Bad, Over}
 use Rattle.sheaf_run.specs.declared.job.Job.{Job}
 use Rattle.sheaf_run.specs.Answers.{Outcome, IsAnswer, AnswersDraft, AnswersReading, AnswersJob}
-use Rattle.sheaf_run.specs.Answers.{bad_draft, bad_line, over_limit}
+use Rattle.sheaf_run.specs.Answers.{bad_draft, bad_line}
 use Rattle.sheaf_run.specs.Replies.{IsRight, Replies}
 use Rattle.sheaf_run.specs.Runs.{IsSent, IsRun}
 use Rattle.sheaf_run.specs.Views.{SourceView, SinkView}
@@ -98,26 +100,24 @@ run_unread IsRight P source source_new {sink} {sink_new} {result} right not_done
 
 -- more bytes than are read
 pub over_bytes : (job : Job) (left : Option (List ℕ)) → IfSome left (λ bytes. 16777216 < length bytes)
-    → IfSome left (λ bytes. (a : Outcome) → (a ≡ over_limit 0 limits.Bytes) → AnswersJob (Some job) bytes a)
+    → IfSome left (λ bytes. (a : Outcome) → (a ≡ bad_line 0 (Over limits.Bytes)) → AnswersJob (Some job) bytes a)
 over_bytes job None h = tt
 over_bytes job (Some bytes) h = λ a is. subst (λ (r : Reading). AnswersReading job r a) (sym (reading-long bytes h)) is
 
--- a line that is refused, or passes a limit, is answered
+-- a line that is refused is answered
 pub replies_line : (job : Job) (r : Reading) (line n : ℕ) (cause k : LineCause) {sink sink_new : SinkView}
-    {result : Status}
-    → r ≡ readings.BadLine line cause → n ≡ line → k ≡ cause → Replies (λ a. a ≡ bad_line n k) sink sink_new result
-    → Replies (AnswersReading job r) sink sink_new result
+    {result : Status} → r ≡ readings.RefusedLine line (Bad cause) → n ≡ line → k ≡ cause
+    → Replies (λ a. a ≡ bad_line n (Bad k)) sink sink_new result → Replies (AnswersReading job r) sink sink_new result
 replies_line job r line n cause k e f g replies =
-    replies_weaker (λ a. a ≡ bad_line n k) (AnswersReading job r)
-    (λ a is. subst (λ (t : Reading). AnswersReading job t a) (sym e) (is ∙ ap₂ bad_line f g)) replies
+    replies_weaker (λ a. a ≡ bad_line n (Bad k)) (AnswersReading job r)
+    (λ a is. subst (λ (t : Reading). AnswersReading job t a) (sym e) (is ∙ ap₂ (λ i o. bad_line i (Bad o)) f g)) replies
 
 pub replies_limit : (job : Job) (r : Reading) (line n : ℕ) (which w : Which) {sink sink_new : SinkView}
-    {result : Status}
-    → r ≡ readings.Limit line which → n ≡ line → w ≡ which → Replies (λ a. a ≡ over_limit n w) sink sink_new result
-    → Replies (AnswersReading job r) sink sink_new result
+    {result : Status} → r ≡ readings.RefusedLine line (Over which) → n ≡ line → w ≡ which
+    → Replies (λ a. a ≡ bad_line n (Over w)) sink sink_new result → Replies (AnswersReading job r) sink sink_new result
 replies_limit job r line n which w e f g replies =
-    replies_weaker (λ a. a ≡ over_limit n w) (AnswersReading job r)
-    (λ a is. subst (λ (t : Reading). AnswersReading job t a) (sym e) (is ∙ ap₂ over_limit f g)) replies
+    replies_weaker (λ a. a ≡ bad_line n (Over w)) (AnswersReading job r)
+    (λ a is. subst (λ (t : Reading). AnswersReading job t a) (sym e) (is ∙ ap₂ (λ i o. bad_line i (Over o)) f g)) replies
 
 -- the input that was read is answered
 pub replies_input : (job : Job) (r : Reading) (i : Input) (scripts : List (List Command)) {sink sink_new : SinkView}

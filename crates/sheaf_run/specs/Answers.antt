@@ -18,8 +18,8 @@ use Rattle.reply_text.specs.Transcripts.{transcript}
 use Rattle.core_machine.specs.Machine.{IsLegalAndWhole}
 use Rattle.sheaf_text.specs.Readings.{Reading, input_value, reading}
 use Rattle.sheaf_text.specs.Readings as readings
-use Rattle.sheaf_text.specs.declared.fault.LineCause.{LineCause}
-use Rattle.sheaf_text.specs.declared.fault.Which.{Which}
+use Rattle.sheaf_text.specs.declared.fault.Refusal.{Refusal}
+use Rattle.sheaf_text.specs.declared.fault.Refusal.TheVariants.{Bad, Over}
 use Rattle.sheaf_text.specs.declared.input.Input.{Input}
 use Rattle.sheaf_run.specs.Words.{cause_word, limit_word}
 use Rattle.sheaf_run.specs.declared.job.Job.{Job}
@@ -51,14 +51,11 @@ job_of words = None
 abbrev pub bad_words : Outcome
 bad_words = record { status = BadWords; text = codes "bad words\n" }
 
--- a line that is refused: its number, and the cause
-abbrev pub bad_line : ℕ → LineCause → Outcome
-bad_line line cause =
+-- the number of a line that is refused, with the cause or the limit that it passes
+abbrev pub bad_line : ℕ → Refusal → Outcome
+bad_line line (Bad cause) =
     record { status = BadLine; text = line_text (codes "bad line" ∷ decimal line ∷ cause_word cause ∷ []) }
-
--- a limit that is passed, and the number of the line
-abbrev pub over_limit : ℕ → Which → Outcome
-over_limit line which =
+bad_line line (Over which) =
     record { status = Limit; text = line_text (codes "limit" ∷ limit_word which ∷ decimal line ∷ []) }
 
 -- what is wrong with a draft that is no sheaf
@@ -87,20 +84,18 @@ AnswersDraft job d scripts a =
     ((fault : SealFault) × IsFault (ops_of d.field) d.complex d.blocks fault × (a ≡ bad_draft fault))
     ⊎ (IsSheaf (ops_of d.field) d.complex d.stalks d.blocks × (a.status ≡ Done) × IsTextOf job d scripts a.text)
 
--- a good reading is answered by its draft, and a line that is refused or passes a limit by what is said of it
+-- a good reading is answered by its draft, and a line that is refused by what is said of it
 abbrev pub AnswersReading : Job → Reading → Outcome → Type 0
 AnswersReading job (readings.Good v) a =
     (i : Input) × (v ≡ input_value i) × AnswersDraft job i.draft i.scripts a
-AnswersReading job (readings.BadLine line cause) a = a ≡ bad_line line cause
-AnswersReading job (readings.Limit line which) a = a ≡ over_limit line which
+AnswersReading job (readings.RefusedLine line refusal) a = a ≡ bad_line line refusal
 
 -- refused words are answered so whatever the bytes are
 abbrev pub AnswersJob : Option Job → List ℕ → Outcome → Type 0
 AnswersJob None bytes a = a ≡ bad_words
 AnswersJob (Some job) bytes a = AnswersReading job (reading bytes) a
 
--- the status that a draft is due: it is a sheaf, its incidences are not regular, or they are and some square does not
--- commute
+-- the status that a draft is due: a sheaf; incidences not regular; or regular ones, and a square does not commute
 abbrev pub DraftIsDue : SheafData Field → Status → Type 0
 DraftIsDue d Done = IsSheaf (ops_of d.field) d.complex d.stalks d.blocks
 DraftIsDue d BadComplex = ¬ HasRegularIncidences d.complex
@@ -108,9 +103,7 @@ DraftIsDue d BadSheaf = HasRegularIncidences d.complex
     × ((s : ℕ) × (u : ℕ) × (¬ Commutes (ops_of d.field) d.complex d.blocks s u))
 DraftIsDue d _ = ⊥
 
--- under each job the same for now: the status that is due the input that bytes are read as; for a line that is refused
--- or passes a limit the one that says so
+-- under each job the same for now: the status that the input is due, or the one that says why a line is refused
 abbrev pub IsDue : Job → Reading → Status → Type 0
 IsDue job (readings.Good v) status = (i : Input) × (v ≡ input_value i) × DraftIsDue i.draft status
-IsDue job (readings.BadLine line cause) status = status ≡ BadLine
-IsDue job (readings.Limit line which) status = status ≡ Limit
+IsDue job (readings.RefusedLine line refusal) status = status ≡ (bad_line line refusal).status

@@ -48,8 +48,7 @@ pub record IsServed (job : Job) (bytes : List ℕ) (source_new : SourceView) (si
   pub flushed : IsFlushed sink_new.taken sink_new.flushed
   pub at_end : IsAtEnd source_new.left
 
--- what a run with words that ask for this job, or are refused, promises: by what is seen of its source and of its sink
--- before and after
+-- what a run with words that ask for this job, or are refused, promises of its source and sink, before and after
 pub record Serves (job : Option Job) (source source_new : SourceView) (sink sink_new : SinkView) (result : Status) :
     Type 0 where
   pub run : IsRun (AnswersJob job) source source_new sink sink_new result
@@ -66,8 +65,7 @@ pub record Serves (job : Option Job) (source source_new : SourceView) (sink sink
   pub exact : IsAnswer result
       → IfSome job (λ j. IfSome source.left (λ bytes. (status : Status)
       → (result ≡ status) ↔ IsDue j (reading bytes) status))
-  -- With no fault refused words are answered so, and bytes are answered the status that they are due unless memory runs
-  -- out.
+  -- With no fault refused words are answered so, and bytes by the status that they are due, unless memory runs out.
   pub complete_words : job ≡ None → ¬ (Rose sink.faults sink_new.faults) → result ≡ BadWords
   pub complete : ¬ (Rose source.faults source_new.faults) → ¬ (Rose sink.faults sink_new.faults)
       → IfSome job (λ j. IfSome source.left (λ bytes. (status : Status) → IsDue j (reading bytes) status

@@ -1,6 +1,7 @@
 ghost use Rattle.std.specs.Prelude.{◌≡◌, ◌≢◌, ◌++◌, codes};
 ghost use Rattle.sheaf_run.specs.Words.{cause_word, limit_word};
-ghost use Rattle.sheaf_run.specs.Answers.{bad_words, bad_line, over_limit, bad_draft};
+ghost use Rattle.sheaf_run.specs.Answers.{bad_words, bad_line, bad_draft};
+ghost use Rattle.sheaf_text.specs.declared.fault.Refusal.TheVariants.{Bad, Over};
 ghost use Rattle.sheaf_run.specs.Replies.{Replies};
 ghost use Rattle.sheaf_run.specs.Views.{sink_view};
 ghost use Rattle.sheaf_data.specs.declared.fault.SealFault.TheVariants.{Complex};
@@ -45,7 +46,7 @@ fn cause_end(cause: LineCause) -> &'static [u8]
 
 /// Writes which line is refused, and why. Takes no memory.
 pub fn refuse_line<K: Sink>(sink: &mut K, line: u32, cause: LineCause) -> Status
-    ensures { Replies (λ a. a ≡ bad_line line cause)
+    ensures { Replies (λ a. a ≡ bad_line line (Bad cause))
         (sink_view K.taken K.flushed K.fault_count sink.old)
         (sink_view K.taken K.flushed K.fault_count sink.new) result }
 {
@@ -72,7 +73,7 @@ fn limit_words(which: Which) -> &'static [u8]
 
 /// Writes which limit is passed, and at which line. Takes no memory.
 pub fn refuse_limit<K: Sink>(sink: &mut K, line: u32, which: Which) -> Status
-    ensures { Replies (λ a. a ≡ over_limit line which)
+    ensures { Replies (λ a. a ≡ bad_line line (Over which))
         (sink_view K.taken K.flushed K.fault_count sink.old)
         (sink_view K.taken K.flushed K.fault_count sink.new) result }
 {

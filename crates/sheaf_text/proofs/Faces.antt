@@ -12,7 +12,7 @@ use Rattle.dense_blocks.specs.declared.block.Block.{Block}
 use Rattle.dense_blocks.specs.Vectors.{AllScalars}
 use Rattle.field_table.specs.Table.{order_of, ops_of}
 use Rattle.square_check.specs.Squares.{HaveShapes}
-use Rattle.sheaf_data.specs.Sheaves.{AreBlocks}
+use Rattle.sheaf_data.specs.Drafts.{AreBlocks}
 use Rattle.sheaf_text.specs.Cut.{value_of}
 use Rattle.sheaf_text.specs.Lines.{face_in}
 use Rattle.dense_blocks.specs.Blocks.{WrittenMatrix, written_matrix}

@@ -16,8 +16,8 @@ use Rattle.sheaf_words.specs.declared.edit.Set.{Set}
 use Rattle.sheaf_text.specs.Cut.{words}
 use Rattle.sheaf_text.specs.Lines.{word, is_skipped, kind_of}
 use Rattle.sheaf_text.specs.Grammar.{InputValue, Known, refusal, kind_refusal, is_ended}
-use Rattle.sheaf_text.specs.Readings.{Reading, Good, BadLine, input_value, command_with_set, advance}
-use Rattle.sheaf_text.specs.Readings.{nothing_known, reading_at_end, go_on, run}
+use Rattle.sheaf_text.specs.Readings.{Reading, Good, RefusedLine, input_value, command_with_set, advance}
+use Rattle.sheaf_text.specs.Readings.{nothing_known, run}
 use Rattle.sheaf_text.specs.Forms.{content_refusal, known_after, set_of, onto_last, into_script, into_last}
 use Rattle.sheaf_text.specs.Forms.{contents}
 use Rattle.sheaf_text.specs.Answers.{Gives, IsServable, AreServable}
@@ -230,14 +230,13 @@ scripts-ending : (k : Known) (line : ℕ) (v : InputValue) (b : Bool) → is_end
     ≡ Good v → v.scripts ≡ k.input.scripts
 scripts-ending k line v true e is = let same : Good k.input ≡ Good v = sym (rw e refl) ∙ is in let value :
     k.input ≡ v = cc in sym (ap (λ (w : InputValue). w.scripts) value)
-scripts-ending k line v false e is = let same : BadLine (line + 1) causes.End ≡ Good v = sym (rw e refl)
+scripts-ending k line v false e is = let same : RefusedLine (line + 1) (Bad causes.End) ≡ Good v = sym (rw e refl)
     ∙ is in absurd cc
 
 not_refused : (r : Option Refusal) (line : ℕ) (later : Reading) (v : InputValue) → go_on r line later ≡ Good v
     → (r ≡ None) × (later ≡ Good v)
 not_refused None line later v e = (refl, e)
-not_refused (Some (Bad cause)) line later v e = absurd cc
-not_refused (Some (Over which)) line later v e = absurd cc
+not_refused (Some refusal) line later v e = absurd cc
 
 few-run : (dims : List ℕ) (k : Known) (line : ℕ) (more : List (List (List ℕ))) (v : InputValue)
     → line + length more ≤ 1000000000

@@ -7,8 +7,9 @@ use Rattle.std.proofs.lemmas.Bool.{le-ltb, lt-ltb}
 use Rattle.sheaf_text.specs.Cut.{words}
 use Rattle.sheaf_text.specs.Grammar.{Known, refusal}
 use Rattle.sheaf_text.specs.declared.fault.Which.TheVariants as limits
-use Rattle.sheaf_text.specs.Readings.{Limit, reading_at_end, go_on, nothing_known, run, reading}
-use Rattle.sheaf_text.specs.Forms.{contents, known_after}
+use Rattle.sheaf_text.specs.declared.fault.Refusal.TheVariants.{Over}
+use Rattle.sheaf_text.specs.Readings.{RefusedLine, nothing_known, run, reading}
+use Rattle.sheaf_text.specs.Forms.{reading_at_end, go_on, contents, known_after}
 
 -- one line of some bytes
 pub run-line : (k : Known) (line : ℕ) (rest text after : List ℕ) → lines rest ≡ text ∷ lines after
@@ -30,7 +31,7 @@ unfolding run
 run-ends k line [] e = refl
 run-ends k line (b ∷ rest) e = absurd (omega arith)
 
-pub reading-long : (bytes : List ℕ) → 16777216 < length bytes → reading bytes ≡ Limit 0 limits.Bytes
+pub reading-long : (bytes : List ℕ) → 16777216 < length bytes → reading bytes ≡ RefusedLine 0 (Over limits.Bytes)
 unfolding reading
 reading-long bytes long = let over : nat_lt 16777216 (length bytes) ≡ true = lt-ltb _ _ long in rw over refl
 

@@ -8,8 +8,8 @@ use Rattle.sheaf_data.specs.Sheaves.{SheafData}
 use Rattle.sheaf_words.specs.declared.query.Command.{Command}
 use Rattle.sheaf_text.specs.Lines.{word, is_skipped, kind_of}
 use Rattle.sheaf_text.specs.Grammar.{Known, refusal, is_ended}
-use Rattle.sheaf_text.specs.Readings.{Reading, Good, go_on, advance, input_value, reading_at_end}
-use Rattle.sheaf_text.specs.Forms.{content_refusal, refused_reading, known_after}
+use Rattle.sheaf_text.specs.Readings.{Reading, Good, RefusedLine, advance, input_value}
+use Rattle.sheaf_text.specs.Forms.{reading_at_end, go_on, content_refusal, known_after}
 use Rattle.sheaf_text.specs.Answers.{GivesFault}
 use Rattle.sheaf_text.specs.Parts.{IsClosed, IsDraftOf}
 use Rattle.sheaf_text.specs.State.{known_by, AreAtStage, IsSoundState, IsReady, IsFound, TakesKind, TakesLine}
@@ -57,10 +57,6 @@ takes_skipped s ws sound e = record {
   known = sym (known_after-skipped (known_by s) ws e);
 }
 
-refused : (r : Refusal) (line : ℕ) (later : Reading) → go_on (Some r) line later ≡ refused_reading line r
-refused (Bad cause) line later = refl
-refused (Over which) line later = refl
-
 module _ (old ready : State) (ws : List (List ℕ)) (kind : Option Kind) (content : is_skipped ws ≡ false)
     (is : kind ≡ kind_of (word ws 0)) (same : IsReady old ready kind) where
   refusal-ready : refusal (known_by old) ws ≡ content_refusal (known_by ready) kind ws
@@ -79,9 +75,9 @@ module _ (old ready : State) (ws : List (List ℕ)) (kind : Option Kind) (conten
   }
 
   pub refuses_content : (line : ℕ) (r : Refusal) (fault : TextFault) → content_refusal (known_by ready) kind ws ≡ Some r
-      → GivesFault fault (refused_reading line r) → RefusesLine old line ws fault
+      → GivesFault fault (RefusedLine line r) → RefusesLine old line ws fault
   refuses_content line r fault e gives later = subst (λ reading. GivesFault fault reading)
-      (sym (ap (λ o. go_on o line later) (refusal-ready ∙ e) ∙ refused r line later)) gives
+      (sym (ap (λ o. go_on o line later) (refusal-ready ∙ e))) gives
 
 -- ---- the end
 

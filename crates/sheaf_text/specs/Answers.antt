@@ -5,15 +5,16 @@ use Rattle.sheaf_words.specs.declared.query.Command.TheVariants.{Change, Ask}
 use Rattle.sheaf_words.specs.declared.query.Query.{Query}
 use Rattle.sheaf_words.specs.declared.query.Query.TheVariants.{Betti, Reduce, Equiv, Basis, Class}
 use Rattle.sheaf_words.specs.declared.query.Query.TheVariants.{Sections, Extend}
-use Rattle.sheaf_text.specs.Readings.{Reading, Good, BadLine, Limit, input_value}
+use Rattle.sheaf_text.specs.Readings.{Reading, Good, RefusedLine, input_value}
 use Rattle.sheaf_text.specs.declared.input.Input.{Input}
+use Rattle.sheaf_text.specs.declared.fault.Refusal.TheVariants.{Bad, Over}
 use Rattle.sheaf_text.specs.declared.fault.TextFault.{TextFault}
 use Rattle.sheaf_text.specs.declared.fault.TextFault.TheVariants as faults
 
 -- want of memory says nothing of the bytes
 abbrev pub GivesFault : TextFault → Reading → Type 0
-GivesFault (faults.BadLine line cause) reading = reading ≡ BadLine line cause
-GivesFault (faults.Limit line which) reading = reading ≡ Limit line which
+GivesFault (faults.BadLine line cause) reading = reading ≡ RefusedLine line (Bad cause)
+GivesFault (faults.Limit line which) reading = reading ≡ RefusedLine line (Over which)
 GivesFault faults.NoMemory reading = Unit {0}
 
 -- the answer is the reading, unless memory ran out

@@ -18,7 +18,7 @@ use Rattle.sheaf_words.specs.declared.edit.Set.TheVariants as sets
 use Rattle.sheaf_text.specs.Cut.{words, word_number, value_of}
 use Rattle.sheaf_text.specs.Lines.{word, value, kind_of, numerals}
 use Rattle.sheaf_text.specs.Grammar.{Known, cause_of, entries_refusal, placed_refusal, is_ended}
-use Rattle.sheaf_text.specs.Readings.{Reading, BadLine, Limit, with_last, command_with_set, advance}
+use Rattle.sheaf_text.specs.Readings.{Reading, Good, RefusedLine, with_last, command_with_set, advance}
 use Rattle.sheaf_text.specs.declared.line.Kind.{Kind}
 use Rattle.sheaf_text.specs.declared.line.Kind.TheVariants as kinds
 use Rattle.sheaf_text.specs.declared.fault.LineCause.TheVariants as causes
@@ -122,6 +122,10 @@ matrix_in stalks ws = record {
   entries = map value_of (drop 4 ws);
 }
 
-abbrev pub refused_reading : ℕ → Refusal → Reading
-refused_reading line (Bad cause) = BadLine line cause
-refused_reading line (Over which) = Limit line which
+-- the reading at the end of the lines
+abbrev pub reading_at_end : Known → ℕ → Reading
+reading_at_end k line = if is_ended k.stage then Good k.input else RefusedLine (line + 1) (Bad causes.End)
+
+-- a refused line decides; else the lines after it do
+abbrev pub go_on : Option Refusal → ℕ → Reading → Reading
+go_on refusal line later = option_map_or (RefusedLine line) refusal later

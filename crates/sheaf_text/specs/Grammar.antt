@@ -40,14 +40,6 @@ pub record Known : Type 0 where
 
 -- ---- one kind of line, whose words have the right form
 
-abbrev pub cell_refusal : Known → List (List ℕ) → Option Refusal
-cell_refusal k ws =
-    if nat_lt 15 (value ws 1) then Some (Over limits.Dimension)
-    else if nat_lt 16 (value ws 2) then Some (Over limits.Stalk)
-    else if nat_le 4096 (length k.input.dims) then Some (Over limits.Cells)
-    else if nat_lt 4096 (sum k.input.stalks + value ws 2) then Some (Over limits.Total)
-    else None
-
 abbrev pub cause_of : FaceFault → LineCause
 cause_of (UnknownCell id) = causes.Cell
 cause_of (WrongDims s t) = causes.Dims
@@ -70,7 +62,12 @@ face_refusal k ws =
 
 abbrev pub kind_refusal : Known → Kind → List (List ℕ) → Option Refusal
 kind_refusal k kinds.Field ws = if list_any (λ q. value ws 1 == q) orders then None else Some (Bad causes.Field)
-kind_refusal k kinds.Cell ws = cell_refusal k ws
+kind_refusal k kinds.Cell ws =
+    if nat_lt 15 (value ws 1) then Some (Over limits.Dimension)
+    else if nat_lt 16 (value ws 2) then Some (Over limits.Stalk)
+    else if nat_le 4096 (length k.input.dims) then Some (Over limits.Cells)
+    else if nat_lt 4096 (sum k.input.stalks + value ws 2) then Some (Over limits.Total)
+    else None
 kind_refusal k kinds.Face ws = face_refusal k ws
 kind_refusal k kinds.Client ws = if nat_le 8 (length k.input.scripts) then Some (Over limits.Clients) else None
 kind_refusal k kinds.Betti ws = if nat_le 4096 k.commands then Some (Over limits.Commands) else None

@@ -5,7 +5,8 @@ use Rattle.cell_complex.specs.Verdicts.{face_fault}
 use Rattle.dense_blocks.specs.declared.block.Block.{Block}
 use Rattle.field_table.specs.Table.{order_of, ops_of}
 use Rattle.field_table.specs.declared.field.Field.{Field}
-use Rattle.sheaf_data.specs.Sheaves.{SheafData, AreStalks, AreBlocks}
+use Rattle.sheaf_data.specs.Sheaves.{SheafData}
+use Rattle.sheaf_data.specs.Drafts.{AreStalks, AreBlocks}
 use Rattle.sheaf_text.specs.Lines.{face_in}
 use Rattle.dense_blocks.specs.Blocks.{WrittenMatrix, written_matrix}
 use Rattle.sheaf_text.specs.Forms.{are_below, is_full, matrix_in}

@@ -1,6 +1,7 @@
 -- The reading of bytes: each line is judged by what the lines before it say, and the first that is refused decides.
 use Rattle.std.specs.Prelude.{ℕ, ◌+◌, List, [], ◌∷◌, ◌++◌, drop, length, map, Option, Some, None, nat_lt}
 use Rattle.std.specs.Prelude.{slice_index, if◌then◌else◌}
+use Rattle.std.specs.Option.{option_map_or}
 use Rattle.std.specs.Str.Lines.{lines}
 use Rattle.cell_complex.specs.declared.face.Face.{Face}
 use Rattle.dense_blocks.specs.Blocks.{written_matrix}
@@ -17,9 +18,7 @@ use Rattle.sheaf_text.specs.declared.input.Input.{Input}
 use Rattle.sheaf_text.specs.declared.line.Kind.{Kind}
 use Rattle.sheaf_text.specs.declared.line.Kind.TheVariants as kinds
 use Rattle.sheaf_text.specs.declared.line.Stage.TheVariants as stages
-use Rattle.sheaf_text.specs.declared.fault.LineCause.{LineCause}
 use Rattle.sheaf_text.specs.declared.fault.LineCause.TheVariants as causes
-use Rattle.sheaf_text.specs.declared.fault.Which.{Which}
 use Rattle.sheaf_text.specs.declared.fault.Which.TheVariants as limits
 use Rattle.sheaf_text.specs.declared.fault.Refusal.{Refusal}
 use Rattle.sheaf_text.specs.declared.fault.Refusal.TheVariants.{Bad, Over}
@@ -35,10 +34,10 @@ input_value i = record {
   scripts = i.scripts;
 }
 
+-- the input of all lines, or the number of the first line that is refused, and why; too many bytes count as line 0
 pub data Reading : Type 0 where
   Good : InputValue → Reading
-  BadLine : ℕ → LineCause → Reading
-  Limit : ℕ → Which → Reading
+  RefusedLine : ℕ → Refusal → Reading
 
 -- ---- what a line adds that is not refused
 
@@ -112,22 +111,12 @@ nothing_known = record {
 
 -- ---- the reading
 
--- at the end of the lines
-abbrev pub reading_at_end : Known → ℕ → Reading
-reading_at_end k line = if is_ended k.stage then Good k.input else BadLine (line + 1) causes.End
-
--- a refused line decides; else the lines after it do
-abbrev pub go_on : Option Refusal → ℕ → Reading → Reading
-go_on (Some (Bad cause)) line later = BadLine line cause
-go_on (Some (Over which)) line later = Limit line which
-go_on None line later = later
-
--- the reading of more lines, after so many lines of which this is known
+-- the reading of more lines, after so many lines of which this is known: a refused line decides
 unfoldable pub run : Known → ℕ → List (List (List ℕ)) → Reading
-run k line [] = reading_at_end k line
-run k line (ws ∷ more) = go_on (refusal k ws) (line + 1)
+run k line [] = if is_ended k.stage then Good k.input else RefusedLine (line + 1) (Bad causes.End)
+run k line (ws ∷ more) = option_map_or (RefusedLine (line + 1)) (refusal k ws)
     (run (advance k (kind_of (word ws 0)) ws) (line + 1) more)
 
 unfoldable pub reading : List ℕ → Reading
 reading bytes =
-    if nat_lt 16777216 (length bytes) then Limit 0 limits.Bytes else run nothing_known 0 (map words (lines bytes))
+    if nat_lt 16777216 (length bytes) then RefusedLine 0 (Over limits.Bytes) else run nothing_known 0 (map words (lines bytes))

@@ -4,8 +4,8 @@ use Rattle.field_table.specs.Table.{order_of}
 use Rattle.sheaf_words.specs.declared.query.Command.{Command}
 use Rattle.sheaf_words.specs.declared.query.Command.TheVariants.{Change}
 use Rattle.sheaf_text.specs.Grammar.{Known, refusal, placed_refusal}
-use Rattle.sheaf_text.specs.Readings.{Reading, go_on, advance, nothing_known}
-use Rattle.sheaf_text.specs.Forms.{content_refusal, known_after}
+use Rattle.sheaf_text.specs.Readings.{Reading, advance, nothing_known}
+use Rattle.sheaf_text.specs.Forms.{go_on, content_refusal, known_after}
 use Rattle.sheaf_text.specs.Answers.{GivesFault}
 use Rattle.sheaf_text.specs.Parts.{AreDraftParts, IsOpen, IsClosed, matrices_of}
 use Rattle.sheaf_text.specs.declared.fault.TextFault.{TextFault}

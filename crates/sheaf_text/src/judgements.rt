@@ -1,7 +1,7 @@
 ghost use Rattle.std.specs.Prelude.{◌≡◌, length, IfOk, IfErr};
 ghost use Rattle.sheaf_text.specs.Cut.{words};
 ghost use Rattle.sheaf_text.specs.Parts.{AreDraftParts, IsClosed};
-ghost use Rattle.sheaf_text.specs.Grammar.{is_ended, cause_of, cell_refusal, entries_refusal, face_refusal};
+ghost use Rattle.sheaf_text.specs.Grammar.{is_ended, cause_of, entries_refusal, face_refusal, kind_refusal};
 ghost use Rattle.sheaf_text.specs.Grammar.{kind_refusal, placed_refusal};
 ghost use Rattle.sheaf_text.specs.Forms.{is_full, field_refusal, client_refusal, command_refusal, content_refusal};
 ghost use Rattle.sheaf_text.specs.State.{known_by, scripts_at, IsSoundState, IsReadyFor, IsFound};
@@ -40,7 +40,7 @@ fn field_refusal(text: &[u8]) -> Option<Refusal>
 
 fn cell_refusal(state: &State, text: &[u8]) -> Option<Refusal>
     requires { AreDraftParts state.now.parts }
-    ensures { result ≡ cell_refusal (known_by state.now) (words text.now) }
+    ensures { result ≡ kind_refusal (known_by state.now) Kind.Cell (words text.now) }
 {
     let stalk = value_at(text, 2);
     if value_at(text, 1) > HIGHEST {

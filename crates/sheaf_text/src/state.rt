@@ -1,8 +1,8 @@
 ghost use Rattle.std.specs.Prelude.{◌≡◌, ◌-◌, ◌^◌, ◌<◌, true, IfOk, IfErr, OnOk};
 ghost use Rattle.sheaf_text.specs.Cut.{words};
 ghost use Rattle.sheaf_text.specs.Answers.{Gives, GivesFault};
-ghost use Rattle.sheaf_text.specs.Readings.{reading_at_end};
-ghost use Rattle.sheaf_text.specs.Forms.{set_of, is_set_kind, refused_reading};
+ghost use Rattle.sheaf_text.specs.Readings.{RefusedLine};
+ghost use Rattle.sheaf_text.specs.Forms.{set_of, is_set_kind, reading_at_end};
 ghost use Rattle.sheaf_text.specs.State.{known_by, IsSoundState, IsReady, IsAccepted, IsUntouched, TakesKind};
 ghost use Rattle.sheaf_text.specs.State.{TakesLine, RefusesLine};
 
@@ -217,7 +217,7 @@ impl State {
 
 /// The fault of a refused line.
 fn fault_at(refusal: Refusal, line: u32) -> TextFault
-    ensures { GivesFault result (refused_reading line refusal) }
+    ensures { GivesFault result (RefusedLine line refusal) }
 {
     match refusal {
         Refusal::Bad(cause) => TextFault::BadLine { line, cause },

@@ -3,8 +3,7 @@ use Rattle.std.proofs.Common.{◌≡◌, ◌≢◌, ℕ, ◌<◌, ◌≤◌, Boo
 use Rattle.std.proofs.Common.{nat_lt, Option, None, Some, refl, sym, ◌∙◌, arith}
 use Rattle.std.proofs.lemmas.Bool.{true≢false, and_parts, or_cases, or_left, or_right, and_from, eq-eqb, eqb-true}
 use Rattle.std.proofs.lemmas.Bool.{lt-ltb, ltb-true, cases_lt, cases_eq}
-use Rattle.square_check.specs.Answers.{is_before, IsFirstFailure}
-use Rattle.square_check.specs.Searches.{earlier_pair, Fails, PassesBefore}
+use Rattle.square_check.specs.Searches.{is_before, IsFirstFailure, earlier_pair, Fails, PassesBefore}
 
 abbrev Before : ℕ × ℕ → ℕ × ℕ → Type 0
 Before p q = (p.0 < q.0) ⊎ ((p.0 ≡ q.0) × (p.1 < q.1))

@@ -8,8 +8,8 @@ use Rattle.std.proofs.lemmas.Bool.{true≢false, cond-true, lt-ltb, and_parts, e
 use Rattle.std.proofs.lemmas.Option.{get_or_from_slice_get, slice_get_within}
 use Rattle.std.proofs.lemmas.List.Elements.{All-cons}
 use Rattle.cell_complex.specs.declared.face.Face.{Face}
-use Rattle.cell_complex.specs.Complexes.{CellComplex, joins, is_face, place}
-use Rattle.cell_complex.specs.Invariants.{IsComplex, JoinsCells}
+use Rattle.cell_complex.specs.Complexes.{CellComplex, joins, is_face}
+use Rattle.cell_complex.specs.Invariants.{place, IsComplex, JoinsCells}
 use Rattle.dense_blocks.specs.Field.{Ops}
 use Rattle.dense_blocks.specs.Vectors.{AllScalars}
 use Rattle.dense_blocks.specs.declared.block.Block.{Block}

@@ -9,8 +9,7 @@ use Rattle.cell_complex.specs.Invariants.{IsComplex}
 use Rattle.cell_complex.proofs.Callers.{incident_from_face}
 use Rattle.dense_blocks.specs.Field.{Ops}
 use Rattle.dense_blocks.specs.declared.block.Block.{Block}
-use Rattle.square_check.specs.Answers.{IsFirstFailure}
-use Rattle.square_check.specs.Searches.{earlier_pair, Fails, PassesBefore}
+use Rattle.square_check.specs.Searches.{IsFirstFailure, earlier_pair, Fails, PassesBefore}
 use Rattle.square_check.specs.Squares.{Commutes}
 use Rattle.square_check.specs.TouchedFaces.{OthersCommute, faces_at, is_touched}
 use Rattle.square_check.proofs.Clearing.{clears-passing, earlier-clears_first, earlier-clears_second, first-from}

@@ -1,7 +1,15 @@
 -- The first pair that fails, as it is searched.
-use Rattle.std.specs.Prelude.{◌≡◌, ℕ, true, Option, None, Some, if◌then◌else◌}
-use Rattle.std.specs.Prelude.{MatchOption}
-use Rattle.square_check.specs.Answers.{is_before}
+use Rattle.std.specs.Prelude.{◌≡◌, ℕ, Bool, true, Option, None, Some, if◌then◌else◌}
+use Rattle.std.specs.Prelude.{MatchOption, nat_lt, ◌||◌, ◌==◌, ◌&&◌}
+use Rattle.square_check.specs.Answers.{IsFirstOf}
+
+-- the first pair of cells that fails; none where all pairs pass
+abbrev pub IsFirstFailure : (ℕ → ℕ → Type 0) → ℕ → Option (ℕ × ℕ) → Type 0
+IsFirstFailure P count r = MatchOption r ((s u : ℕ) → P s u) (λ p. IsFirstOf P count p.0 p.1)
+
+-- whether p comes before q
+abbrev pub is_before : ℕ × ℕ → ℕ × ℕ → Bool
+is_before p q = nat_lt p.0 q.0 || ((p.0 == q.0) && nat_lt p.1 q.1)
 
 -- the earlier of two pairs, as far as there are any
 abbrev pub earlier_pair : Option (ℕ × ℕ) → Option (ℕ × ℕ) → Option (ℕ × ℕ)

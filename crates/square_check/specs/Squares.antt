@@ -1,8 +1,8 @@
 -- Sheaves whose restrictions commute.
-use Rattle.std.specs.Prelude.{◌≡◌, ℕ, List, Option, Some, length, slice_get, slice_index, All}
+use Rattle.std.specs.Prelude.{◌≡◌, ℕ, List, Option, Some, length, slice_get, slice_index, position, All}
 use Rattle.std.specs.Option.{option_map, option_and_then}
 use Rattle.cell_complex.specs.declared.face.Face.{Face}
-use Rattle.cell_complex.specs.Complexes.{CellComplex, place, middles}
+use Rattle.cell_complex.specs.Complexes.{CellComplex, joins, middles}
 use Rattle.dense_blocks.specs.Field.{Ops}
 use Rattle.dense_blocks.specs.Matrices.{product}
 use Rattle.dense_blocks.specs.Blocks.{matrix_of}
@@ -18,7 +18,7 @@ pub record HaveShapes (stalks : List ℕ) (faces : List Face) (blocks : List Blo
 
 -- the block of s in t, where s is a face of t
 abbrev pub restriction : CellComplex → List Block → ℕ → ℕ → Option Block
-restriction c blocks s t = option_and_then (slice_get blocks) (place c s t)
+restriction c blocks s t = option_and_then (slice_get blocks) (position (joins s t) c.faces)
 
 -- F(t, u) F(s, t), where s is a face of t and t one of u
 abbrev pub through : Ops → CellComplex → List Block → ℕ → ℕ → ℕ → Option (List (List ℕ))

@@ -1,6 +1,5 @@
 ghost use Rattle.std.specs.Prelude.{◌≡◌};
-ghost use Rattle.square_check.specs.Answers.{is_before};
-ghost use Rattle.square_check.specs.Searches.{earlier_pair};
+ghost use Rattle.square_check.specs.Searches.{is_before, earlier_pair};
 
 /// Whether `first` comes before `second`, in order of their first numbers and then of the second ones.
 fn is_before(first: (u32, u32), second: (u32, u32)) -> bool

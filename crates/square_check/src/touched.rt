@@ -1,7 +1,7 @@
 ghost use Rattle.std.specs.Prelude.{◌≡◌, ◌<◌, length, All};
 ghost use Rattle.cell_complex.specs.Invariants.{IsComplex};
 ghost use Rattle.incidence_check.specs.Incidences.{HasRegularIncidences};
-ghost use Rattle.square_check.specs.Answers.{IsFirstFailure};
+ghost use Rattle.square_check.specs.Searches.{IsFirstFailure};
 ghost use Rattle.square_check.specs.Squares.{Commutes};
 ghost use Rattle.square_check.specs.TouchedFaces.{AreRestrictions, OthersCommute};
 ghost use Rattle.square_check.specs.Touches.{AreTouched};

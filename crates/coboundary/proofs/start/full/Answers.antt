@@ -1,7 +1,8 @@
 -- The live cells, and all faces put.
 use Rattle.std.proofs.Common.{◌≡◌, length, sym, ap, ◌∙◌, subst, arith}
 use Rattle.cell_complex.specs.Invariants.{AreCells, IsComplex}
-use Rattle.sheaf_data.specs.Sheaves.{SheafData, AreStalks, IsSheaf}
+use Rattle.sheaf_data.specs.Sheaves.{SheafData, IsSheaf}
+use Rattle.sheaf_data.specs.Drafts.{AreStalks}
 use Rattle.block_sparse.specs.StoredBlocks.{block_at, AreLive}
 use Rattle.coboundary.specs.Put.{AreFirstPut, IsStart}
 use Rattle.coboundary.proofs.LiveLaws.{live_cells-live}
@@ -26,7 +27,7 @@ returns g c =
     let v = c.loop-place.blocks in
     let same : length d.blocks ≡ length d.complex.faces =
     subst (λ (x : SheafData g.row.F.Denot). length x.blocks ≡ length x.complex.faces) (sym c.draft-draft.ensures.draft)
-    c.draft-draft.ensures.sheaf.restrictions.shapes.count in
+    c.draft-draft.ensures.sheaf.shapes.count in
     let faces : length c.draft.inside.complex.faces ≡ length d.complex.faces =
     ap (λ (x : SheafData g.row.F.Denot). length x.complex.faces) c.draft.view_is in
     let all : c.loop-place.place ≡ length d.complex.faces = omega (arith, c.face_count-place-end.ensures.count) in

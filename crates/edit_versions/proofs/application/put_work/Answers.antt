@@ -1,5 +1,5 @@
 use Rattle.std.proofs.Common.{◌≡◌, None, Some, length, map, refl, subst}
-use Rattle.square_check.specs.Answers.{IsFirstFailure}
+use Rattle.square_check.specs.Searches.{IsFirstFailure}
 use Rattle.square_check.specs.Squares.{Commutes}
 use Rattle.sheaf_words.specs.declared.edit.Cause.TheVariants.{Square}
 use Rattle.sheaf_words.specs.declared.edit.Verdict.TheVariants.{Refused}

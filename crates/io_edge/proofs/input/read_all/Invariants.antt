@@ -1,5 +1,5 @@
 use Rattle.std.proofs.Common.{◌≤◌, ◌-◌, vec_len}
-use Rattle.io_edge.specs.Bytes.{Gave}
+use Rattle.io_edge.specs.Input.{Gave}
 use Rattle.io_edge.proofs.input.read_all.Given as goal
 
 abbrev pub invariant-reads : goal.invariant-reads

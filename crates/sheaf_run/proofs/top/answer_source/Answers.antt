@@ -1,7 +1,8 @@
 use Rattle.std.proofs.Common.{◌≡◌, ◌∙◌, Some, sym, subst, ap}
-use Rattle.io_edge.specs.Bytes.{Gave}
+use Rattle.io_edge.specs.Input.{Gave}
 use Rattle.sheaf_text.specs.declared.fault.Which.TheVariants as limits
-use Rattle.sheaf_run.specs.Answers.{Outcome, AnswersJob, over_limit}
+use Rattle.sheaf_text.specs.declared.fault.Refusal.TheVariants.{Over}
+use Rattle.sheaf_run.specs.Answers.{Outcome, AnswersJob, bad_line}
 use Rattle.sheaf_run.specs.Views.{source_view}
 use Rattle.sheaf_run.proofs.RunLaws.{run_from_replies, run_unread, over_bytes}
 use Rattle.sheaf_run.proofs.top.answer_source.Goals as goal
@@ -22,7 +23,7 @@ pub returns-in-Err-TooLong-clause-run : goal.returns-in-Err-TooLong-clause-run
 returns-in-Err-TooLong-clause-run g c =
     let left = g.S.Source.left in
     let faults = g.S.Source.fault_count in
-    run_unread (AnswersJob (Some c.args.job)) (λ (a : Outcome). a ≡ over_limit 0 limits.Bytes)
+    run_unread (AnswersJob (Some c.args.job)) (λ (a : Outcome). a ≡ bad_line 0 (Over limits.Bytes))
     (source_view left faults c.args.source.now) (source_view left faults c.read_all.new.source)
     (over_bytes c.args.job (left c.args.source.now)
     (c.in-Err-TooLong.ensures.long (cc c.in-Err-TooLong.field-0-is)))

@@ -1,6 +1,6 @@
 use Rattle.std.proofs.Common.{ap, ◌∙◌, arith}
 use Rattle.std.proofs.lemmas.List.{length-map}
-use Rattle.cell_complex.specs.Complexes.{place}
+use Rattle.cell_complex.specs.Invariants.{place}
 use Rattle.cell_complex.specs.Fields.{face_of_entry, complex_from}
 use Rattle.cell_complex.proofs.Entries.{position-place}
 use Rattle.cell_complex.proofs.Counts.{length-faces}
