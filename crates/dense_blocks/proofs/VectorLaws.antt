@@ -1,6 +1,6 @@
 -- Laws of vectors: shapes, the commutative group, scaling, the product of two vectors, combinations.
 -- A law is named by its left side, the outermost word first.
-use Rattle.std.proofs.Common.{◌≡◌, ℕ, zero, suc, ◌+◌, ◌<◌, List, [], ◌∷◌, ◌++◌, map, length, refl, sym, ap, ap₂, ◌∙◌}
+use Rattle.std.proofs.Common.{◌≡◌, ℕ, zero, suc, ◌+◌, ◌<◌, ◌≤◌, List, [], ◌∷◌, ◌++◌, map, take, length, refl, sym, ap, ap₂, ◌∙◌}
 use Rattle.std.proofs.Common.{zero-add, suc-add, append_assoc, arith}
 use Rattle.dense_blocks.specs.Field.{Ops}
 use Rattle.dense_blocks.specs.FieldLaws.{IsField}
@@ -45,6 +45,18 @@ zeros-append (suc m) n = ap zeros (suc-add m n) ∙ ap (λ t. 0 ∷ t) (zeros-ap
 -- one zero more behind a list
 pub zeros-pushed : (u : List ℕ) (n : ℕ) → u ++ zeros (n + 1) ≡ (u ++ zeros n) ++ 0 ∷ []
 zeros-pushed u n = ap (λ t. u ++ t) (zeros-append n 1) ∙ sym (append_assoc u (zeros n) (0 ∷ []))
+
+-- zeros behind zeros behind a list
+pub zeros-more : (u now more : List ℕ) (m n k : ℕ) → now ≡ u ++ zeros m → more ≡ now ++ zeros n → m + n ≡ k
+    → more ≡ u ++ zeros k
+zeros-more u now more m n k is_now is_more e =
+    is_more ∙ ap (λ t. t ++ zeros n) is_now ∙ append_assoc u (zeros m) (zeros n)
+    ∙ ap (λ t. u ++ t) (sym (zeros-append m n) ∙ ap zeros e)
+
+pub take-zeros : (k n : ℕ) → k ≤ n → take k (zeros n) ≡ zeros k
+take-zeros zero n h = refl
+take-zeros (suc k) zero h = absurd (omega arith)
+take-zeros (suc k) (suc n) h = ap (λ t. 0 ∷ t) (take-zeros k n (omega arith))
 
 pub zeros-size : (n : ℕ) → length (zeros n) ≡ n
 zeros-size zero = refl

@@ -2,16 +2,18 @@ ghost use Rattle.std.specs.Prelude.{◌≡◌, [], ◌∷◌, ◌++◌, ◌*◌,
 ghost use Rattle.dense_blocks.specs.Vectors.{AllScalars, zeros, combination};
 ghost use Rattle.dense_blocks.specs.Matrices.{cut};
 
-use crate::combinations::add_combination;
 use crate::scalars::Scalars;
 use smallvec::SmallVec;
 use std::alloc::{AllocError as NoMemory, Global};
 use std::marker::Model;
 
+/// So many entries take no allocation.
+const FEW: usize = 16;
+
 /// The entries of a small matrix, seen by contracts as a list; up to sixteen take no allocation.
 #[derive(Debug, Drop)]
 pub struct Entries {
-    items: SmallVec<u8, 16>,
+    items: SmallVec<u8, FEW>,
 }
 
 impl Model for Entries {
@@ -73,7 +75,7 @@ impl Entries {
     }
 
     /// The entries in a vector that may be changed.
-    pub(crate) fn into_items(self) -> SmallVec<u8, 16>
+    pub(crate) fn into_items(self) -> SmallVec<u8, FEW>
         ensures { result.items ≡ self }
     {
         let Entries { items } = self;
@@ -81,13 +83,13 @@ impl Entries {
     }
 
     /// Adds `count` zeros at the end; without memory some may have been added.
-    #[tactic(auto, using(crate::proofs::VectorLaws::pushing))]
     pub fn push_zeros(&mut self, count: usize) -> Result<(), NoMemory>
         ensures { OnOk result (self.new ≡ self.old ++ zeros count) }
     {
-        for _added in 0..count {
-            self.push(0)?;
+        for _added in 0..count / FEW {
+            self.push_all(&[0; FEW])?;
         }
+        self.push_all(&[0; FEW][..count % FEW])?;
         Ok(())
     }
 
@@ -109,7 +111,7 @@ impl Entries {
         let start = self.len();
         self.push_zeros(columns)?;
         let all = self.items.as_mut_slice();
-        add_combination(f, &mut all[start..], coefficients, rows);
+        f.add_combination(&mut all[start..], coefficients, rows);
         Ok(())
     }
 }

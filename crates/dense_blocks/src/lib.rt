@@ -2,7 +2,6 @@
 #![tactic(auto)]
 
 mod block;
-mod combinations;
 mod entries;
 mod inverse;
 mod inversion;

@@ -1,7 +1,8 @@
-ghost use Rattle.std.specs.Prelude.{◌≡◌, ◌≢◌, ◌<◌, ◌↔◌, IsTrue, length};
+ghost use Rattle.std.specs.Prelude.{◌≡◌, ◌≢◌, ◌*◌, ◌<◌, ◌↔◌, IsTrue, length};
 ghost use Rattle.dense_blocks.specs.Field.{Ops};
 ghost use Rattle.dense_blocks.specs.FieldLaws.{IsField};
-ghost use Rattle.dense_blocks.specs.Vectors.{AllScalars, plus, multiple, dot};
+ghost use Rattle.dense_blocks.specs.Vectors.{AllScalars, plus, multiple, dot, combination};
+ghost use Rattle.dense_blocks.specs.Matrices.{cut};
 
 /// A finite field, whose scalars are the numbers below its order; 0 and 1 are neutral.
 ///
@@ -80,6 +81,27 @@ pub trait Scalars: Copy {
             total = self.add(total, self.mul(u[i], v[i]));
         }
         total
+    }
+
+    /// Adds to the target the linear combination, by the coefficients, of rows as long as the target that are given one
+    /// after another.
+    fn add_combination(&self, target: &mut [u8], coefficients: &[u8], rows: &[u8])
+        requires full { length rows.now ≡ length coefficients.now * length target.old }
+        requires target_scalars { AllScalars (ops self.now) target.old }
+        requires coefficient_scalars { AllScalars (ops self.now) coefficients.now }
+        requires row_scalars { AllScalars (ops self.now) rows.now }
+        ensures sum { target.new ≡ plus (ops self.now) target.old
+            (combination (ops self.now) (length target.old) coefficients.now
+            (cut (length coefficients.now) (length target.old) rows.now)) }
+        ensures scalars { AllScalars (ops self.now) target.new }
+    {
+        let columns = target.len();
+        let mut rest = rows;
+        for k in coefficients {
+            let (row, later) = rest.split_at(columns);
+            self.add_scaled(target, *k, row);
+            rest = later;
+        }
     }
 
     /// The operations are those of a field.

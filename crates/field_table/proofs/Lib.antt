@@ -1,3 +1,4 @@
 pub mod Inverses
 pub mod Known
 pub mod Remainders
+pub mod RowSums

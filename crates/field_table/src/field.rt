@@ -1,9 +1,10 @@
-ghost use Rattle.std.specs.Prelude.{◌≡◌, ◌<◌, ◌↔◌, ◌%◌, IsSome, IfSome, Contains};
-ghost use Rattle.field_table.specs.ModularFacts.{inverses};
+ghost use Rattle.std.specs.Prelude.{◌≡◌, ◌*◌, ◌<◌, ◌↔◌, ◌%◌, IsSome, IfSome, Contains, length};
+ghost use Rattle.dense_blocks.specs.Vectors.{AllScalars};
+ghost use Rattle.field_table.specs.ModularFacts.{inverses, plus_rows};
 ghost use Rattle.field_table.specs.Table.{ops_of, order_of, orders};
 ghost use Rattle.field_table.specs.Orders.{IsFieldOfOrder};
 
-use crate::kernels::{MOST_PRODUCTS, add_scaled, scale, sum_of_products};
+use crate::kernels::{MOST_PRODUCTS, add_combination, add_scaled, scale, sum_of_products};
 use dense_blocks::Scalars;
 
 /// A finite field of the table, named by its order; two are equal where their orders are.
@@ -95,6 +96,31 @@ impl Field {
             ],
         }
     }
+
+    /// Adds to the target the multiples, by the coefficients, of rows as long as the target that are given one after
+    /// another.
+    fn add_rows(self, target: &mut [u8], coefficients: &[u8], rows: &[u8])
+        requires full { length rows.now ≡ length coefficients.now * length target.old }
+        requires target_scalars { AllScalars (ops_of self) target.old }
+        requires coefficient_scalars { AllScalars (ops_of self) coefficients.now }
+        requires row_scalars { AllScalars (ops_of self) rows.now }
+        ensures sum { target.new ≡ plus_rows (ops_of self) (length target.old) target.old coefficients.now rows.now }
+        ensures scalars { AllScalars (ops_of self) target.new }
+    {
+        match self {
+            Field::Two => add_combination::<2>(target, coefficients, rows),
+            Field::Three => add_combination::<3>(target, coefficients, rows),
+            Field::Five => add_combination::<5>(target, coefficients, rows),
+            Field::Seven => add_combination::<7>(target, coefficients, rows),
+            Field::Eleven => add_combination::<11>(target, coefficients, rows),
+            Field::Thirteen => add_combination::<13>(target, coefficients, rows),
+            Field::Seventeen => add_combination::<17>(target, coefficients, rows),
+            Field::Nineteen => add_combination::<19>(target, coefficients, rows),
+            Field::TwentyThree => add_combination::<23>(target, coefficients, rows),
+            Field::TwentyNine => add_combination::<29>(target, coefficients, rows),
+            Field::ThirtyOne => add_combination::<31>(target, coefficients, rows),
+        }
+    }
 }
 
 impl Scalars for Field {
@@ -175,5 +201,9 @@ impl Scalars for Field {
             vs = v_back;
         }
         self.add(total, self.remainder(sum_of_products(us, vs)))
+    }
+
+    fn add_combination(&self, target: &mut [u8], coefficients: &[u8], rows: &[u8]) {
+        self.add_rows(target, coefficients, rows);
     }
 }

@@ -6,12 +6,12 @@ use Rattle.std.specs.Prelude.{◌==◌, if◌then◌else◌}
 use Rattle.std.proofs.lemmas.Bool.{eq-eqb, eqb-true}
 use Rattle.std.proofs.lemmas.List.{take-map, drop-map, take_all}
 use Rattle.std.proofs.lemmas.List.Elements.{All-head, All-tail}
-use Rattle.std.proofs.Math.Seq.{take-append_seam, drop-append_seam}
+use Rattle.std.proofs.Math.Seq.{drop-append_seam}
 use Rattle.dense_blocks.specs.Field.{Ops}
 use Rattle.dense_blocks.specs.Vectors.{zeros, plus, multiple, combination}
 use Rattle.dense_blocks.specs.MatrixFacts.{negative, matrix_sum, matrix_negative}
 use Rattle.dense_blocks.specs.Matrices.{product}
-use Rattle.dense_blocks.proofs.VectorLaws.{nil-plus, plus-nil, zeros-append, zeros-size}
+use Rattle.dense_blocks.proofs.VectorLaws.{nil-plus, plus-nil, zeros-append, zeros-size, take-zeros}
 use Rattle.dense_blocks.proofs.Cutting.{Sized, sized-size}
 use Rattle.rising_lists.specs.Rising.{has, keys}
 use Rattle.block_complexes.specs.BlockComplexes.{cells, size_of}
@@ -65,10 +65,6 @@ module _ {A : Type 0} (op : A → A → A) (zip : List A → List A → List A) 
       go true e = take-zip l.1 xs ys
       go false e = ap (λ zs. segment ls zs c) (drop-zip l.1 xs ys) ∙ e
 
-take-zeros : (m n : ℕ) → take m (zeros (m + n)) ≡ zeros m
-take-zeros m n = ap (take m) (zeros-append m n) ∙ ap (λ k. take k (zeros m ++ zeros n)) (sym (zeros-size m))
-    ∙ take-append_seam (zeros m) (zeros n)
-
 drop-zeros : (m n : ℕ) → drop m (zeros (m + n)) ≡ zeros n
 drop-zeros m n = ap (drop m) (zeros-append m n) ∙ ap (λ k. drop k (zeros m ++ zeros n)) (sym (zeros-size m))
     ∙ drop-append_seam (zeros m) (zeros n)
@@ -80,7 +76,7 @@ segment-zeros (l ∷ ls) c = go (eqb l.0 c) (segment-zeros ls c)
     go : (b : Bool) → segment ls (zeros (width ls)) c ≡ zeros (listed_size ls c)
         → cond b (take l.1 (zeros (l.1 + width ls))) (segment ls (drop l.1 (zeros (l.1 + width ls))) c)
         ≡ zeros (cond b l.1 (listed_size ls c))
-    go true e = take-zeros l.1 (width ls)
+    go true e = take-zeros l.1 (l.1 + width ls) (omega arith)
     go false e = ap (λ xs. segment ls xs c) (drop-zeros l.1 (width ls)) ∙ e
 
 module _ (K : Ops) where

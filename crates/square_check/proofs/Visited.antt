@@ -9,7 +9,7 @@ use Rattle.cell_complex.specs.Invariants.{IsComplex}
 use Rattle.cell_complex.proofs.Callers.{incident_from_face}
 use Rattle.dense_blocks.specs.Field.{Ops}
 use Rattle.dense_blocks.specs.declared.block.Block.{Block}
-use Rattle.square_check.specs.Searches.{IsFirstFailure, earlier_pair, Fails, PassesBefore}
+use Rattle.square_check.specs.Searches.{IsFirstFailure, earlier_pair, Fails, PassesBefore, IsFirstMiddle}
 use Rattle.square_check.specs.Squares.{Commutes}
 use Rattle.square_check.specs.TouchedFaces.{OthersCommute, faces_at, is_touched}
 use Rattle.square_check.proofs.Clearing.{clears-passing, earlier-clears_first, earlier-clears_second, first-from}
@@ -19,6 +19,11 @@ use Rattle.square_check.proofs.Placed.{all-at, all-kept, first-passing, placed}
 -- the squares of which f is the lower face, and those of which it is the upper one
 abbrev pub ClearsAbove : Ops → CellComplex → List Block → Option (ℕ × ℕ) → Face → Type 0
 ClearsAbove K c blocks r f = (u : ℕ) → is_face c f.t u ≡ true → PassesBefore (Commutes K c blocks) r f.s u
+
+-- those of which f is the lower face, and its upper cell the first between
+abbrev pub ClearsFirst : Ops → CellComplex → List Block → Option (ℕ × ℕ) → Face → Type 0
+ClearsFirst K c blocks r f = (u : ℕ) → is_face c f.t u ≡ true → IsFirstMiddle c f.s f.t u
+    → PassesBefore (Commutes K c blocks) r f.s u
 
 abbrev pub ClearsBelow : Ops → CellComplex → List Block → Option (ℕ × ℕ) → Face → Type 0
 ClearsBelow K c blocks r f = (s : ℕ) → is_face c s f.s ≡ true → PassesBefore (Commutes K c blocks) r s f.t
@@ -40,7 +45,7 @@ module _ (K : Ops) (c : CellComplex) (h : IsComplex c) (blocks : List Block) whe
           (λ (l : length c.dims ≤ u). let w : u < length c.dims = high.t_is_cell in omega arith) far)
 
   pub first-of_all : (r : Option (ℕ × ℕ)) (count : ℕ) → length c.faces ≤ count → Fails (Commutes K c blocks) r
-      → ((k : ℕ) (f : Face) → k < count → slice_get c.faces k ≡ Some f → ClearsAbove K c blocks r f)
+      → ((k : ℕ) (f : Face) → k < count → slice_get c.faces k ≡ Some f → ClearsFirst K c blocks r f)
       → IsFirstFailure (Commutes K c blocks) (length c.dims) r
   first-of_all r count enough fails clears = first-from (Commutes K c blocks) (length c.dims) r outside fails
       (λ s u. by s u (middles c s u) refl)
@@ -51,7 +56,8 @@ module _ (K : Ops) (c : CellComplex) (h : IsComplex c) (blocks : List Block) whe
           let b = between-head c s u t ts is in
           let p = placed c s t b.lower in
           subst (λ v. PassesBefore (Commutes K c blocks) r v u) p.from
-          (clears p.at p.face (omega (arith, p.inside)) p.found u (ap (λ v. is_face c v u) p.to ∙ b.upper))
+          (clears p.at p.face (omega (arith, p.inside)) p.found u (ap (λ v. is_face c v u) p.to ∙ b.upper)
+          (ap (λ v. slice_get (middles c v u) 0) p.from ∙ ap (λ vs. slice_get vs 0) is ∙ ap Some (sym p.to)))
 
   pub first-touched : (r : Option (ℕ × ℕ)) (places : List ℕ) (count : ℕ) → length places ≤ count
       → OthersCommute K c blocks places → Fails (Commutes K c blocks) r
@@ -100,6 +106,14 @@ module _ (K : Ops) (c : CellComplex) (h : IsComplex c) (blocks : List Block) whe
           by false e = clears-passing (Commutes K c blocks) r s u (others s u e)
 
 -- one answer more: what either clears of a face
+pub once-first : (K : Ops) (c : CellComplex) (blocks : List Block) (a b : Option (ℕ × ℕ)) (f : Face)
+    → ClearsFirst K c blocks a f → ClearsFirst K c blocks (earlier_pair a b) f
+once-first K c blocks a b f h u e first = earlier-clears_first (Commutes K c blocks) a b f.s u (h u e first)
+
+pub once-second : (K : Ops) (c : CellComplex) (blocks : List Block) (a b : Option (ℕ × ℕ)) (f : Face)
+    → ClearsFirst K c blocks b f → ClearsFirst K c blocks (earlier_pair a b) f
+once-second K c blocks a b f h u e first = earlier-clears_second (Commutes K c blocks) a b f.s u (h u e first)
+
 pub above-first : (K : Ops) (c : CellComplex) (blocks : List Block) (a b : Option (ℕ × ℕ)) (f : Face)
     → ClearsAbove K c blocks a f → ClearsAbove K c blocks (earlier_pair a b) f
 above-first K c blocks a b f h u e = earlier-clears_first (Commutes K c blocks) a b f.s u (h u e)

@@ -1,6 +1,7 @@
 -- The first pair that fails, as it is searched.
 use Rattle.std.specs.Prelude.{◌≡◌, ℕ, Bool, true, Option, None, Some, if◌then◌else◌}
-use Rattle.std.specs.Prelude.{MatchOption, nat_lt, ◌||◌, ◌==◌, ◌&&◌}
+use Rattle.std.specs.Prelude.{MatchOption, slice_get, nat_lt, ◌||◌, ◌==◌, ◌&&◌}
+use Rattle.cell_complex.specs.Complexes.{CellComplex, middles}
 use Rattle.square_check.specs.Answers.{IsFirstOf}
 
 -- the first pair of cells that fails; none where all pairs pass
@@ -24,3 +25,7 @@ Fails P r = MatchOption r (Unit {0}) (λ p. P p.0 p.1 → ⊥)
 -- s and u pass, unless the answer is a pair that does not come after them
 abbrev pub PassesBefore : (ℕ → ℕ → Type 0) → Option (ℕ × ℕ) → ℕ → ℕ → Type 0
 PassesBefore P r s u = MatchOption r (P s u) (λ p. is_before (s, u) p ≡ true → P s u)
+
+-- t is the first cell between s and u
+abbrev pub IsFirstMiddle : CellComplex → ℕ → ℕ → ℕ → Type 0
+IsFirstMiddle c s t u = slice_get (middles c s u) 0 ≡ Some t

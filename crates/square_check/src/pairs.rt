@@ -2,7 +2,7 @@ ghost use Rattle.std.specs.Prelude.{◌≡◌, ℕ, ◌<◌, ◌↔◌, true, So
 ghost use Rattle.cell_complex.specs.Complexes.{is_face};
 ghost use Rattle.cell_complex.specs.Invariants.{IsComplex};
 ghost use Rattle.incidence_check.specs.Incidences.{HasRegularIncidences};
-ghost use Rattle.square_check.specs.Searches.{Fails, PassesBefore};
+ghost use Rattle.square_check.specs.Searches.{Fails, PassesBefore, IsFirstMiddle};
 ghost use Rattle.square_check.specs.Squares.{Commutes, restriction};
 ghost use Rattle.square_check.specs.TouchedFaces.{AreRestrictions};
 
@@ -82,6 +82,55 @@ pub(crate) fn bad_above<F: Scalars>(
     let mut least = None;
     for &u in c.cofaces_of(t) {
         least = earlier(least, bad_pair(f, c, blocks, s, u));
+    }
+    least
+}
+
+/// The pair of `s` and `u`, if `t` is the first cell between them and their square does not commute.
+fn bad_pair_at<F: Scalars>(
+    f: &F,
+    c: &Complex,
+    blocks: &[Block],
+    s: u32,
+    t: u32,
+    u: u32,
+) -> Option<(u32, u32)>
+    requires complex { IsComplex c.now }
+    requires regular { HasRegularIncidences c.now }
+    requires restrictions { AreRestrictions (F.ops f.now) c.now blocks.now }
+    requires s_is_cell { s < length c.now.dims }
+    requires u_is_cell { u < length c.now.dims }
+    ensures fails { Fails (Commutes (F.ops f.now) c.now blocks.now) result }
+    ensures clears { IsFirstMiddle c.now s t u →
+        PassesBefore (Commutes (F.ops f.now) c.now blocks.now) result s u }
+{
+    if c.middles(s, u).next() == Some(t) {
+        bad_pair(f, c, blocks, s, u)
+    } else {
+        None
+    }
+}
+
+/// The first pair, of `s` and a cell between which `t` is the first cell, whose square does not commute.
+pub(crate) fn bad_first<F: Scalars>(
+    f: &F,
+    c: &Complex,
+    blocks: &[Block],
+    s: u32,
+    t: u32,
+) -> Option<(u32, u32)>
+    requires complex { IsComplex c.now }
+    requires regular { HasRegularIncidences c.now }
+    requires restrictions { AreRestrictions (F.ops f.now) c.now blocks.now }
+    requires s_is_cell { s < length c.now.dims }
+    requires t_is_cell { t < length c.now.dims }
+    ensures fails { Fails (Commutes (F.ops f.now) c.now blocks.now) result }
+    ensures clears { (u : ℕ) → is_face c.now t u ≡ true → IsFirstMiddle c.now s t u →
+        PassesBefore (Commutes (F.ops f.now) c.now blocks.now) result s u }
+{
+    let mut least = None;
+    for &u in c.cofaces_of(t) {
+        least = earlier(least, bad_pair_at(f, c, blocks, s, t, u));
     }
     least
 }

@@ -1,13 +1,18 @@
-ghost use Rattle.std.specs.Prelude.{◌≡◌, ◌<◌, ◌↔◌, IsTrue, length, slice_index};
-ghost use Rattle.dense_blocks.specs.Vectors.{AllScalars, combination};
+ghost use Rattle.std.specs.Prelude.{◌≡◌, ◌≤◌, ◌↔◌, IsTrue, length};
+ghost use Rattle.dense_blocks.specs.Vectors.{AllScalars, zeros, combination};
 ghost use Rattle.dense_blocks.specs.Matrices.{product};
 ghost use Rattle.dense_blocks.specs.Blocks.{matrix_of};
 
 use dense_blocks::{Block, Scalars};
 
+/// So many columns are worked out in the least room.
+const FEW: usize = 16;
+/// The most columns of a block.
+const MOST: usize = Block::MOST as usize;
+
 /// Whether `up1 * low1 = up2 * low2`.
 ///
-/// Takes no memory, and stops at the first entry that differs.
+/// Takes no memory, and stops at the first row that differs.
 pub fn square<F: Scalars>(f: &F, up1: &Block, low1: &Block, up2: &Block, low2: &Block) -> bool
     requires inner1 { up1.now.cols ≡ low1.now.rows }
     requires inner2 { up2.now.cols ≡ low2.now.rows }
@@ -40,26 +45,49 @@ fn same_row<F: Scalars>(f: &F, row1: &[u8], low1: &Block, row2: &[u8], low2: &Bl
     ensures { IsTrue result ↔ (combination (F.ops f.now) low1.now.cols row1.now (matrix_of low1.now)
         ≡ combination (F.ops f.now) low1.now.cols row2.now (matrix_of low2.now)) }
 {
-    for j in 0..low1.cols {
-        if entry_of(f, row1, low1, j) != entry_of(f, row2, low2, j) {
-            return false;
-        }
+    if low1.cols as usize <= FEW {
+        same_within::<F, FEW>(f, row1, low1, row2, low2)
+    } else {
+        same_within::<F, MOST>(f, row1, low1, row2, low2)
     }
-    true
 }
 
-/// The entry at `j` of the combination, by the coefficients, of the rows of the block.
-fn entry_of<F: Scalars>(f: &F, coefficients: &[u8], block: &Block, j: u32) -> u8
+/// The same of blocks of at most `N` columns, whose combinations are worked out on the stack.
+fn same_within<F: Scalars, const N: usize>(
+    f: &F,
+    row1: &[u8],
+    low1: &Block,
+    row2: &[u8],
+    low2: &Block,
+) -> bool
+    requires room { low1.now.cols ≤ N }
+    requires size1 { length row1.now ≡ low1.now.rows }
+    requires size2 { length row2.now ≡ low2.now.rows }
+    requires cols { low1.now.cols ≡ low2.now.cols }
+    requires row1_scalars { AllScalars (F.ops f.now) row1.now }
+    requires low1_scalars { AllScalars (F.ops f.now) low1.now.entries }
+    requires row2_scalars { AllScalars (F.ops f.now) row2.now }
+    requires low2_scalars { AllScalars (F.ops f.now) low2.now.entries }
+    ensures { IsTrue result ↔ (combination (F.ops f.now) low1.now.cols row1.now (matrix_of low1.now)
+        ≡ combination (F.ops f.now) low1.now.cols row2.now (matrix_of low2.now)) }
+{
+    let columns = low1.cols as usize;
+    let mut zeros1 = [0; N];
+    let mut zeros2 = [0; N];
+    let first = &mut zeros1[..columns];
+    let second = &mut zeros2[..columns];
+    combine(f, first, row1, low1);
+    combine(f, second, row2, low2);
+    *first == *second
+}
+
+/// Makes of as many zeros as the block has columns the combination of its rows by the coefficients.
+fn combine<F: Scalars>(f: &F, target: &mut [u8], coefficients: &[u8], block: &Block)
+    requires zeros { target.old ≡ zeros block.now.cols }
     requires size { length coefficients.now ≡ block.now.rows }
-    requires inside { j < block.now.cols }
     requires coefficient_scalars { AllScalars (F.ops f.now) coefficients.now }
     requires block_scalars { AllScalars (F.ops f.now) block.now.entries }
-    ensures { result ≡ slice_index (combination (F.ops f.now) block.now.cols coefficients.now (matrix_of block.now)) j }
+    ensures { target.new ≡ combination (F.ops f.now) block.now.cols coefficients.now (matrix_of block.now) }
 {
-    let mut total = 0;
-    for k in 0..block.rows {
-        let product = f.mul(coefficients[k as usize], block.row(k)[j as usize]);
-        total = f.add(total, product);
-    }
-    total
+    f.add_combination(target, coefficients, block.entries.as_slice());
 }

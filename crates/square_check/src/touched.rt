@@ -7,7 +7,7 @@ ghost use Rattle.square_check.specs.TouchedFaces.{AreRestrictions, OthersCommute
 ghost use Rattle.square_check.specs.Touches.{AreTouched};
 
 use crate::answers::earlier;
-use crate::pairs::{bad_above, bad_below};
+use crate::pairs::{bad_above, bad_below, bad_first};
 use cell_complex::Complex;
 use dense_blocks::{Block, Scalars};
 
@@ -55,7 +55,7 @@ fn first_of_all<F: Scalars>(f: &F, c: &Complex, blocks: &[Block], count: u32) ->
     let mut least = None;
     for place in 0..count {
         let face = c.face_at(place);
-        least = earlier(least, bad_above(f, c, blocks, face.s, face.t));
+        least = earlier(least, bad_first(f, c, blocks, face.s, face.t));
     }
     least
 }

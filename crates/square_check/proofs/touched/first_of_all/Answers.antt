@@ -8,7 +8,7 @@ use Rattle.square_check.specs.Searches.{Fails}
 use Rattle.square_check.specs.Squares.{Commutes}
 use Rattle.square_check.proofs.Clearing.{earlier-fails}
 use Rattle.square_check.proofs.Placed.{some-same}
-use Rattle.square_check.proofs.Visited.{ClearsAbove, above-first, above-second, first-of_all}
+use Rattle.square_check.proofs.Visited.{ClearsFirst, once-first, once-second, first-of_all}
 use Rattle.square_check.proofs.touched.first_of_all.Goals as goal
 
 pub loop-place-preserved : goal.loop-place-preserved
@@ -17,19 +17,19 @@ loop-place-preserved g c =
     let all : CellComplex = c.args.c.now in
     let blocks : List Block = c.args.blocks.now in
     let old : Option (ℕ × ℕ) = c.loop-place.least in
-    let bad : Option (ℕ × ℕ) = c.bad_above.result in
+    let bad : Option (ℕ × ℕ) = c.bad_first.result in
     let place : ℕ = c.loop-place.place in
     let face : Face = c.face_at-face.result in
     record {
       fails = subst (Fails (Commutes K all blocks)) (sym c.earlier-least.ensures)
-          (earlier-fails (Commutes K all blocks) old bad c.loop-place.invariant.fails c.bad_above.ensures.fails);
-      clears = λ k f l e. subst (λ r. ClearsAbove K all blocks r f) (sym c.earlier-least.ensures)
-          (⊎_elim (λ (before : k < place). above-first K all blocks old bad f
+          (earlier-fails (Commutes K all blocks) old bad c.loop-place.invariant.fails c.bad_first.ensures.fails);
+      clears = λ k f l e. subst (λ r. ClearsFirst K all blocks r f) (sym c.earlier-least.ensures)
+          (⊎_elim (λ (before : k < place). once-first K all blocks old bad f
           (c.loop-place.invariant.clears k f before e))
           (λ (after : place ≤ k).
           let here : place ≡ k = omega arith in
           let same : face ≡ f = some-same face f (sym c.face_at-face.ensures ∙ ap (slice_get all.faces) here ∙ e) in
-          above-second K all blocks old bad f (subst (ClearsAbove K all blocks bad) same c.bad_above.ensures.clears))
+          once-second K all blocks old bad f (subst (ClearsFirst K all blocks bad) same c.bad_first.ensures.clears))
           (cases_lt k place));
     }
 

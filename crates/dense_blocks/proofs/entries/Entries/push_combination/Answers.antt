@@ -28,4 +28,4 @@ returns g c =
     c.args.coefficients.now c.args.rows.now c.args.self.now c.self.inside.items.items c.as_mut_slice-all.result.now
     c.add_combination.new.target c.len-start.result c.as_mut_slice-all.ensures.value
     (c.self.view_is ∙ c.in_ok-push_zeros.ensures)
-    c.len-start.ensures c.requires.full c.requires.row_scalars c.add_combination.ensures
+    c.len-start.ensures c.requires.full c.requires.row_scalars c.add_combination.ensures.sum
