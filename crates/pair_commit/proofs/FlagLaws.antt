@@ -1,5 +1,7 @@
--- Flags stand at singular blocks, after a removal and after a mark; where each square block has one, nothing can be removed.
-use Rattle.std.proofs.Common.{◌≡◌, ℕ, Bool, true, false, ◌&&◌, cond, Option, Some, None, List, refl, sym, ap, ap₂, ◌∙◌, subst}
+-- Flags stand at singular blocks, after a removal and after a mark; where each square block has one, nothing can be
+-- removed.
+use Rattle.std.proofs.Common.{◌≡◌, ℕ, Bool, true, false, ◌&&◌, cond, Option, Some, None, List, refl, sym, ap, ap₂}
+use Rattle.std.proofs.Common.{◌∙◌, subst}
 use Rattle.std.specs.Prelude.{◌==◌, not, if◌then◌else◌, MatchOption}
 use Rattle.std.specs.Option.{is_some}
 use Rattle.std.proofs.lemmas.Bool.{eq-eqb, eqb-true}
@@ -9,25 +11,31 @@ use Rattle.dense_blocks.specs.MatrixFacts.{IsInverse, zero_matrix}
 use Rattle.dense_blocks.specs.Blocks.{matrix_of}
 use Rattle.dense_blocks.specs.declared.block.Block.{Block}
 use Rattle.dense_blocks.specs.Inverses.{InKernel}
-use Rattle.dense_blocks.proofs.BlockLaws.{block-matrix_at}
 use Rattle.dense_blocks.proofs.Shapes.{Matrix}
+use Rattle.dense_blocks.proofs.BlockLaws.{block-matrix_at}
 use Rattle.dense_blocks.proofs.InverseLaws.{kernel-no_inverse}
 use Rattle.rising_lists.specs.Rising.{has}
-use Rattle.block_complexes.specs.BlockComplexes.{AreBothLive, AreConsecutive, HaveSameMatrices, IsBlockComplex, cells, size_of}
+use Rattle.block_complexes.specs.BlockComplexes.{AreBothLive, AreConsecutive, HaveSameMatrices, IsBlockComplex}
+use Rattle.block_complexes.specs.BlockComplexes.{cells, size_of}
 use Rattle.block_complexes.proofs.FullLaws.{IsFull}
-use Rattle.block_sparse.specs.StoredBlocks.{StoredBlocks, StoredBlock, StandsAt, complex_in, block_at, matrix, matrix_or, flag_of, with_flag}
-use Rattle.block_sparse.specs.Candidates.{is_unflagged}
-use Rattle.block_sparse.specs.Invariants.{IsSound}
-use Rattle.block_sparse.proofs.ScalarBlocks.{block_at-between, matrix-none, not-block_at}
-use Rattle.block_sparse.proofs.StoredLaws.{block_complex-full, standing-scalars}
 use Rattle.removals.specs.Removals.{IsRemoval, corner, is_corner}
-use Rattle.block_sparse.specs.Flags.{KeepsFlags}
 use Rattle.removals.specs.Reductions.{IsInverseAt, IsIrreducible}
 use Rattle.removals.proofs.CornerLaws.{corner-zero_row, corner-zero_column, inverse-shape}
 use Rattle.removals.proofs.RemovalLaws.{left-size}
+use Rattle.block_sparse.specs.StoredBlocks.{StoredBlocks, StoredBlock, StandsAt, complex_in, block_at, matrix, matrix_or}
+use Rattle.block_sparse.specs.StoredBlocks.{flag_of, with_flag}
+use Rattle.block_sparse.specs.Candidates.{is_unflagged}
+use Rattle.block_sparse.specs.Flags.{HasNoFlags, KeepsFlags}
+use Rattle.block_sparse.specs.Invariants.{IsSound}
+use Rattle.block_sparse.proofs.ScalarBlocks.{block_at-between, matrix-none, not-block_at}
+use Rattle.block_sparse.proofs.StoredLaws.{block_complex-full, standing-scalars}
 use Rattle.reduce_step.proofs.FitLaws.{zero-no_inverse}
 use Rattle.reduce_step.proofs.DifferenceLaws.{live-size}
 use Rattle.pair_commit.specs.Slots.{FlagsAreSingular, IsTried}
+
+-- where no block has a flag, each that has one has no inverse
+pub unflagged-singular : (K : Ops) (v : StoredBlocks) → HasNoFlags v → FlagsAreSingular K v
+unflagged-singular K v none s t flag invertible = absurd (let h : false ≡ true = sym (none s t) ∙ flag in cc)
 
 -- a flag stands on a block
 flag-block_at : (o : Option StoredBlock) → flag_of o ≡ true → is_some o ≡ true

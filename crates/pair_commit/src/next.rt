@@ -1,8 +1,12 @@
 ghost use Rattle.std.specs.Prelude.{◌≡◌, All, IfOk, OnErr, true};
-ghost use Rattle.block_sparse.specs.StoredBlocks.{StandsAt};
+ghost use Rattle.dense_blocks.specs.Field.{Ops};
+ghost use Rattle.block_complexes.specs.BlockComplexes.{IsBlockComplex};
+ghost use Rattle.block_sparse.specs.StoredBlocks.{StandsAt, complex_in};
 ghost use Rattle.block_sparse.specs.Candidates.{is_candidate};
 ghost use Rattle.pair_find.specs.Pairs.{IsNextFrom};
-ghost use Rattle.pair_commit.specs.Takes.{IsCopied, IsCarriedPair, Takes};
+ghost use Rattle.reduce_step.specs.Footprints.{IsFootprint, IsOverField};
+ghost use Rattle.pair_commit.specs.Slots.{KeepsInverse};
+ghost use Rattle.pair_commit.specs.Takes.{MayFinish, Takes};
 
 use crate::blocks::stands;
 use crate::kept::Kept;
@@ -22,6 +26,8 @@ pub(crate) fn next_work(
 ) -> Result<Work, NoMemory>
     requires { All (λ k. k.pivot.rows ≡ k.pivot.cols) carried.old.items }
     ensures takes { IfOk result (λ work. Takes b.now carried.old.items from work carried.new.items) }
+    ensures may_finish { IfOk result (λ work. (K : Ops) → IsBlockComplex K (complex_in b.now)
+        → All (KeepsInverse K) carried.old.items → MayFinish K work) }
     ensures err { OnErr result (carried.new.items ≡ carried.old.items) }
 {
     match next_candidate(b, from) {
@@ -40,6 +46,8 @@ fn next_try(
     requires square { All (λ k. k.pivot.rows ≡ k.pivot.cols) carried.old.items }
     requires next { IsNextFrom b.now from pair }
     ensures takes { IfOk result (λ work. Takes b.now carried.old.items from work carried.new.items) }
+    ensures may_finish { IfOk result (λ work. (K : Ops) → IsBlockComplex K (complex_in b.now)
+        → All (KeepsInverse K) carried.old.items → MayFinish K work) }
     ensures err { OnErr result (carried.new.items ≡ carried.old.items) }
 {
     let alloc = *carried.allocator();
@@ -60,7 +68,8 @@ fn next_try(
 /// The footprint of a candidate.
 fn copy_candidate(alloc: Global, b: &Blocks, pair: (u32, u32)) -> Result<Footprint, NoMemory>
     requires { is_candidate b.now pair.0 pair.1 ≡ true }
-    ensures { IfOk result (IsCopied b.now pair.0 pair.1) }
+    ensures footprint { IfOk result (IsFootprint b.now pair.0 pair.1) }
+    ensures over { IfOk result (λ foot. (K : Ops) → IsBlockComplex K (complex_in b.now) → IsOverField K foot) }
 {
     let foot = Footprint::copy(alloc, b, pair.0, pair.1)?;
     Ok(foot)
@@ -70,7 +79,10 @@ fn copy_candidate(alloc: Global, b: &Blocks, pair: (u32, u32)) -> Result<Footpri
 fn copy_kept(alloc: Global, b: &Blocks, kept: &Kept) -> Result<(Footprint, Block), NoMemory>
     requires stands { StandsAt b.now kept.now.x kept.now.y kept.now.pivot }
     requires square { kept.now.pivot.rows ≡ kept.now.pivot.cols }
-    ensures { IfOk result (λ w. IsCarriedPair b.now kept.now w.0 w.1) }
+    ensures footprint { IfOk result (λ w. IsFootprint b.now kept.now.x kept.now.y w.0) }
+    ensures pivot { IfOk result (λ w. w.0.pivot ≡ kept.now.pivot) }
+    ensures inverse { IfOk result (λ w. w.1 ≡ kept.now.inverse) }
+    ensures over { IfOk result (λ w. (K : Ops) → IsBlockComplex K (complex_in b.now) → IsOverField K w.0) }
 {
     let foot = Footprint::copy(alloc, b, kept.x, kept.y)?;
     let inverse = kept.inverse.copy(alloc)?;
