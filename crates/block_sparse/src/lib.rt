@@ -9,6 +9,7 @@
 mod blocks;
 mod coboundary;
 mod comparison;
+mod flags;
 mod fresh;
 mod live_cells;
 mod parts;

@@ -1,8 +1,9 @@
-ghost use Rattle.std.specs.Prelude.{◌≡◌};
+ghost use Rattle.std.specs.Prelude.{◌≡◌, IfOk};
 ghost use Rattle.reduce_step.specs.Parts.{AreFootprintParts};
 
 use crate::footprint::Footprint;
 use dense_blocks::{Block, Listed, Scalars};
+use std::alloc::{AllocError as NoMemory, Global};
 use std::marker::Model;
 
 /// What the removal of a pair of cells would make of its footprint: the inverse of the pivot, and the new corners.
@@ -54,4 +55,30 @@ pub struct Step {
     pub ghost parts: { AreFootprintParts x y left below pivot row column },
     pub ghost inverse_rows: { inverse.rows ≡ pivot.rows },
     pub ghost inverse_cols: { inverse.cols ≡ pivot.cols },
+}
+
+impl Step {
+    /// An equal step.
+    pub fn copy(&self, alloc: Global) -> Result<Step, NoMemory>
+        ensures { IfOk result (λ step. step ≡ self.now) }
+    {
+        Ok(Step {
+            x: self.x,
+            y: self.y,
+            left: copy_cells(alloc, &self.left)?,
+            below: copy_cells(alloc, &self.below)?,
+            pivot: self.pivot.copy(alloc)?,
+            inverse: self.inverse.copy(alloc)?,
+            row: self.row.copy(alloc)?,
+            column: self.column.copy(alloc)?,
+        })
+    }
+}
+
+/// The same cells, each with its size.
+fn copy_cells(alloc: Global, cells: &Listed<(u32, u8)>) -> Result<Listed<(u32, u8)>, NoMemory>
+    ensures { IfOk result (λ copy. copy ≡ cells.now) }
+{
+    let copy = Vec::from_slice(alloc, cells.as_slice())?;
+    Ok(Listed::of(copy))
 }

@@ -1,8 +1,9 @@
-ghost use Rattle.std.specs.Prelude.{◌≡◌, true, IfOk, OnOk};
+ghost use Rattle.std.specs.Prelude.{IfOk};
 ghost use Rattle.field_table.specs.Table.{ops_of};
 ghost use Rattle.block_complexes.specs.BlockComplexes.{IsBlockComplex};
-ghost use Rattle.block_sparse.specs.Candidates.{is_candidate};
 ghost use Rattle.block_sparse.specs.StoredBlocks.{complex_in};
+ghost use Rattle.block_sparse.specs.Flags.{HasNoFlags};
+ghost use Rattle.reduce_step.specs.Footprints.{IsOverField};
 
 use crate::report::{Failure, Outcome, Report};
 use crate::texts::sheaf_of;
@@ -10,9 +11,8 @@ use block_sparse::Blocks;
 use coboundary::{full, start_is_block_complex};
 use field_table::Field;
 use io_edge::{StdSource, read_all};
-use pair_find::next_candidate;
-use reduce_step::{Finish, Footprint, Record};
-use removals::removal_keeps_block_complex;
+use pair_commit::{Slot, Work};
+use reduce_step::{Finish, Footprint};
 use sheaf_data::Sheaf;
 use sheaf_text::MOST_BYTES;
 use std::alloc::{AllocError as NoMemory, Global};
@@ -44,13 +44,15 @@ fn input_sheaf<R: Input>(rt: &R, alloc: Global) -> Result<Sheaf<Field>, Failure>
 }
 
 fn reduce_sheaf(alloc: Global, sheaf: Sheaf<Field>) -> Result<Tally, Failure> {
-    let mut blocks = start(alloc, &sheaf)?;
-    reduce(alloc, sheaf.draft().field, &mut blocks)
+    let base = start(alloc, &sheaf)?;
+    let mut slot = Slot::start(alloc, sheaf.draft().field, base, Vec::new(alloc))?;
+    reduce(alloc, &mut slot)
 }
 
-/// The block complex of a sheaf, over its field.
+/// The block complex of a sheaf, over its field, without flags.
 pub fn start(alloc: Global, sheaf: &Sheaf<Field>) -> Result<Blocks, NoMemory>
-    ensures { IfOk result (λ b. IsBlockComplex (ops_of sheaf.now.field) (complex_in b)) }
+    ensures over { IfOk result (λ b. IsBlockComplex (ops_of sheaf.now.field) (complex_in b)) }
+    ensures unflagged { IfOk result HasNoFlags }
 {
     // These two calls are made for their clauses alone.
     start_is_block_complex();
@@ -59,76 +61,51 @@ pub fn start(alloc: Global, sheaf: &Sheaf<Field>) -> Result<Blocks, NoMemory>
     Ok(blocks)
 }
 
-/// Tries the candidates in order until there is none.
-fn reduce(alloc: Global, f: Field, b: &mut Blocks) -> Result<Tally, Failure>
-    requires { IsBlockComplex (ops_of f) (complex_in b.old) }
-{
+/// Tries what the slot gives, the first candidate each time, until nothing is left.
+fn reduce(alloc: Global, slot: &mut Slot<Field>) -> Result<Tally, Failure> {
     let mut tally = Tally {
         pairs: 0,
         updates: 0,
         left: 0,
     };
-    let mut from = (0, 0);
     for _step in 0..u64::MAX {
-        let Some(pair) = next_candidate(b, from) else {
+        let Work::Try(foot) = slot.take((0, 0))? else {
             break;
         };
-        from = try_pair(alloc, f, b, pair, &mut tally)?;
+        try_pair(alloc, slot, foot, &mut tally)?;
     }
-    tally.left = b.live().len();
+    tally.left = slot.now().live().len();
     Ok(tally)
 }
 
-/// Removes the pair of a candidate where its block has an inverse; else flags the block. Gives the pair of cells from
-/// which the next candidate is looked for, so that the candidates come in order from the first on.
+/// Removes the pair of the footprint where its pivot has an inverse; else marks the pivot.
 fn try_pair(
     alloc: Global,
-    f: Field,
-    b: &mut Blocks,
-    pair: (u32, u32),
+    slot: &mut Slot<Field>,
+    foot: Footprint,
     tally: &mut Tally,
-) -> Result<(u32, u32), Failure>
-    requires candidate { is_candidate b.old pair.0 pair.1 ≡ true }
-    requires over { IsBlockComplex (ops_of f) (complex_in b.old) }
-    ensures { OnOk result (IsBlockComplex (ops_of f) (complex_in b.new)) }
+) -> Result<(), Failure>
+    requires { IsOverField (ops_of slot.old.f) foot }
 {
-    let foot = Footprint::copy(alloc, b, pair.0, pair.1)?;
-    let finish = foot.finish(alloc, &f)?;
-    match finish {
+    match foot.finish(alloc, &slot.field())? {
         Finish::Made(record) => {
-            let next = count_removal(&record.foot, tally);
-            remove(b, record)?;
-            Ok(next)
+            count_removal(&record.foot, tally);
+            slot.commit(record)?;
         }
-        Finish::Singular { .. } => {
-            b.flag(pair.0, pair.1);
-            Ok(pair)
-        }
+        Finish::Singular {
+            x,
+            y,
+            pivot,
+            kernel,
+        } => slot.mark(x, y, &pivot, &kernel)?,
     }
+    Ok(())
 }
 
-/// Counts the removal of this footprint. No candidate is left that comes from a cell up to `x`, but those from the
-/// cells on the left, whose blocks change: the first of these cells, or the one after `x`, is given.
-fn count_removal(foot: &Footprint, tally: &mut Tally) -> (u32, u32) {
-    let left = foot.left.as_slice();
-    let corners = (left.len() as u64).saturating_mul(foot.below.as_slice().len() as u64);
+/// Counts the removal of this footprint.
+fn count_removal(foot: &Footprint, tally: &mut Tally) {
+    let left = foot.left.as_slice().len() as u64;
+    let corners = left.saturating_mul(foot.below.as_slice().len() as u64);
     tally.pairs = tally.pairs.saturating_add(1);
     tally.updates = tally.updates.saturating_add(corners);
-    let after = foot.x.saturating_add(1);
-    match left.first() {
-        Some(cell) => (cell.0.min(after), 0),
-        None => (after, 0),
-    }
-}
-
-fn remove(b: &mut Blocks, removal: Record<Field>) -> Result<(), Failure>
-    requires { IsBlockComplex (ops_of removal.f) (complex_in b.old) }
-    ensures { OnOk result (IsBlockComplex (ops_of removal.f) (complex_in b.new)) }
-{
-    removal_keeps_block_complex();
-    let Ok(()) = removal.fits(b) else {
-        return Err(Failure::Made);
-    };
-    removal.apply(b)?;
-    Ok(())
 }

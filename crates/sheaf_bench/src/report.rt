@@ -1,3 +1,5 @@
+use pair_commit::CommitFault;
+use reduce_step::Differs;
 use std::alloc::{AllocError as NoMemory, Global};
 use std::io;
 use std::time::{Duration, Instant};
@@ -63,5 +65,20 @@ impl<T: Drop> From<(T, NoMemory)> for Failure {
 impl From<io::Error> for Failure {
     fn from(_: io::Error) -> Self {
         Failure::Outside
+    }
+}
+
+impl From<CommitFault> for Failure {
+    fn from(fault: CommitFault) -> Self {
+        match fault {
+            CommitFault::Stale { .. } => Failure::Made,
+            CommitFault::NoMemory => Failure::Memory(NoMemory),
+        }
+    }
+}
+
+impl From<Differs> for Failure {
+    fn from(_: Differs) -> Self {
+        Failure::Made
     }
 }
