@@ -4,19 +4,18 @@ use Rattle.std.proofs.Common.{subst, arith}
 use Rattle.std.proofs.lemmas.List.{take_all, take_more, get_or-map, length-map}
 use Rattle.dense_blocks.specs.Field.{Ops}
 use Rattle.dense_blocks.specs.FieldLaws.{IsField}
-use Rattle.dense_blocks.specs.Vectors.{AllScalars, plus, dot, combination}
+use Rattle.dense_blocks.specs.Vectors.{AllScalars, plus, multiple, dot, combination}
 use Rattle.dense_blocks.specs.MatrixFacts.{negative, matrix_sum, matrix_negative}
 use Rattle.dense_blocks.specs.Matrices.{cut, image_of, product}
 use Rattle.dense_blocks.specs.declared.block.Block.{Block}
 use Rattle.dense_blocks.specs.Blocks.{matrix_of}
 use Rattle.dense_blocks.specs.BlockFacts.{IsBlock}
 use Rattle.dense_blocks.proofs.Shapes.{Vector, Matrix, vector_of, vector-size, vector-scalars, matrix-size, row-vector}
-use Rattle.dense_blocks.proofs.VectorLaws.{plus-vector, negative-vector}
+use Rattle.dense_blocks.proofs.VectorLaws.{plus-vector, negative-vector, multiple-one, multiple-neg_one}
 use Rattle.dense_blocks.proofs.MatrixLaws.{product-matrix, product-row, image_of-vector}
 use Rattle.dense_blocks.proofs.Cutting.{flat, flat-cut, flat-scalars, cut-size, cut-matrix, cut-plus, cut-negative}
 use Rattle.dense_blocks.proofs.Cutting.{matrix-sized, first_rows, first_rows-next, first_rows-size, cut-first_rows}
-use Rattle.dense_blocks.proofs.Cutting.{first_rows-all, first_sums, first_sums-all, first_negatives}
-use Rattle.dense_blocks.proofs.Cutting.{first_negatives-all}
+use Rattle.dense_blocks.proofs.Cutting.{first_rows-all}
 
 -- the entries of a block are those of its matrix
 pub block-entries : (b : Block) → flat (matrix_of b) ≡ b.entries
@@ -88,17 +87,16 @@ module _ (K : Ops) (F : IsField K) where
       ∙ sym (first_rows-next i M
       (subst (λ k. i < k) (sym (matrix-size K a.rows b.cols M (block_product-matrix a b e ha hb))) l))
 
-  pub block_sum-holds : (a b : Block) (i : ℕ) (xs : List ℕ) → a.rows ≡ b.rows → a.cols ≡ b.cols → AllScalars K a.entries
-      → AllScalars K b.entries
-      → i ≡ length a.entries → xs ≡ first_sums K i a.entries b.entries
+  pub block_sum-holds : (a b : Block) (xs : List ℕ) → a.rows ≡ b.rows → a.cols ≡ b.cols → AllScalars K a.entries
+      → AllScalars K b.entries → xs ≡ plus K a.entries (multiple K 1 b.entries)
       → Holds K a.rows a.cols (matrix_sum K (matrix_of a) (matrix_of b)) xs
-  block_sum-holds a b i xs r c ha hb e now =
+  block_sum-holds a b xs r c ha hb now =
       let n : ℕ = a.rows * a.cols in
       let same : length b.entries ≡ n = b.full ∙ sym (ap₂ (λ j k. j * k) r c) in
-      let whole : xs ≡ plus K a.entries b.entries = now ∙ first_sums-all K i a.entries b.entries e
-      (e ∙ a.full ∙ sym same) in
+      let right : Vector K n b.entries = vector_of K n b.entries same hb in
+      let whole : xs ≡ plus K a.entries b.entries = now ∙ ap (plus K a.entries) (multiple-one K F n b.entries right) in
       let is : Vector K n (plus K a.entries b.entries) =
-      plus-vector K F n a.entries b.entries (block-vector K a ha) (vector_of K n b.entries same hb) in
+      plus-vector K F n a.entries b.entries (block-vector K a ha) right in
       record {
         full = ap length whole ∙ vector-size K n (plus K a.entries b.entries) is;
         matrix =
@@ -107,12 +105,13 @@ module _ (K : Ops) (F : IsField K) where
         scalars = subst (AllScalars K) (sym whole) (vector-scalars K n (plus K a.entries b.entries) is);
       }
 
-  pub block_negative-holds : (a : Block) (i : ℕ) (xs : List ℕ) → AllScalars K a.entries → i ≡ length a.entries
-      → xs ≡ first_negatives K i a.entries → Holds K a.rows a.cols (matrix_negative K (matrix_of a)) xs
-  block_negative-holds a i xs ha e now =
+  pub block_negative-holds : (a : Block) (xs : List ℕ) → AllScalars K a.entries
+      → xs ≡ multiple K (K.neg 1) a.entries → Holds K a.rows a.cols (matrix_negative K (matrix_of a)) xs
+  block_negative-holds a xs ha now =
       let n : ℕ = a.rows * a.cols in
-      let whole : xs ≡ negative K a.entries = now ∙ first_negatives-all K i a.entries e in
-      let is : Vector K n (negative K a.entries) = negative-vector K F n a.entries (block-vector K a ha) in
+      let left : Vector K n a.entries = block-vector K a ha in
+      let whole : xs ≡ negative K a.entries = now ∙ multiple-neg_one K F n a.entries left in
+      let is : Vector K n (negative K a.entries) = negative-vector K F n a.entries left in
       record {
         full = ap length whole ∙ vector-size K n (negative K a.entries) is;
         matrix = ap (cut a.rows a.cols) whole ∙ cut-negative K a.rows a.cols a.entries;

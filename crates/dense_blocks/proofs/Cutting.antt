@@ -1,8 +1,8 @@
 -- Matrices and their entries in one list, row by row.
 use Rattle.std.proofs.Common.{◌≡◌, ℕ, zero, suc, ◌+◌, ◌-◌, ◌*◌, ◌<◌, List, [], ◌∷◌, ◌++◌, length, map, take, drop}
-use Rattle.std.proofs.Common.{get_or, refl, sym, ap, ap₂, ◌∙◌, arith, add-one, length-append, length-drop, append_assoc}
+use Rattle.std.proofs.Common.{get_or, refl, sym, ap, ap₂, ◌∙◌, arith, length-append, length-drop, append_assoc}
 use Rattle.std.proofs.lemmas.List.{append-nil, take_at, drop_at, take-append-drop, length-take-le, drop-drop, take-map}
-use Rattle.std.proofs.lemmas.List.{drop-map, take_all, take_more, map_more}
+use Rattle.std.proofs.lemmas.List.{drop-map, take_all, take_more}
 use Rattle.std.proofs.lemmas.List.Elements.{All-append, All-nil, All-take, All-drop}
 use Rattle.dense_blocks.specs.Field.{Ops}
 use Rattle.dense_blocks.specs.Vectors.{AllScalars, zeros, plus}
@@ -189,54 +189,4 @@ cut-zeros (suc m) n =
     ∙ ap₂ ◌∷◌ (take_at (zeros n) (zeros (m * n)) n (zeros-size n))
     (ap (cut m n) (drop_at (zeros n) (zeros (m * n)) n (zeros-size n)) ∙ cut-zeros m n)
 
--- entries that a loop works out one by one: the sums, and the negatives, of the first i
-unfoldable pub first_sums : Ops → ℕ → List ℕ → List ℕ → List ℕ
-first_sums K i u v = plus K (take i u) (take i v)
-
-pub first_sums-none : (K : Ops) (u v : List ℕ) → first_sums K 0 u v ≡ []
-unfolding first_sums
-first_sums-none K u v = refl
-
-pub first_sums-next : (K : Ops) (i : ℕ) (u v : List ℕ) → i < length u → i < length v
-    → first_sums K (i + 1) u v ≡ first_sums K i u v ++ K.add (get_or u i 0) (get_or v i 0) ∷ []
-unfolding first_sums
-first_sums-next K i u v hu hv = rw add-one (next i u v hu hv)
-  where
-    next : (j : ℕ) (s t : List ℕ) → j < length s → j < length t
-        → plus K (take (suc j) s) (take (suc j) t) ≡ plus K (take j s) (take j t) ++ K.add (get_or s j 0) (get_or t j 0)
-        ∷ []
-    next j [] t hs ht = absurd (omega arith)
-    next j (a ∷ s) [] hs ht = absurd (omega arith)
-    next zero (a ∷ s) (b ∷ t) hs ht = refl
-    next (suc j) (a ∷ s) (b ∷ t) hs ht = ap (λ w. K.add a b ∷ w) (next j s t (omega arith) (omega arith))
-
-pub first_sums-all : (K : Ops) (i : ℕ) (u v : List ℕ) → i ≡ length u → i ≡ length v → first_sums K i u v ≡ plus K u v
-unfolding first_sums
-first_sums-all K i u v hu hv = ap₂ (plus K) (take_all i u (omega arith)) (take_all i v (omega arith))
-
-unfoldable pub first_negatives : Ops → ℕ → List ℕ → List ℕ
-first_negatives K i v = negative K (take i v)
-
-pub first_negatives-none : (K : Ops) (v : List ℕ) → first_negatives K 0 v ≡ []
-unfolding first_negatives
-first_negatives-none K v = refl
-
-pub first_negatives-next : (K : Ops) (i : ℕ) (v : List ℕ) → i < length v → first_negatives K (i + 1) v
-    ≡ first_negatives K i v ++ K.neg (get_or v i 0) ∷ []
-unfolding first_negatives
-first_negatives-next K i v h = map_more K.neg v i 0 h
-
-pub first_negatives-all : (K : Ops) (i : ℕ) (v : List ℕ) → i ≡ length v → first_negatives K i v ≡ negative K v
-unfolding first_negatives
-first_negatives-all K i v h = ap (negative K) (take_all i v (omega arith))
-
 pub ruleset cutting = (cut-zeros, cut-row, zeros-size, first_rows-none, identity-next)
-
-pub ruleset one_by_one = (
-  first_sums-none,
-  first_sums-next,
-  first_sums-all,
-  first_negatives-none,
-  first_negatives-next,
-  first_negatives-all,
-)

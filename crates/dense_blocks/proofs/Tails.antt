@@ -33,3 +33,10 @@ tail-written items xs before w ys start same e s size =
     (drop_all (length (before ++ ys)) items (omega (arith, whole)))
     ∙ ap (take (length items)) (append-nil (before ++ ys))
     ∙ take_all (length items) (before ++ ys) (omega (arith, whole))
+
+-- all of a list lent to be written
+pub whole-written : (items xs : List ℕ) → length xs ≡ length items → refill (length items) items xs ≡ xs
+whole-written items xs e =
+    ap (λ t. take (length items) (xs ++ t)) (drop_all (length xs) items (omega (arith, e)))
+    ∙ ap (take (length items)) (append-nil xs)
+    ∙ take_all (length items) xs (omega (arith, e))

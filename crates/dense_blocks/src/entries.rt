@@ -1,5 +1,5 @@
-ghost use Rattle.std.specs.Prelude.{◌≡◌, [], ◌∷◌, ◌++◌, ◌*◌, length, IfOk, OnOk, OnErr};
-ghost use Rattle.dense_blocks.specs.Vectors.{AllScalars, zeros, combination};
+ghost use Rattle.std.specs.Prelude.{◌≡◌, [], ◌∷◌, ◌++◌, ◌*◌, ◌<◌, length, IfOk, OnOk, OnErr};
+ghost use Rattle.dense_blocks.specs.Vectors.{AllScalars, zeros, plus, multiple, combination};
 ghost use Rattle.dense_blocks.specs.Matrices.{cut};
 
 use crate::scalars::Scalars;
@@ -80,6 +80,26 @@ impl Entries {
     {
         let Entries { items } = self;
         items
+    }
+
+    /// Adds to the entries `k` times as many others.
+    pub(crate) fn add_scaled<F: Scalars>(&mut self, f: &F, k: u8, others: &[u8])
+        requires sizes { length others.now ≡ length self.old }
+        requires scalar { k < (F.ops f.now).order }
+        requires scalars { AllScalars (F.ops f.now) self.old }
+        requires other_scalars { AllScalars (F.ops f.now) others.now }
+        ensures { self.new ≡ plus (F.ops f.now) self.old (multiple (F.ops f.now) k others.now) }
+    {
+        f.add_scaled(self.items.as_mut_slice(), k, others);
+    }
+
+    /// Multiplies each entry by `k`.
+    pub(crate) fn scale<F: Scalars>(&mut self, f: &F, k: u8)
+        requires scalar { k < (F.ops f.now).order }
+        requires scalars { AllScalars (F.ops f.now) self.old }
+        ensures { self.new ≡ multiple (F.ops f.now) k self.old }
+    {
+        f.scale(self.items.as_mut_slice(), k);
     }
 
     /// Adds `count` zeros at the end; without memory some may have been added.

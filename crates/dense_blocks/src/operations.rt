@@ -34,7 +34,6 @@ pub fn product<F: Scalars>(alloc: Global, f: &F, a: &Block, b: &Block) -> Result
 }
 
 /// The sum of two blocks of one shape.
-#[tactic(auto, using(crate::proofs::Cutting::one_by_one))]
 pub fn sum<F: Scalars>(alloc: Global, f: &F, a: &Block, b: &Block) -> Result<Block, NoMemory>
     requires rows { a.now.rows ≡ b.now.rows }
     requires cols { a.now.cols ≡ b.now.cols }
@@ -44,11 +43,8 @@ pub fn sum<F: Scalars>(alloc: Global, f: &F, a: &Block, b: &Block) -> Result<Blo
         (matrix_sum (F.ops f.now) (matrix_of a.now) (matrix_of b.now))) }
     ensures scalars { IfOk result (λ c. AllScalars (F.ops f.now) c.entries) }
 {
-    let others = b.entries.as_slice();
-    let mut entries = Entries::with_room(alloc, others.len())?;
-    for (i, entry) in a.entries.as_slice().iter().enumerate() {
-        entries.push(f.add(*entry, others[i]))?;
-    }
+    let mut entries = Entries::of(alloc, a.entries.as_slice())?;
+    entries.add_scaled(f, 1, b.entries.as_slice());
     Ok(Block {
         rows: a.rows,
         cols: a.cols,
@@ -57,17 +53,14 @@ pub fn sum<F: Scalars>(alloc: Global, f: &F, a: &Block, b: &Block) -> Result<Blo
 }
 
 /// The negative of a block.
-#[tactic(auto, using(crate::proofs::Cutting::one_by_one))]
 pub fn minus<F: Scalars>(alloc: Global, f: &F, a: &Block) -> Result<Block, NoMemory>
     requires { AllScalars (F.ops f.now) a.now.entries }
     ensures block { IfOk result (λ c. IsBlock c a.now.rows a.now.cols
         (matrix_negative (F.ops f.now) (matrix_of a.now))) }
     ensures scalars { IfOk result (λ c. AllScalars (F.ops f.now) c.entries) }
 {
-    let mut entries = Entries::with_room(alloc, a.entries.len())?;
-    for entry in a.entries.as_slice() {
-        entries.push(f.neg(*entry))?;
-    }
+    let mut entries = Entries::of(alloc, a.entries.as_slice())?;
+    entries.scale(f, f.neg(1));
     Ok(Block {
         rows: a.rows,
         cols: a.cols,

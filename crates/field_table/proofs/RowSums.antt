@@ -3,7 +3,6 @@ use Rattle.std.proofs.Common.{◌≡◌, ℕ, zero, suc, ◌+◌, ◌*◌, ◌%�
 use Rattle.std.proofs.Common.{refl, sym, ap, ap₂, ◌∙◌, arith, length-drop}
 use Rattle.std.proofs.lemmas.List.{drop_more, drop_all, drop-drop, take-take, drop-take, length-take-le, length-map}
 use Rattle.std.proofs.lemmas.List.Elements.{All-take, All-drop}
-use Rattle.std.proofs.lemmas.Nat.{mul-le}
 use Rattle.std.proofs.Math.Nat.{add-mod, mod-eq_of_lt, zero-mul, zero-mod, add-zero}
 use Rattle.dense_blocks.specs.Field.{Ops}
 use Rattle.dense_blocks.specs.FieldLaws.{IsField}
@@ -86,6 +85,15 @@ module _ (q n : ℕ) where
       (omega (arith, length-drop n rows)) l
       (sym (plus-multiple-at (modulo q) c i u row wide (omega arith))
       ∙ ap (λ a. (a + (c * get_or row i 0) % q) % q) h ∙ sym (add-mod x (c * get_or row i 0) q))
+
+  pub plus_rows-size : (u cs rows : List ℕ) → length u ≡ n → length rows ≡ length cs * n
+      → length (plus_rows (modulo q) n u cs rows) ≡ n
+  plus_rows-size u [] rows e size = e
+  plus_rows-size u (c ∷ cs) rows e size =
+      plus_rows-size (plus (modulo q) u (multiple (modulo q) c (take n rows))) cs (drop n rows)
+      (length-plus (modulo q) u (multiple (modulo q) c (take n rows)) (length-map (take n rows) ((modulo q).mul c)
+      ∙ length-take-le n rows (omega arith) ∙ sym e) ∙ e)
+      (omega (arith, length-drop n rows))
 
   -- rows that are taken 0 times
   pub plus-none : (u v : List ℕ) → AllScalars (modulo q) u → length v ≡ length u

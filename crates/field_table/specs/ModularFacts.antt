@@ -3,7 +3,7 @@ use Rattle.std.specs.Prelude.{◌≡◌, ℕ, ◌+◌, ◌-◌, ◌*◌, ◌%◌
 use Rattle.std.specs.List.{range_with_len}
 use Rattle.dense_blocks.specs.Field.{Ops}
 use Rattle.dense_blocks.specs.Vectors.{plus, multiple}
-use Rattle.field_table.specs.Modular.{inverse, modulo}
+use Rattle.field_table.specs.Modular.{inverse}
 
 -- the inverses of 1, 2, .. up to q - 1
 unfoldable pub inverses : ℕ → List ℕ

@@ -86,14 +86,14 @@ fn add_four<const Q: u16>(target: &mut [u8], coefficients: &[u8], rows: &[u8])
     ensures sum { target.new ≡ plus_rows (modulo Q) (length target.old) target.old coefficients.now rows.now }
     ensures scalars { AllScalars (modulo Q) target.new }
 {
+    if coefficients == [0; ROWS].as_slice() {
+        return;
+    }
     let columns = target.len();
     let k0 = u16::from(coefficients[0]);
     let k1 = u16::from(coefficients[1]);
     let k2 = u16::from(coefficients[2]);
     let k3 = u16::from(coefficients[3]);
-    if k0 == 0 && k1 == 0 && k2 == 0 && k3 == 0 {
-        return;
-    }
     let (row0, rest) = rows.split_at(columns);
     let (row1, rest) = rest.split_at(columns);
     let (row2, row3) = rest.split_at(columns);
@@ -120,9 +120,7 @@ fn add_each<const Q: u16>(target: &mut [u8], coefficients: &[u8], rows: &[u8])
     let mut rest = rows;
     for k in coefficients {
         let (row, later) = rest.split_at(columns);
-        if *k != 0 {
-            add_scaled::<Q>(target, *k, row);
-        }
+        add_scaled::<Q>(target, *k, row);
         rest = later;
     }
 }

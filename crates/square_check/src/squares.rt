@@ -61,6 +61,7 @@ fn same_within<F: Scalars, const N: usize>(
     low2: &Block,
 ) -> bool
     requires room { low1.now.cols ≤ N }
+    requires small { N ≤ 4096 }
     requires size1 { length row1.now ≡ low1.now.rows }
     requires size2 { length row2.now ≡ low2.now.rows }
     requires cols { low1.now.cols ≡ low2.now.cols }

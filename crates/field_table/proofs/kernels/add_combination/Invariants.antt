@@ -1,4 +1,4 @@
-use Rattle.std.proofs.Common.{◌≡◌, ◌*◌, length}
+use Rattle.std.proofs.Common.{◌≡◌, ◌*◌, ◌≤◌, length}
 use Rattle.dense_blocks.specs.Vectors.{AllScalars}
 use Rattle.field_table.specs.Modular.{modulo}
 use Rattle.field_table.specs.ModularFacts.{plus_rows}
@@ -10,6 +10,7 @@ invariant-loop-ks g l = record {
       ≡ plus_rows (modulo g.row.Q) (length l.initial.target) l.initial.target l.coefficients l.rows;
   width : length l.target ≡ length l.initial.target;
   full : length l.rest ≡ length l.ks * length l.initial.target;
+  short : length l.rest ≤ length l.rows;
   target_scalars : AllScalars (modulo g.row.Q) l.target;
   coefficient_scalars : AllScalars (modulo g.row.Q) l.ks;
   row_scalars : AllScalars (modulo g.row.Q) l.rest;

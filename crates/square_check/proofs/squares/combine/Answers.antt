@@ -1,4 +1,4 @@
-use Rattle.std.proofs.Common.{◌≡◌, ℕ, length, ap, ap₂, ◌∙◌, subst, sym}
+use Rattle.std.proofs.Common.{◌≡◌, ℕ, ◌*◌, length, ap, ap₂, ◌∙◌, subst, sym}
 use Rattle.dense_blocks.specs.Field.{Ops}
 use Rattle.dense_blocks.specs.FieldLaws.{IsField}
 use Rattle.dense_blocks.specs.Vectors.{AllScalars, zeros, plus, combination}
@@ -11,7 +11,10 @@ use Rattle.dense_blocks.proofs.BlockLaws.{block-matrix}
 use Rattle.square_check.proofs.squares.combine.Goals as goal
 
 pub add_combination-requires-clause-full : goal.add_combination-requires-clause-full
-add_combination-requires-clause-full g c = ?
+add_combination-requires-clause-full g c =
+    let width : length c.args.target.now ≡ c.args.block.now.cols =
+    ap length c.requires.zeros ∙ zeros-size c.args.block.now.cols in
+    ap length c.as_slice.ensures ∙ c.args.block.now.full ∙ ap₂ (λ m n. m * n) (sym c.requires.size) (sym width)
 
 pub add_combination-requires-clause-target_scalars : goal.add_combination-requires-clause-target_scalars
 add_combination-requires-clause-target_scalars g c =

@@ -1,5 +1,4 @@
-use Rattle.std.proofs.Common.{◌≡◌, ◌++◌, ◌+◌, ◌*◌, ◌/◌, ◌%◌, ℕ, ap, ◌∙◌, arith}
-use Rattle.dense_blocks.specs.Vectors.{zeros}
+use Rattle.std.proofs.Common.{◌++◌, ◌+◌, ◌*◌, ◌%◌, ap, ◌∙◌, arith}
 use Rattle.dense_blocks.proofs.VectorLaws.{zeros-more, take-zeros}
 use Rattle.dense_blocks.proofs.entries.Entries.push_zeros.Goals as goal
 
