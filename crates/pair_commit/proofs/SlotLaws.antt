@@ -1,6 +1,7 @@
--- What keeps a slot a slot: a mark, a commit, and a pivot that is carried no more; and what a slot gives may be finished.
+-- What keeps a slot a slot: a mark, a commit, and a pivot that is carried no more; and what a slot gives may be
+-- finished.
 use Rattle.std.proofs.Common.{◌≡◌, ◌<◌, ℕ, Bool, true, false, cond, List, [], ◌∷◌, map, drop, get_or, length}
-use Rattle.std.proofs.Common.{Result, Ok, Err, All, refl, sym, ap, ◌∙◌, subst, inl, inr, arith}
+use Rattle.std.proofs.Common.{Result, Ok, Err, All, refl, sym, ap, subst, inl, inr, arith}
 use Rattle.std.specs.Prelude.{IfOk, OnErr}
 use Rattle.std.proofs.lemmas.List.Elements.{All-head, All-tail, All-nil, All-cons, All-drop}
 use Rattle.dense_blocks.specs.Field.{Ops}

@@ -6,7 +6,8 @@ use Rattle.reduce_step.specs.declared.record.Step.{Step}
 use Rattle.pair_commit.proofs.FlagLaws.{flags-removed}
 use Rattle.pair_commit.proofs.log.append.Goals as goal
 
-pushed : (log room longer : List Step) (step : Step) → room ≡ log → longer ≡ room ++ step ∷ [] → longer ≡ log ++ step ∷ []
+pushed : (log room longer : List Step) (step : Step) → room ≡ log → longer ≡ room ++ step ∷ []
+    → longer ≡ log ++ step ∷ []
 pushed log room longer step e f = f ∙ ap (λ l. l ++ step ∷ []) e
 
 pub returns-in-Ok-clause-ok : goal.returns-in-Ok-clause-ok
