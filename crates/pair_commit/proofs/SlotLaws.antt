@@ -1,13 +1,14 @@
--- What keeps a slot a slot: a mark, a commit, and a pivot that is carried no more; and what a slot gives may be finished.
+-- What keeps a slot a slot: a mark, a commit, and a pivot that is carried no more; and what a slot gives may be
+-- finished.
 use Rattle.std.proofs.Common.{◌≡◌, ◌<◌, ℕ, Bool, true, false, cond, List, [], ◌∷◌, map, drop, get_or, length}
-use Rattle.std.proofs.Common.{Result, Ok, Err, All, refl, sym, ap, ◌∙◌, subst, inl, inr, arith}
+use Rattle.std.proofs.Common.{Result, Ok, Err, All, refl, sym, ap, subst, inl, inr, arith}
 use Rattle.std.specs.Prelude.{IfOk, OnErr}
 use Rattle.std.proofs.lemmas.List.Elements.{All-head, All-tail, All-nil, All-cons, All-drop}
 use Rattle.dense_blocks.specs.Field.{Ops}
 use Rattle.dense_blocks.specs.FieldLaws.{IsField}
 use Rattle.dense_blocks.specs.Blocks.{matrix_of}
 use Rattle.dense_blocks.specs.declared.block.Block.{Block}
-use Rattle.dense_blocks.specs.Inverses.{InKernel}
+use Rattle.dense_blocks.specs.Inverses.{InKernel, IsInverseBlock}
 use Rattle.block_complexes.specs.BlockComplexes.{BlockComplex}
 use Rattle.block_complexes.proofs.SameLaws.{same-block_complex}
 use Rattle.removals.specs.Removals.{IsRemoval}
@@ -35,6 +36,13 @@ next-candidate v from pair h =
 pub first-is : (ks : List Kept) (k : Kept) → 0 < length ks → k ≡ get_or ks 0 k → ks ≡ k ∷ drop 1 ks
 first-is [] k l e = absurd (omega (arith, l))
 first-is (x ∷ ks) k l e = ap (λ y. y ∷ ks) (sym e)
+
+-- the first member's inverse is that of its pivot
+pub first-inverse : (K : Ops) (ks : List Kept) (k : Kept) (rest : List Kept) (pivot inverse : Block) → ks ≡ k ∷ rest
+    → All (KeepsInverse K) ks → pivot ≡ k.pivot → inverse ≡ k.inverse → IsInverseBlock K pivot inverse
+first-inverse K ks k rest pivot inverse e all p i =
+    let first = All-head (KeepsInverse K) k rest (subst (All (KeepsInverse K)) e all) in
+    subst (λ b. IsInverseBlock K b inverse) (sym p) (subst (λ b. IsInverseBlock K k.pivot b) (sym i) first.inverse)
 
 module _ (K : Ops) (F : IsField K) (base v : StoredBlocks) (log : List Step) (carried : List Kept)
     (h : IsSlot K base v log carried) where

@@ -18,5 +18,12 @@ pub(crate) fn stands(b: &Blocks, s: u32, t: u32, block: &Block) -> bool
 fn is_same(a: &Block, b: &Block) -> bool
     ensures { IsTrue result ↔ (a.now ≡ b.now) }
 {
-    a.rows == b.rows && a.cols == b.cols && a.entries.as_slice() == b.entries.as_slice()
+    has_same_shape(a, b) && a.entries.as_slice() == b.entries.as_slice()
+}
+
+/// Whether two blocks have as many rows and as many columns.
+fn has_same_shape(a: &Block, b: &Block) -> bool
+    ensures { IsTrue result ↔ ((a.now.rows ≡ b.now.rows) × (a.now.cols ≡ b.now.cols)) }
+{
+    a.rows == b.rows && a.cols == b.cols
 }

@@ -1,4 +1,4 @@
-ghost use Rattle.std.specs.Prelude.{◌≡◌, IfOk};
+ghost use Rattle.std.specs.Prelude.{◌≡◌, ◌++◌, IfOk, OnOk};
 ghost use Rattle.pair_commit.specs.Commits.{is_first, without_first};
 
 use crate::kept::Kept;
@@ -31,9 +31,19 @@ pub(crate) fn copy_carried(
 ) -> Result<VecDeque<Kept>, NoMemory>
     ensures { IfOk result (λ copy. copy.items ≡ carried.now.items) }
 {
+    let (first, second) = carried.as_slices();
     let mut copy = Vec::with_capacity(alloc, carried.len())?;
-    for kept in carried {
-        copy.push(kept.copy(alloc)?)?;
-    }
+    push_copies(alloc, &mut copy, first)?;
+    push_copies(alloc, &mut copy, second)?;
     Ok(VecDeque::from_vec(copy))
+}
+
+/// Adds a copy of each of some members at the end; without memory some may have been added.
+fn push_copies(alloc: Global, copies: &mut Vec<Kept>, members: &[Kept]) -> Result<(), NoMemory>
+    ensures { OnOk result (copies.new.items ≡ copies.old.items ++ members.now) }
+{
+    for kept in members {
+        copies.push(kept.copy(alloc)?)?;
+    }
+    Ok(())
 }

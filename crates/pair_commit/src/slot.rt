@@ -40,8 +40,13 @@ impl<F: Scalars> Model for Slot<F> {
 
     ghost Value = { SlotValue F };
 
-    ghost view = { λ s. record { f = s.f; base = s.base; present = s.present; log = s.log.items;
-        carried = s.carried.items } };
+    ghost view = { λ s. record {
+      f = s.f;
+      base = s.base;
+      present = s.present;
+      log = s.log.items;
+      carried = s.carried.items;
+    } };
 
     ghost invariant = { λ s. IsSlot (F.ops s.f) s.base s.present s.log.items s.carried.items };
 }
@@ -55,17 +60,17 @@ impl<F: Scalars> Slot<F> {
     ///
     /// No block has its flag set ([`Blocks::has_no_flags`]); what is carried are square blocks with their inverses,
     /// the first to be tried first. Copies the blocks. Fails only where memory does.
-    pub fn start(
-        alloc: Global,
-        f: F,
-        base: Blocks,
-        carried: Vec<Kept>,
-    ) -> Result<Slot<F>, NoMemory>
+    pub fn start(alloc: Global, f: F, base: Blocks, carried: Vec<Kept>) -> Result<Slot<F>, NoMemory>
         requires over { IsBlockComplex (F.ops f) (complex_in base) }
         requires unflagged { HasNoFlags base }
         requires inverses { All (KeepsInverse (F.ops f)) carried.items }
-        ensures { IfOk result (λ s. s ≡ record { f = f; base = base; present = base; log = [];
-            carried = carried.items }) }
+        ensures { IfOk result (λ s. s ≡ record {
+          f = f;
+          base = base;
+          present = base;
+          log = [];
+          carried = carried.items;
+        }) }
     {
         let present = base.copy(alloc)?;
         Ok(Slot {

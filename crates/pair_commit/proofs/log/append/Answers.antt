@@ -1,10 +1,14 @@
-use Rattle.std.proofs.Common.{List, [], ◌∷◌, ◌++◌, ◌∙◌, ap}
+use Rattle.std.proofs.Common.{◌≡◌, List, [], ◌∷◌, ◌++◌, ◌∙◌, ap}
 use Rattle.dense_blocks.specs.Blocks.{matrix_of}
 use Rattle.removals.proofs.RemovalLaws.{removal_keeps_block_complex}
 use Rattle.block_sparse.specs.StoredBlocks.{complex_in}
 use Rattle.reduce_step.specs.declared.record.Step.{Step}
 use Rattle.pair_commit.proofs.FlagLaws.{flags-removed}
 use Rattle.pair_commit.proofs.log.append.Goals as goal
+
+pushed : (log room longer : List Step) (step : Step) → room ≡ log → longer ≡ room ++ step ∷ []
+    → longer ≡ log ++ step ∷ []
+pushed log room longer step e f = f ∙ ap (λ l. l ++ step ∷ []) e
 
 pub returns-in-Ok-clause-ok : goal.returns-in-Ok-clause-ok
 returns-in-Ok-clause-ok g c =
@@ -21,7 +25,8 @@ returns-in-Ok-clause-ok g c =
       step = step;
       step_is = c.in-Ok.ensures.step;
       step_from = c.in-Ok.ensures.step_from;
-      logged = ◌∙◌ {A = List Step} c.push_reserved.ensures.items (ap (λ l. l ++ step ∷ []) c.reserve.ensures.items);
+      logged = pushed c.args.log.now.items c.reserve.new.self.items c.push_reserved.new.self.items step
+          c.reserve.ensures.items c.push_reserved.ensures.items;
       removal = removal;
       flags = flags;
       block_complex =

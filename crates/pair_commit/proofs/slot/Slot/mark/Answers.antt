@@ -9,7 +9,7 @@ invariant_of-self g c =
     let s = c.self.inside in
     let b = c.args.block.now in
     let kernel = subst (λ o. InKernel (g.F.Scalars.ops o.f) b.rows (matrix_of b) c.args.kernel.now)
-        (sym c.self.view_is) c.requires.kernel in
+    (sym c.self.view_is) c.requires.kernel in
     marked-slot (g.F.Scalars.ops s.f) (g.met.F.Scalars.is_field s.f) s.base s.present s.log.items s.carried.items
     c.self.invariant c.flag.new.self c.args.s c.args.t b c.args.kernel.now
     (record { live = c.flag.ensures.live; blocks = c.flag.ensures.blocks }) (c.if-stands.ensures.0 refl)
