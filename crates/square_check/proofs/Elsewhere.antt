@@ -1,5 +1,5 @@
 -- Squares through none of the faces whose blocks changed.
-use Rattle.std.proofs.Common.{◌≡◌, ◌≢◌, ℕ, zero, suc, Bool, true, false, ◌||◌, ⊎_elim, nat_eq, List, [], ◌∷◌, set}
+use Rattle.std.proofs.Common.{◌≡◌, ℕ, Bool, true, false, ◌||◌, ⊎_elim, nat_eq, List, [], ◌∷◌}
 use Rattle.std.proofs.Common.{slice_get, Option, None, Some, All, refl, sym, ap, ap₂, ◌∙◌, arith}
 use Rattle.std.specs.List.{list_any, filter_map, cons_option}
 use Rattle.std.specs.Option.{option_map, option_and_then}

@@ -6,7 +6,7 @@ use Rattle.cell_complex.specs.Complexes.{CellComplex, joins, middles}
 use Rattle.dense_blocks.specs.Field.{Ops}
 use Rattle.dense_blocks.specs.Vectors.{AllScalars}
 use Rattle.dense_blocks.specs.declared.block.Block.{Block}
-use Rattle.square_check.specs.Squares.{HaveShapes, through, Commutes}
+use Rattle.square_check.specs.Squares.{HaveShapes, Commutes}
 
 -- a block of scalars for each face, in the order of the faces, from stalk to stalk
 pub record AreRestrictions (K : Ops) (c : CellComplex) (blocks : List Block) : Type 0 where
