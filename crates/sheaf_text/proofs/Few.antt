@@ -19,7 +19,7 @@ use Rattle.sheaf_text.specs.Grammar.{InputValue, Known, refusal, kind_refusal, i
 use Rattle.sheaf_text.specs.Readings.{Reading, Good, RefusedLine, input_value, command_with_set, advance}
 use Rattle.sheaf_text.specs.Readings.{nothing_known, run}
 use Rattle.sheaf_text.specs.Forms.{content_refusal, known_after, set_of, onto_last, into_script, into_last}
-use Rattle.sheaf_text.specs.Forms.{contents}
+use Rattle.sheaf_text.specs.Forms.{reading_at_end, go_on, contents}
 use Rattle.sheaf_text.specs.Answers.{Gives, IsServable, AreServable}
 use Rattle.sheaf_text.specs.declared.fault.LineCause.TheVariants as causes
 use Rattle.sheaf_text.specs.declared.fault.Which.TheVariants as limits

@@ -8,14 +8,13 @@ use Rattle.sheaf_data.specs.Sheaves.{SheafData}
 use Rattle.sheaf_words.specs.declared.query.Command.{Command}
 use Rattle.sheaf_text.specs.Lines.{word, is_skipped, kind_of}
 use Rattle.sheaf_text.specs.Grammar.{Known, refusal, is_ended}
-use Rattle.sheaf_text.specs.Readings.{Reading, Good, RefusedLine, advance, input_value}
+use Rattle.sheaf_text.specs.Readings.{Good, RefusedLine, advance, input_value}
 use Rattle.sheaf_text.specs.Forms.{reading_at_end, go_on, content_refusal, known_after}
 use Rattle.sheaf_text.specs.Answers.{GivesFault}
 use Rattle.sheaf_text.specs.Parts.{IsClosed, IsDraftOf}
 use Rattle.sheaf_text.specs.State.{known_by, AreAtStage, IsSoundState, IsReady, IsFound, TakesKind, TakesLine}
 use Rattle.sheaf_text.specs.State.{RefusesLine}
 use Rattle.sheaf_text.specs.declared.fault.Refusal.{Refusal}
-use Rattle.sheaf_text.specs.declared.fault.Refusal.TheVariants.{Bad, Over}
 use Rattle.sheaf_text.specs.declared.fault.TextFault.{TextFault}
 use Rattle.sheaf_text.specs.declared.line.Kind.{Kind}
 use Rattle.sheaf_text.specs.declared.line.Stage.{Stage}

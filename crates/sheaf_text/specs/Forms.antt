@@ -1,5 +1,5 @@
 -- Parts of the grammar and of the reading, as the reader's functions and the proofs name them.
-use Rattle.std.specs.Prelude.{◌≡◌, ◌<◌, ◌*◌, ℕ, Bool, true, false, List, [], ◌∷◌, ◌++◌, drop, length, map, not}
+use Rattle.std.specs.Prelude.{◌≡◌, ◌<◌, ◌*◌, ◌+◌, ℕ, Bool, true, false, List, [], ◌∷◌, ◌++◌, drop, length, map, not}
 use Rattle.std.specs.Prelude.{Option, Some, None, is_some, ◌==◌, ◌||◌, nat_le, nat_lt}
 use Rattle.std.specs.Prelude.{slice_index, if◌then◌else◌, codes}
 use Rattle.std.specs.List.{list_all, list_any}

@@ -2,7 +2,6 @@
 use Rattle.std.specs.Prelude.{◌≡◌, ℕ, List, [], ◌∷◌, ◌++◌, true, None, map, drop, length, sum}
 use Rattle.cell_complex.specs.Invariants.{AreCells}
 use Rattle.cell_complex.specs.Verdicts.{face_fault}
-use Rattle.dense_blocks.specs.declared.block.Block.{Block}
 use Rattle.field_table.specs.Table.{order_of, ops_of}
 use Rattle.field_table.specs.declared.field.Field.{Field}
 use Rattle.sheaf_data.specs.Sheaves.{SheafData}
