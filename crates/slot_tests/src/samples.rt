@@ -97,30 +97,18 @@ pub(crate) fn tried(
     }
 }
 
-/// What becomes of a footprint of scalars of the field.
-pub(crate) fn finished(
-    rt: &impl Abort,
-    alloc: Global,
-    f: Field,
-    foot: Footprint,
-) -> Result<Finish<Field>, NoMemory> {
-    assert!(rt; foot.is_over(&f));
-    match foot.finish(alloc, &f) {
-        Ok(finish) => Ok(finish),
-        Err((_, fault)) => Err(fault),
-    }
-}
-
-/// The record of a footprint whose pivot has an inverse.
+/// The record of a footprint of scalars of the field whose pivot has an inverse.
 pub(crate) fn record(
     rt: &impl Abort,
     alloc: Global,
     f: Field,
     foot: Footprint,
 ) -> Result<Record<Field>, NoMemory> {
-    match finished(rt, alloc, f, foot)? {
-        Finish::Made(record) => Ok(record),
-        Finish::Singular { .. } => panic!(rt; "no inverse"),
+    assert!(rt; foot.is_over(&f));
+    match foot.finish(alloc, &f) {
+        Ok(Finish::Made(record)) => Ok(record),
+        Ok(Finish::Singular { .. }) => panic!(rt; "no inverse"),
+        Err((_, fault)) => Err(fault),
     }
 }
 
@@ -142,7 +130,11 @@ pub(crate) fn commit_next(
 ) -> Result<(u32, u32, u8), NoMemory> {
     let foot = tried(rt, slot, (0, 0))?;
     let record = record(rt, alloc, slot.field(), foot)?;
-    let pair = (record.foot.x, record.foot.y, first_entry(rt, &record.foot.pivot));
+    let pair = (
+        record.foot.x,
+        record.foot.y,
+        first_entry(rt, &record.foot.pivot),
+    );
     assert!(rt; commit(rt, slot, record).is_ok());
     Ok(pair)
 }

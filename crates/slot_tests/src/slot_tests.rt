@@ -1,7 +1,7 @@
 //! Reductions of the circle by slots, and a block without inverse, worked by hand.
 use crate::samples::{
-    carried_over, cells, circle, commit, commit_carried, commit_next, finished, is_finished, put,
-    record, slot, tried,
+    carried_over, cells, circle, commit, commit_carried, commit_next, is_finished, put, record,
+    slot, tried,
 };
 use field_table::Field;
 use pair_commit::{CommitFault, Slot, Work};
@@ -78,18 +78,41 @@ fn one_block(rt: &impl Abort, alloc: Global, entries: &[u8]) -> Result<Slot<Fiel
     slot(rt, alloc, Field::Two, base)
 }
 
+/// Marks the pivot that is to be tried next, which has no inverse, in its own slot and in another over the same field.
+fn mark_both(
+    rt: &impl Abort,
+    alloc: Global,
+    slot: &mut Slot<Field>,
+    other: &mut Slot<Field>,
+) -> Result<(Result<(), Differs>, Result<(), Differs>), NoMemory> {
+    let foot = tried(rt, slot, (0, 0))?;
+    let f = slot.field();
+    assert!(rt; foot.is_over(&f) && other.field() == f);
+    match foot.finish(alloc, &f) {
+        Ok(
+            Finish::Singular {
+                x,
+                y,
+                pivot,
+                kernel,
+            },
+        ) => Ok((
+            slot.mark(x, y, &pivot, &kernel),
+            other.mark(x, y, &pivot, &kernel),
+        )),
+        Ok(Finish::Made(_)) => panic!(rt; "an inverse"),
+        Err((_, fault)) => Err(fault),
+    }
+}
+
 #[test]
 fn marks_a_block_without_inverse(rt: HostRuntime) -> Result<(), NoMemory> {
     let alloc = rt.alloc();
     let mut slot = one_block(&rt, alloc, &[1, 1, 1, 1])?;
     let mut other = one_block(&rt, alloc, &[1, 0, 0, 1])?;
-    let foot = tried(&rt, &mut slot, (0, 0))?;
-    let Finish::Singular { x, y, pivot, kernel } = finished(&rt, alloc, Field::Two, foot)? else {
-        panic!(rt; "an inverse")
-    };
-    assert!(rt; slot.mark(x, y, &pivot, &kernel).is_ok());
+    let marked = mark_both(&rt, alloc, &mut slot, &mut other)?;
+    assert!(rt; marked == (Ok(()), Err(Differs { s: 0, t: 1 })));
     assert!(rt; is_finished(&mut slot)? && slot.now().has_flag(0, 1));
-    assert!(rt; other.mark(x, y, &pivot, &kernel) == Err(Differs { s: 0, t: 1 }));
     assert!(rt; !is_finished(&mut other)?);
     Ok(())
 }

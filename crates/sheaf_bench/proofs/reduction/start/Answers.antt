@@ -8,8 +8,8 @@ use Rattle.block_sparse.specs.StoredBlocks.{complex_in}
 use Rattle.coboundary.specs.Start.{start_complex}
 use Rattle.sheaf_bench.proofs.reduction.start.Goals as goal
 
-pub returns : goal.returns
-returns c =
+pub returns-clause-over : goal.returns-clause-over
+returns-clause-over c =
     let s = c.args.sheaf.now in
     let K = ops_of s.field in
     same-block_complex K (start_complex K s.complex s.stalks s.blocks) (complex_in c.in_ok-blocks.blocks)
