@@ -59,7 +59,7 @@ pub enum Which {
 
 /// Why a line is refused.
 #[derive(Clone, Copy, Debug, PartialEq, Eq)]
-pub(crate) enum Refusal {
+pub enum Refusal {
     /// Something is wrong with it.
     Bad(LineCause),
     /// It asks for too much.

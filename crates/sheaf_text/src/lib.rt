@@ -21,6 +21,6 @@ mod scripts;
 mod state;
 mod words;
 
-pub use fault::{LineCause, TextFault, Which};
+pub use fault::{LineCause, Refusal, TextFault, Which};
 pub use input::Input;
 pub use reader::{MOST_BYTES, read};
