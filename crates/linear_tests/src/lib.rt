@@ -8,4 +8,6 @@ mod cochains;
 #[cfg(test)]
 mod fields;
 #[cfg(test)]
+mod kernels;
+#[cfg(test)]
 mod solutions;
