@@ -116,12 +116,14 @@ fn mark_both(
     let f = slot.field();
     assert!(rt; foot.is_over(&f) && other.field() == f);
     match foot.finish(alloc, &f) {
-        Ok(Finish::Singular {
-            x,
-            y,
-            pivot,
-            kernel,
-        }) => Ok([
+        Ok(
+            Finish::Singular {
+                x,
+                y,
+                pivot,
+                kernel,
+            },
+        ) => Ok([
             slot.mark(x, y, &pivot, &kernel),
             other.mark(x, y, &pivot, &kernel),
         ]),
