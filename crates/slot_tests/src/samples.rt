@@ -85,20 +85,21 @@ pub(crate) fn carried_over(
     Slot::start(alloc, f, base, kept)
 }
 
-/// The footprint that is to be tried.
-pub(crate) fn tried(
+/// The record of the footprint that is to be tried next from the pair on, whose pivot has an inverse.
+pub(crate) fn next_record(
     rt: &impl Abort,
+    alloc: Global,
     slot: &mut Slot<Field>,
     from: (u32, u32),
-) -> Result<Footprint, NoMemory> {
+) -> Result<Record<Field>, NoMemory> {
     match slot.take(from)? {
-        Work::Try(foot) => Ok(foot),
+        Work::Try(foot) => record(rt, alloc, slot.field(), foot),
         _ => panic!(rt; "nothing to be tried"),
     }
 }
 
-/// The record of a footprint of scalars of the field whose pivot has an inverse.
-pub(crate) fn record(
+/// The record of a footprint of scalars of the field.
+fn record(
     rt: &impl Abort,
     alloc: Global,
     f: Field,
@@ -106,9 +107,15 @@ pub(crate) fn record(
 ) -> Result<Record<Field>, NoMemory> {
     assert!(rt; foot.is_over(&f));
     match foot.finish(alloc, &f) {
-        Ok(Finish::Made(record)) => Ok(record),
-        Ok(Finish::Singular { .. }) => panic!(rt; "no inverse"),
+        Ok(finish) => Ok(made(rt, finish)),
         Err((_, fault)) => Err(fault),
+    }
+}
+
+fn made(rt: &impl Abort, finish: Finish<Field>) -> Record<Field> {
+    match finish {
+        Finish::Made(record) => record,
+        Finish::Singular { .. } => panic!(rt; "no inverse"),
     }
 }
 
@@ -122,44 +129,40 @@ pub(crate) fn commit(
     slot.commit(record)
 }
 
-/// Commits the pair that is to be tried next, and gives it with its pivot.
+/// Commits the pair that is to be tried next: its cells, and the inverse of its pivot, which has one entry.
 pub(crate) fn commit_next(
     rt: &impl Abort,
     alloc: Global,
     slot: &mut Slot<Field>,
 ) -> Result<(u32, u32, u8), NoMemory> {
-    let foot = tried(rt, slot, (0, 0))?;
-    let record = record(rt, alloc, slot.field(), foot)?;
-    let pair = (
-        record.foot.x,
-        record.foot.y,
-        first_entry(rt, &record.foot.pivot),
-    );
-    assert!(rt; commit(rt, slot, record).is_ok());
-    Ok(pair)
+    let record = next_record(rt, alloc, slot, (0, 0))?;
+    Ok(committed(rt, slot, record))
 }
 
-/// Commits the carried pair that is given next, and gives it with the inverse of its pivot.
+/// Commits the carried pair that is given next: its cells, and the inverse of its pivot, which has one entry.
 pub(crate) fn commit_carried(
     rt: &impl Abort,
     alloc: Global,
     slot: &mut Slot<Field>,
 ) -> Result<(u32, u32, u8), NoMemory> {
-    let Work::Carried(foot, inverse) = slot.take((0, 0))? else {
-        panic!(rt; "not carried")
-    };
-    let pair = (foot.x, foot.y, first_entry(rt, &inverse));
-    match foot.finish_with(alloc, &slot.field(), inverse) {
-        Ok(record) => {
-            assert!(rt; commit(rt, slot, record).is_ok());
-            Ok(pair)
-        }
-        Err((_, _, fault)) => Err(fault),
+    match slot.take((0, 0))? {
+        Work::Carried(foot, inverse) => match foot.finish_with(alloc, &slot.field(), inverse) {
+            Ok(record) => Ok(committed(rt, slot, record)),
+            Err((_, _, fault)) => Err(fault),
+        },
+        _ => panic!(rt; "not carried"),
     }
 }
 
+/// Commits a record that fits: its cells, and the inverse of its pivot, which has one entry.
+fn committed(rt: &impl Abort, slot: &mut Slot<Field>, record: Record<Field>) -> (u32, u32, u8) {
+    let is = (record.foot.x, record.foot.y, entry(rt, &record.inverse));
+    assert!(rt; commit(rt, slot, record).is_ok());
+    is
+}
+
 /// The first entry of a block that has one.
-fn first_entry(rt: &impl Abort, b: &Block) -> u8 {
+fn entry(rt: &impl Abort, b: &Block) -> u8 {
     match b.entries.as_slice() {
         [entry, ..] => *entry,
         [] => panic!(rt; "no entry"),

@@ -1,39 +1,66 @@
 //! Reductions of the circle by slots, and a block without inverse, worked by hand.
 use crate::samples::{
-    carried_over, cells, circle, commit, commit_carried, commit_next, is_finished, put, record,
-    slot, tried,
+    carried_over, cells, circle, commit, commit_carried, commit_next, is_finished, next_record,
+    put, slot,
 };
 use field_table::Field;
 use pair_commit::{CommitFault, Slot, Work};
-use reduce_step::{Differs, Finish};
+use reduce_step::{Differs, Finish, Footprint, Record};
 use std::alloc::{AllocError as NoMemory, Global};
 use std::process::Abort;
 
-/// The footprint of (1, 4) is taken before the removal of (0, 3), which makes a block from 1 to 5.
+/// The slot of the circle over the field of two elements.
+fn over_two(rt: &impl Abort, alloc: Global) -> Result<Slot<Field>, NoMemory> {
+    let base = circle(rt, alloc, &[1, 1, 1, 1, 1, 1])?;
+    slot(rt, alloc, Field::Two, base)
+}
+
+/// The records of (0, 3) and of (1, 4), both made before any commit.
+fn first_two(
+    rt: &impl Abort,
+    alloc: Global,
+    slot: &mut Slot<Field>,
+) -> Result<(Record<Field>, Record<Field>), NoMemory> {
+    let first = next_record(rt, alloc, slot, (0, 0))?;
+    let second = next_record(rt, alloc, slot, (1, 4))?;
+    Ok((first, second))
+}
+
+/// Whether the footprint is one of (x, y) with these cells on the left and below.
+fn is_of(foot: &Footprint, pair: (u32, u32), left: &[(u32, u8)], below: &[(u32, u8)]) -> bool {
+    foot.x == pair.0
+        && foot.y == pair.1
+        && foot.left.as_slice() == left
+        && foot.below.as_slice() == below
+}
+
+/// The removal of (0, 3) takes 3 away, and makes a block from 1 to 5.
+fn commit_both(
+    rt: &impl Abort,
+    slot: &mut Slot<Field>,
+    first: Record<Field>,
+    second: Record<Field>,
+) {
+    assert!(rt; is_of(&first.foot, (0, 3), &[(1, 1)], &[(5, 1)]));
+    assert!(rt; is_of(&second.foot, (1, 4), &[(2, 1)], &[(3, 1)]));
+    assert!(rt; commit(rt, slot, first).is_ok());
+    assert!(rt; commit(rt, slot, second) == Err(CommitFault::Stale { s: 1, t: 3 }));
+}
+
 #[test]
 fn commits_what_still_fits(rt: HostRuntime) -> Result<(), NoMemory> {
-    let alloc = rt.alloc();
-    let base = circle(&rt, alloc, &[1, 1, 1, 1, 1, 1])?;
-    let mut slot = slot(&rt, alloc, Field::Two, base)?;
-    let first = tried(&rt, &mut slot, (0, 0))?;
-    let second = tried(&rt, &mut slot, (1, 4))?;
-    assert!(rt; first.x == 0 && first.y == 3 && second.x == 1 && second.y == 4);
-    assert!(rt; second.left.as_slice() == [(2, 1)].as_slice());
-    assert!(rt; second.below.as_slice() == [(3, 1)].as_slice());
-    let first = record(&rt, alloc, Field::Two, first)?;
-    let second = record(&rt, alloc, Field::Two, second)?;
-    assert!(rt; commit(&rt, &mut slot, first).is_ok());
-    assert!(rt; commit(&rt, &mut slot, second) == Err(CommitFault::Stale { s: 1, t: 3 }));
-    let third = tried(&rt, &mut slot, (1, 4))?;
-    assert!(rt; third.below.as_slice() == [(5, 1)].as_slice());
-    let third = record(&rt, alloc, Field::Two, third)?;
+    let mut slot = over_two(&rt, rt.alloc())?;
+    let (first, second) = first_two(&rt, rt.alloc(), &mut slot)?;
+    commit_both(&rt, &mut slot, first, second);
+    let third = next_record(&rt, rt.alloc(), &mut slot, (1, 4))?;
+    assert!(rt; is_of(&third.foot, (1, 4), &[(2, 1)], &[(5, 1)]));
     assert!(rt; commit(&rt, &mut slot, third).is_ok());
     assert!(rt; is_finished(&mut slot)? && slot.irreducible());
     assert!(rt; slot.now().live() == [(2, 0, 1), (5, 1, 1)].as_slice());
     Ok(())
 }
 
-/// Two removals of the circle over the field of three elements, where minus is 2.
+/// The slot of the circle over the field of three elements, where minus is 2, after two removals.
 fn two_removals(rt: &impl Abort, alloc: Global) -> Result<Slot<Field>, NoMemory> {
     let base = circle(rt, alloc, &[2, 1, 2, 1, 2, 1])?;
     let mut slot = slot(rt, alloc, Field::Three, base)?;
@@ -42,32 +69,32 @@ fn two_removals(rt: &impl Abort, alloc: Global) -> Result<Slot<Field>, NoMemory>
     Ok(slot)
 }
 
-/// From 2 to 5 goes 2 here: the two pairs are removed with the inverses that were kept, and 2 - 2 * 2 * 1 = 1 is left.
+/// The slot of a circle with these entries, with what was inverted in these two removals carried over.
+fn carried(rt: &impl Abort, alloc: Global, entries: &[u8; 6]) -> Result<Slot<Field>, NoMemory> {
+    let before = two_removals(rt, alloc)?;
+    let base = circle(rt, alloc, entries)?;
+    carried_over(rt, alloc, &before, base)
+}
+
+/// From 2 to 5 goes 2 here: both pairs are removed with the inverses that were kept, and 2 - 2 * 2 * 1 = 1 is left.
 #[test]
 fn carries_inverses_over(rt: HostRuntime) -> Result<(), NoMemory> {
-    let alloc = rt.alloc();
-    let before = two_removals(&rt, alloc)?;
-    let base = circle(&rt, alloc, &[2, 1, 2, 1, 2, 2])?;
-    let mut slot = carried_over(&rt, alloc, &before, base)?;
-    assert!(rt; commit_carried(&rt, alloc, &mut slot)? == (0, 3, 2));
-    let mut twin = slot.copy(alloc)?;
-    assert!(rt; commit_carried(&rt, alloc, &mut twin)? == (1, 4, 2));
-    assert!(rt; twin.base().live().len() == 6 && twin.log().len() == 2);
-    assert!(rt; commit_next(&rt, alloc, &mut twin)? == (2, 5, 1));
+    let mut slot = carried(&rt, rt.alloc(), &[2, 1, 2, 1, 2, 2])?;
+    assert!(rt; commit_carried(&rt, rt.alloc(), &mut slot)? == (0, 3, 2));
+    let mut twin = slot.copy(rt.alloc())?;
+    assert!(rt; commit_carried(&rt, rt.alloc(), &mut twin)? == (1, 4, 2));
+    assert!(rt; commit_next(&rt, rt.alloc(), &mut twin)? == (2, 5, 1));
     assert!(rt; is_finished(&mut twin)? && twin.now().live().is_empty());
-    assert!(rt; slot.now().live().len() == 4 && slot.log().len() == 1);
+    assert!(rt; twin.log().len() == 3 && slot.log().len() == 1);
     Ok(())
 }
 
 /// From 0 to 3 goes 1 here, and not 2: the first pivot does not stand.
 #[test]
 fn drops_what_does_not_stand(rt: HostRuntime) -> Result<(), NoMemory> {
-    let alloc = rt.alloc();
-    let before = two_removals(&rt, alloc)?;
-    let base = circle(&rt, alloc, &[1, 1, 2, 1, 2, 1])?;
-    let mut slot = carried_over(&rt, alloc, &before, base)?;
+    let mut slot = carried(&rt, rt.alloc(), &[1, 1, 2, 1, 2, 1])?;
     assert!(rt; matches!(slot.take((0, 0))?, Work::Dropped { x: 0, y: 3 }));
-    assert!(rt; commit_carried(&rt, alloc, &mut slot)? == (1, 4, 2));
+    assert!(rt; commit_carried(&rt, rt.alloc(), &mut slot)? == (1, 4, 2));
     Ok(())
 }
 
@@ -78,14 +105,14 @@ fn one_block(rt: &impl Abort, alloc: Global, entries: &[u8]) -> Result<Slot<Fiel
     slot(rt, alloc, Field::Two, base)
 }
 
-/// Marks the pivot that is to be tried next, which has no inverse, in its own slot and in another over the same field.
+/// Marks the pivot of a footprint, which has no inverse, in two slots over one field.
 fn mark_both(
     rt: &impl Abort,
     alloc: Global,
+    foot: Footprint,
     slot: &mut Slot<Field>,
     other: &mut Slot<Field>,
-) -> Result<(Result<(), Differs>, Result<(), Differs>), NoMemory> {
-    let foot = tried(rt, slot, (0, 0))?;
+) -> Result<[Result<(), Differs>; 2], NoMemory> {
     let f = slot.field();
     assert!(rt; foot.is_over(&f) && other.field() == f);
     match foot.finish(alloc, &f) {
@@ -96,10 +123,10 @@ fn mark_both(
                 pivot,
                 kernel,
             },
-        ) => Ok((
+        ) => Ok([
             slot.mark(x, y, &pivot, &kernel),
             other.mark(x, y, &pivot, &kernel),
-        )),
+        ]),
         Ok(Finish::Made(_)) => panic!(rt; "an inverse"),
         Err((_, fault)) => Err(fault),
     }
@@ -107,11 +134,13 @@ fn mark_both(
 
 #[test]
 fn marks_a_block_without_inverse(rt: HostRuntime) -> Result<(), NoMemory> {
-    let alloc = rt.alloc();
-    let mut slot = one_block(&rt, alloc, &[1, 1, 1, 1])?;
-    let mut other = one_block(&rt, alloc, &[1, 0, 0, 1])?;
-    let marked = mark_both(&rt, alloc, &mut slot, &mut other)?;
-    assert!(rt; marked == (Ok(()), Err(Differs { s: 0, t: 1 })));
+    let mut slot = one_block(&rt, rt.alloc(), &[1, 1, 1, 1])?;
+    let mut other = one_block(&rt, rt.alloc(), &[1, 0, 0, 1])?;
+    let Work::Try(foot) = slot.take((0, 0))? else {
+        panic!(rt; "nothing to be tried")
+    };
+    let marks = mark_both(&rt, rt.alloc(), foot, &mut slot, &mut other)?;
+    assert!(rt; marks == [Ok(()), Err(Differs { s: 0, t: 1 })]);
     assert!(rt; is_finished(&mut slot)? && slot.now().has_flag(0, 1));
     assert!(rt; !is_finished(&mut other)?);
     Ok(())
