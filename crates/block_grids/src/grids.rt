@@ -7,6 +7,7 @@ ghost use Rattle.block_sparse.specs.Grids.{width, window, AreSized, IsJoined, Is
 ghost use Rattle.block_grids.specs.Joined.{AreShaped, grid_block, corner_row, joined_row, joined_rows, joined_entries};
 ghost use Rattle.block_grids.specs.Joined.{HaveRow, IsSamePart};
 
+use crate::entries::{count_same_entries, push_entries};
 use block_rows::{Row, ScalarBlocks};
 use block_sparse::{Blocks, is_same_at, is_zero_at};
 use dense_blocks::{Block, Entries};
@@ -133,6 +134,24 @@ fn push_row(
     requires row { HaveRow line.now k left.now }
     ensures { OnOk result (entries.new ≡ entries.old ++ joined_row line.now left.now k) }
 {
+    match line.entries() {
+        Some(row) => push_entries(entries, row, left),
+        None => push_corners(entries, line, scalars, left, k),
+    }
+}
+
+/// The same for blocks of any size.
+fn push_corners(
+    entries: &mut Entries,
+    line: &Row,
+    scalars: &ScalarBlocks,
+    left: &[(u32, u8)],
+    k: u32,
+) -> Result<(), NoMemory>
+    requires rising { IsRising (keys left.now) }
+    requires row { HaveRow line.now k left.now }
+    ensures { OnOk result (entries.new ≡ entries.old ++ joined_row line.now left.now k) }
+{
     let cells = line.cells();
     let mut at = 0;
     for cell in left {
@@ -160,6 +179,31 @@ fn push_corner(
 
 /// How many of the first listed cells, one after another, have the parts of some rows of a matrix in a row of blocks.
 fn count_same(
+    line: &Row,
+    scalars: &ScalarBlocks,
+    left: &[(u32, u8)],
+    end: usize,
+    joined: &Block,
+    row: u32,
+    height: u8,
+) -> usize
+    requires rising { IsRising (keys left.now) }
+    requires shaped { AreShaped line.now height left.now }
+    requires within { end ≤ length left.now }
+    requires rows { row + height ≤ joined.now.rows }
+    requires cols { width left.now ≤ joined.now.cols }
+    ensures within { result ≤ end }
+    ensures same { (i : ℕ) → i < result → IsSamePart line.now left.now (matrix_of joined.now) row height i }
+    ensures other { result < end → IsSamePart line.now left.now (matrix_of joined.now) row height result → ⊥ }
+{
+    match line.entries() {
+        Some(entries) => count_same_entries(entries, left, end, joined, row, height),
+        None => count_same_corners(line, scalars, left, end, joined, row, height),
+    }
+}
+
+/// The same for blocks of any size.
+fn count_same_corners(
     line: &Row,
     scalars: &ScalarBlocks,
     left: &[(u32, u8)],
@@ -220,7 +264,7 @@ fn is_corner(
 }
 
 /// The first place from `at` on whose cell is not below `c`.
-fn place_from(cells: &[u32], at: usize, c: u32) -> usize
+pub(crate) fn place_from(cells: &[u32], at: usize, c: u32) -> usize
     requires { at ≤ length cells.now }
     ensures within { result ≤ length cells.now }
     ensures passed { (i : ℕ) → at ≤ i → i < result → slice_index cells.now i < c }

@@ -40,6 +40,13 @@ pub entry-row : (entries : ByCell ℕ) (larger : ByCell Block) (q : ℕ)
     → entry (row_of entries larger) q ≡ option_map (block_or larger q) (entry entries q)
 entry-row entries larger q = look-blocks q entries.cells entries.values larger
 
+-- the block at a cell where no larger ones stand
+pub entry-scalars : (entries : ByCell ℕ) (larger : ByCell Block) (q : ℕ) → larger.cells ≡ []
+    → entry (row_of entries larger) q ≡ option_map scalar_block (entry entries q)
+entry-scalars entries larger q none =
+    entry-row entries larger q
+    ∙ ap (λ cs. option_map (λ e. unwrap_or (look q cs larger.values) (scalar_block e)) (entry entries q)) none
+
 pub look-map : {A B : Type 0} (f : A → B) (q : ℕ) (cs : List ℕ) (vs : List A)
     → look q cs (map f vs) ≡ option_map f (look q cs vs)
 look-map f q [] vs = refl

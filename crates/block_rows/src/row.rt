@@ -1,5 +1,5 @@
 ghost use Rattle.std.specs.Prelude.{◌≡◌, ◌==◌, ◌<◌, ℕ, [], None, Some, if◌then◌else◌, length, map, replicate, slice_index};
-ghost use Rattle.std.specs.Prelude.{option_copied, option_map, IfOk};
+ghost use Rattle.std.specs.Prelude.{option_copied, option_map, IfOk, IfSome};
 ghost use Rattle.rising_lists.specs.Rising.{IsRising, IsLine, has, keys, entry, entry_after};
 ghost use Rattle.block_rows.specs.BlockRows.{block_or, scalar_block};
 
@@ -66,6 +66,17 @@ impl Row {
         let cells = self.entries.cells();
         let entries = self.entries.values();
         larger_or(&self.larger, scalars, cells[at], entries[at])
+    }
+
+    /// The entries by cell, where no larger block stands beside them.
+    pub fn entries(&self) -> Option<&Line<u8>>
+        ensures { IfSome result (λ l. (q : ℕ) → entry self.now q ≡ option_map scalar_block (entry l.now q)) }
+    {
+        if self.larger.cells().is_empty() {
+            Some(&self.entries)
+        } else {
+            None
+        }
     }
 
     /// Takes a cell out with its block, where it is in.

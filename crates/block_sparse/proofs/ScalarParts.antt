@@ -1,11 +1,13 @@
 -- The parts of a row of a matrix at cells of size 1.
 use Rattle.std.proofs.Common.{◌≡◌, ℕ, zero, suc, ◌<◌, ◌≤◌, ◌+◌, Bool, true, false, ◌&&◌, cond, refl, sym, ap, ap₂, ◌∙◌}
 use Rattle.std.proofs.Common.{subst, arith, List, [], ◌∷◌, length, map, take, drop, get_or, Option, None, Some, All, eqb}
-use Rattle.std.proofs.Common.{drop-cons, length-append}
+use Rattle.std.proofs.Common.{drop-cons, length-append, inl, inr}
+use Rattle.std.proofs.lemmas.Bool.{cases_eq, eq-eqb, ne_eqb}
 use Rattle.std.proofs.lemmas.List.{get_or-take, get_or-map, length-map, length-take-le}
 use Rattle.std.specs.Option.{option_map}
 use Rattle.dense_blocks.specs.declared.block.Block.{Block}
 use Rattle.block_rows.specs.BlockRows.{scalar_block}
+use Rattle.block_sparse.specs.StoredBlocks.{is_zero}
 use Rattle.block_sparse.specs.Fresh.{nonzero_entry}
 use Rattle.block_sparse.specs.Grids.{width, window, IsPart}
 
@@ -16,11 +18,37 @@ scalar-width [] h (suc i) l = absurd (omega arith)
 scalar-width (x ∷ xs) h (suc i) l =
     omega (arith, h 0 (0, 0) (omega arith), scalar-width xs (λ j d m. h (suc j) d (omega arith)) i (omega arith))
 
-scalar-window : (A : List (List ℕ)) (row i : ℕ) → row < length A → i < length (get_or A row [])
+pub scalar-window : (A : List (List ℕ)) (row i : ℕ) → row < length A → i < length (get_or A row [])
     → window row 1 i 1 A ≡ (get_or (get_or A row []) i 0 ∷ []) ∷ []
 scalar-window A row i l m =
     ap (λ rows. map (λ r. take 1 (drop i r)) (take 1 rows)) (drop-cons A row [] l)
     ∙ ap (λ r. take 1 r ∷ []) (drop-cons (get_or A row []) i 0 m)
+
+-- a part of one entry is zero where that is 0
+pub scalar-zero : (A : List (List ℕ)) (row col h w : ℕ) → h ≡ 1 → w ≡ 1 → row < length A
+    → col < length (get_or A row []) → is_zero (window row h col w A) ≡ eqb (get_or (get_or A row []) col 0) 0
+scalar-zero A row col h w one_row one_col l m =
+    ap is_zero (ap₂ (λ m n. window row m col n A) one_row one_col ∙ scalar-window A row col l m)
+    ∙ go (eqb (get_or (get_or A row []) col 0) 0)
+  where
+    go : (b : Bool) → ((b && true) && true) ≡ b
+    go true = refl
+    go false = refl
+
+-- a part of one entry is that entry
+pub scalar-same : (A : List (List ℕ)) (row col h w r e : ℕ) → r ≡ get_or (get_or A row []) col 0 → h ≡ 1 → w ≡ 1
+    → row < length A → col < length (get_or A row [])
+    → (eqb r e ≡ true → window row h col w A ≡ (e ∷ []) ∷ []) × (window row h col w A ≡ (e ∷ []) ∷ [] → eqb r e ≡ true)
+scalar-same A row col h w r e is one_row one_col l m =
+    let part : window row h col w A ≡ (r ∷ []) ∷ [] =
+    ap₂ (λ m n. window row m col n A) one_row one_col ∙ scalar-window A row col l m
+    ∙ ap (λ x. (x ∷ []) ∷ []) (sym is) in (
+      λ t. part ∙ ap (λ x. (x ∷ []) ∷ []) (elim (cases_eq r e) [
+        | inl same ↦ same
+        | inr other ↦ absurd (let f : false ≡ true = sym (ne_eqb r e other) ∙ t in cc)
+      ]),
+      λ s. eq-eqb r e (ap (λ M. get_or (get_or M 0 []) 0 0) (sym part ∙ s)),
+    )
 
 scalar-part : (e : ℕ) → IsPart (option_map scalar_block (nonzero_entry e)) 1 1 ((e ∷ []) ∷ [])
 scalar-part e = go (eqb e 0) refl

@@ -28,8 +28,31 @@ fn row_part(joined: &Block, i: u32, col: u32, width: u8) -> &[u8]
     &joined.row(i)[start..start + width as usize]
 }
 
+/// The entry of a matrix in a row and a column.
+pub fn scalar_at(joined: &Block, row: u32, col: u32) -> u8
+    requires row { row < joined.now.rows }
+    requires col { col < joined.now.cols }
+    ensures value { result ≡ slice_index_or (slice_index_or (matrix_of joined.now) row []) col 0 }
+    ensures size { length (slice_index_or (matrix_of joined.now) row []) ≡ joined.now.cols }
+{
+    joined.row(row)[col as usize]
+}
+
 /// Whether a part of a matrix is zero: `height` rows from `row` on, and of each `width` entries from `col` on.
 pub fn is_zero_at(joined: &Block, row: u32, height: u8, col: u32, width: u8) -> bool
+    requires rows { row + height ≤ joined.now.rows }
+    requires cols { col + width ≤ joined.now.cols }
+    ensures { result ≡ is_zero (window row height col width (matrix_of joined.now)) }
+{
+    if height == 1 && width == 1 {
+        scalar_at(joined, row, col) == 0
+    } else {
+        are_zero_rows(joined, row, height, col, width)
+    }
+}
+
+/// The same for parts of any shape.
+fn are_zero_rows(joined: &Block, row: u32, height: u8, col: u32, width: u8) -> bool
     requires rows { row + height ≤ joined.now.rows }
     requires cols { col + width ≤ joined.now.cols }
     ensures { result ≡ is_zero (window row height col width (matrix_of joined.now)) }
