@@ -1,13 +1,13 @@
 -- The blocks of a row by cell.
-use Rattle.std.proofs.Common.{◌≡◌, ℕ, zero, suc, ◌<◌, Bool, true, false, cond, refl, sym, ap, ◌∙◌, ap₂, inl, inr, List, []}
-use Rattle.std.proofs.Common.{◌∷◌, length, get_or, map, replicate, Option, Some, None, eqb, arith, ◌⊎◌, ◌||◌, ◌+◌, ◌++◌}
+use Rattle.std.proofs.Common.{◌≡◌, ℕ, zero, suc, Bool, true, false, cond, refl, sym, ap, ◌∙◌, ap₂, inl, inr, List, []}
+use Rattle.std.proofs.Common.{◌∷◌, length, map, replicate, Option, Some, None, eqb, arith, ◌⊎◌, ◌||◌, ◌+◌, ◌++◌}
 use Rattle.std.proofs.Common.{length-append}
 use Rattle.std.proofs.lemmas.List.{get_or_push, get_or_append_left}
 use Rattle.std.specs.Option.{unwrap_or, option_map, is_some}
 use Rattle.std.proofs.lemmas.Bool.{eq-eqb, ne_eqb, cases_eq, cases_lt}
 use Rattle.dense_blocks.specs.declared.block.Block.{Block}
 use Rattle.rising_lists.specs.Rising.{ByCell, IsLine, has, look, entry, entry_after}
-use Rattle.rising_lists.proofs.Keyed.{is_some-look, look-at}
+use Rattle.rising_lists.proofs.Keyed.{is_some-look}
 use Rattle.block_rows.specs.BlockRows.{AreScalarBlocks, scalar_block, block_or, blocks_of, row_of}
 
 pub blocks-count : (cs es : List ℕ) (larger : ByCell Block) → length es ≡ length cs → length (blocks_of cs es larger)

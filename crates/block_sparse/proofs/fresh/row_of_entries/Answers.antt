@@ -1,6 +1,5 @@
-use Rattle.std.proofs.Common.{◌≡◌, ◌≤◌, ◌<◌, ℕ, ap, ◌∙◌, sym, subst, length, map, take, get_or, [], arith}
+use Rattle.std.proofs.Common.{◌≤◌, ◌<◌, ap, ◌∙◌, length, map, get_or, [], arith}
 use Rattle.std.specs.Option.{option_map}
-use Rattle.std.proofs.lemmas.List.{length-map}
 use Rattle.dense_blocks.specs.Blocks.{matrix_of}
 use Rattle.dense_blocks.proofs.BlockLaws.{block-size}
 use Rattle.block_rows.specs.BlockRows.{scalar_block}
