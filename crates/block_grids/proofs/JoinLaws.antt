@@ -21,7 +21,9 @@ use Rattle.block_complexes.specs.BlockComplexes.{cells, size_of, live_size}
 use Rattle.block_sparse.specs.StoredBlocks.{StoredBlocks, is_zero, matrix, matrix_or, stored_block}
 use Rattle.block_sparse.specs.Grids.{width, segment, part, window, IsJoined, AreSized}
 use Rattle.block_grids.specs.Joined.{grid_block, corner_row, joined_row, joined_rows, joined_entries, AreShaped}
-use Rattle.block_grids.specs.Joined.{HaveRow}
+use Rattle.block_grids.specs.Joined.{HaveRow, scalar_row, entry_row, AreScalars, IsSameScalar, IsSamePart}
+use Rattle.block_rows.specs.BlockRows.{scalar_block}
+use Rattle.std.specs.Option.{option_map}
 use Rattle.block_sparse.specs.Invariants.{IsSound}
 use Rattle.block_sparse.proofs.Windows.{sized-cut, sized-window}
 
@@ -126,6 +128,41 @@ corner_row-size o h w k s l = ap length (corner-row o h w k l)
 pub shaped-row : (line : ByCell Block) (h k : ℕ) (left : List (ℕ × ℕ)) → AreShaped line h left → k < h
     → HaveRow line k left
 shaped-row line h k left s l = λ i d inside b e. let is = s i d inside b e in omega (arith, is.0, l)
+
+-- a row of blocks of one entry each, at the row at k
+corner-scalar : (o : Option ℕ) (w k : ℕ) → ((b : Block) → option_map scalar_block o ≡ Some b → k < b.rows)
+    → corner_row (option_map scalar_block o) w k ≡ scalar_row o w
+corner-scalar None w k h = refl
+corner-scalar (Some e) w k h =
+    let first : 0 ≡ k = omega (arith, h (scalar_block e) refl) in
+    subst (λ i. get_or (matrix_of (scalar_block e)) i [] ≡ e ∷ []) first refl
+
+module _ (line : ByCell Block) (entries : ByCell ℕ)
+    (are : (q : ℕ) → entry line q ≡ option_map scalar_block (entry entries q)) where
+  pub joined-scalars : (left : List (ℕ × ℕ)) (k : ℕ) → HaveRow line k left → joined_row line left k
+      ≡ entry_row entries left
+  joined-scalars [] k h = refl
+  joined-scalars (x ∷ xs) k h =
+      ap₂ (λ a b. a ++ b)
+      (ap (λ o. corner_row o x.1 k) (are x.0)
+      ∙ corner-scalar (entry entries x.0) x.1 k
+      (λ b e. All-head (λ l. (b : Block) → entry line l.0 ≡ Some b → k < b.rows) x xs h b (are x.0 ∙ e)))
+      (joined-scalars xs k (All-tail (λ l. (b : Block) → entry line l.0 ≡ Some b → k < b.rows) x xs h))
+
+  pub scalars-shaped : (h : ℕ) (left : List (ℕ × ℕ)) → AreShaped line h left → AreScalars entries h left
+  scalars-shaped h left shaped = λ i d inside e is.
+      let shape = shaped i d inside (scalar_block e)
+      (are (get_or left i d).0 ∙ ap (option_map scalar_block) is) in
+      (sym shape.0, sym shape.1)
+
+  pub same-scalar : (left : List (ℕ × ℕ)) (A : List (List ℕ)) (row h i : ℕ)
+      → (IsSameScalar entries left A row h i → IsSamePart line left A row h i)
+      × (IsSamePart line left A row h i → IsSameScalar entries left A row h i)
+  same-scalar left A row h i =
+      let x = get_or left i (0, 0) in (
+        λ s. s ∙ ap (λ o. grid_block o h x.1) (sym (are x.0)),
+        λ s. s ∙ ap (λ o. grid_block o h x.1) (are x.0),
+      )
 
 -- the rows of one cell below, as a list of n rows
 abbrev pub rows_list : ByCell Block → List (ℕ × ℕ) → ℕ → List (List ℕ)

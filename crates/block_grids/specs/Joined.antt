@@ -1,10 +1,12 @@
 -- What a joined matrix is made of, row by row.
-use Rattle.std.specs.Prelude.{◌≡◌, ◌<◌, ℕ, zero, suc, List, [], ◌++◌, Option, Some, None, take, slice_index_or, All}
+use Rattle.std.specs.Prelude.{◌≡◌, ◌<◌, ℕ, zero, suc, List, [], ◌∷◌, ◌++◌, Option, Some, None, take, slice_index_or, All}
+use Rattle.std.specs.Prelude.{option_map}
 use Rattle.std.specs.List.{flat_map}
 use Rattle.dense_blocks.specs.Vectors.{zeros}
 use Rattle.dense_blocks.specs.MatrixFacts.{zero_matrix}
 use Rattle.dense_blocks.specs.Blocks.{matrix_of}
 use Rattle.dense_blocks.specs.declared.block.Block.{Block}
+use Rattle.block_rows.specs.BlockRows.{scalar_block}
 use Rattle.rising_lists.specs.Rising.{ByCell, entry, line_of}
 use Rattle.block_sparse.specs.Grids.{width, window}
 
@@ -30,7 +32,16 @@ HaveRow line k left = All (λ l. (b : Block) → entry line l.0 ≡ Some b → k
 abbrev pub joined_row : ByCell Block → List (ℕ × ℕ) → ℕ → List ℕ
 joined_row line left k = flat_map (λ l. corner_row (entry line l.0) l.1 k) left
 
--- its first n rows, one after another
+-- an entry, or w zeros where there is none
+abbrev pub scalar_row : Option ℕ → ℕ → List ℕ
+scalar_row None w = zeros w
+scalar_row (Some e) w = e ∷ []
+
+-- a row of the joined matrix of a row of entries
+abbrev pub entry_row : ByCell ℕ → List (ℕ × ℕ) → List ℕ
+entry_row line left = flat_map (λ l. scalar_row (entry line l.0) l.1) left
+
+-- the first n rows of the joined matrix of a row of blocks, one after another
 abbrev pub joined_rows : ByCell Block → List (ℕ × ℕ) → ℕ → List ℕ
 joined_rows line left zero = []
 joined_rows line left (suc n) = joined_rows line left n ++ joined_row line left n
@@ -43,3 +54,13 @@ joined_entries rows left below = flat_map (λ t. joined_rows (line_of rows t.0) 
 abbrev pub IsSamePart : ByCell Block → List (ℕ × ℕ) → List (List ℕ) → ℕ → ℕ → ℕ → Type 0
 IsSamePart line left A row h i = window row h (width (take i left)) (slice_index_or left i (0, 0)).1 A
     ≡ grid_block (entry line (slice_index_or left i (0, 0)).0) h (slice_index_or left i (0, 0)).1
+
+-- at the listed cells there are no entries but where one row and one column belong to the cell
+abbrev pub AreScalars : ByCell ℕ → ℕ → List (ℕ × ℕ) → Type 0
+AreScalars line h left = All (λ l. (e : ℕ) → entry line l.0 ≡ Some e → (h ≡ 1) × (l.1 ≡ 1)) left
+
+-- the part of a matrix, h rows from one on, at the i-th listed cell is the entry there
+abbrev pub IsSameScalar : ByCell ℕ → List (ℕ × ℕ) → List (List ℕ) → ℕ → ℕ → ℕ → Type 0
+IsSameScalar line left A row h i = window row h (width (take i left)) (slice_index_or left i (0, 0)).1 A
+    ≡ grid_block (option_map scalar_block (entry line (slice_index_or left i (0, 0)).0)) h
+    (slice_index_or left i (0, 0)).1

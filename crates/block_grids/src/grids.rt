@@ -7,9 +7,10 @@ ghost use Rattle.block_sparse.specs.Grids.{width, window, AreSized, IsJoined, Is
 ghost use Rattle.block_grids.specs.Joined.{AreShaped, grid_block, corner_row, joined_row, joined_rows, joined_entries};
 ghost use Rattle.block_grids.specs.Joined.{HaveRow, IsSamePart};
 
+use crate::entries::{count_same_entries, push_entries};
+use block_rows::{Row, ScalarBlocks};
 use block_sparse::{Blocks, is_same_at, is_zero_at};
 use dense_blocks::{Block, Entries};
-use rising_lists::Line;
 use std::alloc::{AllocError as NoMemory, Global};
 
 /// The joined matrix of the blocks from the cells on the left to those below; zeros where none stands.
@@ -37,7 +38,7 @@ pub fn grid(
     let rows = total(below);
     let mut entries = Entries::with_room(alloc, rows as usize * cols as usize)?;
     for cell in below {
-        push_rows(&mut entries, b.line(cell.0), left, cell.1)?;
+        push_rows(&mut entries, b.line(cell.0), b.scalars(), left, cell.1)?;
     }
     Ok(Block {
         rows,
@@ -76,7 +77,7 @@ pub fn first_other(
     let mut row = 0;
     for (j, cell) in below.iter().enumerate() {
         let height = cell.1;
-        let same = count_same(b.line(cell.0), left, end, joined, row, height);
+        let same = count_same(b.line(cell.0), b.scalars(), left, end, joined, row, height);
         // Later rows matter only at cells before the first that differs.
         if same < end {
             at = j;
@@ -106,7 +107,8 @@ fn total(listed: &[(u32, u8)]) -> u32
 /// Adds the rows of a cell below at the end; without memory some entries may have been added.
 fn push_rows(
     entries: &mut Entries,
-    line: &Line<Block>,
+    line: &Row,
+    scalars: &ScalarBlocks,
     left: &[(u32, u8)],
     height: u8,
 ) -> Result<(), NoMemory>
@@ -115,7 +117,7 @@ fn push_rows(
     ensures { OnOk result (entries.new ≡ entries.old ++ joined_rows line.now left.now height) }
 {
     for k in 0..u32::from(height) {
-        push_row(entries, line, left, k)?;
+        push_row(entries, line, scalars, left, k)?;
     }
     Ok(())
 }
@@ -123,7 +125,26 @@ fn push_rows(
 /// Adds the row at `k` among those of a cell below at the end; without memory some entries may have been added.
 fn push_row(
     entries: &mut Entries,
-    line: &Line<Block>,
+    line: &Row,
+    scalars: &ScalarBlocks,
+    left: &[(u32, u8)],
+    k: u32,
+) -> Result<(), NoMemory>
+    requires rising { IsRising (keys left.now) }
+    requires row { HaveRow line.now k left.now }
+    ensures { OnOk result (entries.new ≡ entries.old ++ joined_row line.now left.now k) }
+{
+    match line.entries() {
+        Some(row) => push_entries(entries, row, left),
+        None => push_corners(entries, line, scalars, left, k),
+    }
+}
+
+/// The same for blocks of any size.
+fn push_corners(
+    entries: &mut Entries,
+    line: &Row,
+    scalars: &ScalarBlocks,
     left: &[(u32, u8)],
     k: u32,
 ) -> Result<(), NoMemory>
@@ -135,7 +156,7 @@ fn push_row(
     let mut at = 0;
     for cell in left {
         at = place_from(cells, at, cell.0);
-        push_corner(entries, value_at(line, at, cell.0), k, cell.1)?;
+        push_corner(entries, value_at(line, scalars, at, cell.0), k, cell.1)?;
     }
     Ok(())
 }
@@ -158,7 +179,33 @@ fn push_corner(
 
 /// How many of the first listed cells, one after another, have the parts of some rows of a matrix in a row of blocks.
 fn count_same(
-    line: &Line<Block>,
+    line: &Row,
+    scalars: &ScalarBlocks,
+    left: &[(u32, u8)],
+    end: usize,
+    joined: &Block,
+    row: u32,
+    height: u8,
+) -> usize
+    requires rising { IsRising (keys left.now) }
+    requires shaped { AreShaped line.now height left.now }
+    requires within { end ≤ length left.now }
+    requires rows { row + height ≤ joined.now.rows }
+    requires cols { width left.now ≤ joined.now.cols }
+    ensures within { result ≤ end }
+    ensures same { (i : ℕ) → i < result → IsSamePart line.now left.now (matrix_of joined.now) row height i }
+    ensures other { result < end → IsSamePart line.now left.now (matrix_of joined.now) row height result → ⊥ }
+{
+    match line.entries() {
+        Some(entries) => count_same_entries(entries, left, end, joined, row, height),
+        None => count_same_corners(line, scalars, left, end, joined, row, height),
+    }
+}
+
+/// The same for blocks of any size.
+fn count_same_corners(
+    line: &Row,
+    scalars: &ScalarBlocks,
     left: &[(u32, u8)],
     end: usize,
     joined: &Block,
@@ -180,7 +227,14 @@ fn count_same(
     for i in 0..end {
         let cell = left[i];
         at = place_from(cells, at, cell.0);
-        if !is_corner(value_at(line, at, cell.0), joined, row, height, col, cell.1) {
+        if !is_corner(
+            value_at(line, scalars, at, cell.0),
+            joined,
+            row,
+            height,
+            col,
+            cell.1,
+        ) {
             return i;
         }
         col += u32::from(cell.1);
@@ -210,7 +264,7 @@ fn is_corner(
 }
 
 /// The first place from `at` on whose cell is not below `c`.
-fn place_from(cells: &[u32], at: usize, c: u32) -> usize
+pub(crate) fn place_from(cells: &[u32], at: usize, c: u32) -> usize
     requires { at ≤ length cells.now }
     ensures within { result ≤ length cells.now }
     ensures passed { (i : ℕ) → at ≤ i → i < result → slice_index cells.now i < c }
@@ -224,14 +278,14 @@ fn place_from(cells: &[u32], at: usize, c: u32) -> usize
 }
 
 /// The value of a line at `c`, where `at` is the first place whose cell is not below `c`.
-fn value_at(line: &Line<Block>, at: usize, c: u32) -> Option<&Block>
+fn value_at<'a>(line: &'a Row, scalars: &'a ScalarBlocks, at: usize, c: u32) -> Option<&'a Block>
     requires passed { (i : ℕ) → i < at → slice_index line.now.cells i < c }
     requires here { at < length line.now.cells → c ≤ slice_index line.now.cells at }
     ensures { option_copied result ≡ entry line.now c }
 {
     let cells = line.cells();
     if at < cells.len() && cells[at] == c {
-        Some(&line.values()[at])
+        Some(line.block_at(scalars, at))
     } else {
         None
     }

@@ -2,6 +2,7 @@
 //! stand.
 #![tactic(auto)]
 
+mod entries;
 mod grids;
 
 pub use grids::{first_other, grid};

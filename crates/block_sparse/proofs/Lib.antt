@@ -1,4 +1,5 @@
 pub mod Windows
+pub mod ScalarParts
 pub mod GridLaws
 pub mod RemovalLaws
 pub mod CompareLaws

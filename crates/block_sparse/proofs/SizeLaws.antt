@@ -1,5 +1,5 @@
 -- The sizes of live cells, by place.
-use Rattle.std.proofs.Common.{◌≡◌, ℕ, zero, ◌⊎◌, inl, inr, Bool, true, false, cond, not, refl, sym, ap, ◌∙◌, List, []}
+use Rattle.std.proofs.Common.{◌≡◌, ℕ, zero, inl, inr, Bool, true, false, cond, not, refl, sym, ap, ◌∙◌, List, []}
 use Rattle.std.proofs.Common.{◌∷◌, map, Option, Some, None, eqb}
 use Rattle.std.specs.Option.{unwrap_or, option_map}
 use Rattle.std.proofs.lemmas.Bool.{eq-eqb, ne_eqb, cases_eq}

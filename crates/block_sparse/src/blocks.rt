@@ -12,9 +12,9 @@ ghost use Rattle.block_sparse.specs.Lists.{with_block, with_blocks};
 
 use crate::fresh::{fresh_columns, fresh_rows};
 use crate::live_cells::{LiveCells, cell_in, cells_of};
+use block_rows::{Row, Rows, ScalarBlocks};
 use dense_blocks::Block;
 use open_columns::Columns;
-use rising_lists::{Line, Lines};
 use std::alloc::{AllocError as NoMemory, Global};
 use std::marker::Model;
 
@@ -25,7 +25,7 @@ use std::marker::Model;
 #[derive(Debug, Drop)]
 pub struct Blocks {
     live: LiveCells,
-    rows: Lines<Block>,
+    rows: Rows,
     columns: Columns,
 }
 
@@ -65,7 +65,7 @@ impl Blocks {
         let cells = cells_of(alloc, live)?;
         Ok(Blocks {
             live: LiveCells::of(alloc, live)?,
-            rows: Lines::of_cells(alloc, &cells)?,
+            rows: Rows::of_cells(alloc, &cells)?,
             columns: Columns::of_cells(alloc, &cells)?,
         })
     }
@@ -122,11 +122,16 @@ impl Blocks {
     }
 
     /// The nonzero blocks that go to the live cell `y`, by the cells that they come from.
-    pub fn line(&self, y: u32) -> &Line<Block>
+    pub fn line(&self, y: u32) -> &Row
         requires { has y (cells self.now.live) ≡ true }
         ensures { result.now ≡ line_of self.now.rows y }
     {
-        self.rows.line(y)
+        self.rows.row(y)
+    }
+
+    /// The blocks of one entry, which rows lend.
+    pub fn scalars(&self) -> &ScalarBlocks {
+        self.rows.scalars()
     }
 
     /// The cells from which a nonzero block goes to the cell `y`, rising; none if `y` is not live.
@@ -318,7 +323,7 @@ impl Blocks {
 }
 
 /// Takes the blocks of a cell away: those that come from it, and those that go to it.
-fn clear(rows: &mut Lines<Block>, columns: &mut Columns, c: u32)
+fn clear(rows: &mut Rows, columns: &mut Columns, c: u32)
     requires { (s t : ℕ) → is_some (entry_of columns.old s t) ≡ is_some (entry_of rows.old t s) }
     ensures row_cells { rows.new.cells ≡ rows.old.cells }
     ensures column_cells { columns.new.cells ≡ columns.old.cells }

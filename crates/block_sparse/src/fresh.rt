@@ -1,31 +1,72 @@
-ghost use Rattle.std.specs.Prelude.{◌≡◌, ◌≤◌, ◌+◌, ℕ, true, length, IfOk};
+ghost use Rattle.std.specs.Prelude.{◌≡◌, ◌≤◌, ◌+◌, ℕ, true, length, All, IfOk};
 ghost use Rattle.rising_lists.specs.Rising.{IsRising, has, keys};
 ghost use Rattle.dense_blocks.specs.Blocks.{matrix_of};
 ghost use Rattle.block_sparse.specs.Grids.{width};
 ghost use Rattle.block_sparse.specs.Fresh.{IsFreshRow, IsFreshColumn, AreFreshRows, AreFreshColumns};
 
-use crate::parts::{column_marks, row_parts};
+use crate::parts::{are_scalar, column_marks, row_entries, row_parts};
+use block_rows::{Row, Rows};
 use dense_blocks::Block;
 use open_columns::{Columns, Mark};
-use rising_lists::{Line, Lines};
+use rising_lists::Line;
 use std::alloc::{AllocError as NoMemory, Global};
 
 /// A row of blocks once the parts of some rows of a matrix have come in at the listed cells.
 fn fresh_row(
     alloc: Global,
-    old: &Line<Block>,
+    old: &Row,
     left: &[(u32, u8)],
     joined: &Block,
     row: u32,
     height: u8,
-) -> Result<Line<Block>, NoMemory>
+) -> Result<Row, NoMemory>
+    requires rising { IsRising (keys left.now) }
+    requires rows { row + height ≤ joined.now.rows }
+    requires cols { width left.now ≤ joined.now.cols }
+    ensures { IfOk result (λ l. IsFreshRow (matrix_of joined.now) row height left.now old.now l) }
+{
+    if height == 1 && are_scalar(left) {
+        row_of_entries(alloc, old, left, joined, row)
+    } else {
+        row_of_blocks(alloc, old, left, joined, row, height)
+    }
+}
+
+/// The same for one row of a matrix and cells of size 1.
+fn row_of_entries(
+    alloc: Global,
+    old: &Row,
+    left: &[(u32, u8)],
+    joined: &Block,
+    row: u32,
+) -> Result<Row, NoMemory>
+    requires rising { IsRising (keys left.now) }
+    requires scalar { All (λ l. l.1 ≡ 1) left.now }
+    requires rows { row + 1 ≤ joined.now.rows }
+    requires cols { width left.now ≤ joined.now.cols }
+    ensures { IfOk result (λ l. IsFreshRow (matrix_of joined.now) row 1 left.now old.now l) }
+{
+    let entries = row_entries(alloc, joined, row, left.len())?;
+    let fresh = old.with_entries(alloc, left, entries)?;
+    Ok(fresh)
+}
+
+/// The same for cells of any size.
+fn row_of_blocks(
+    alloc: Global,
+    old: &Row,
+    left: &[(u32, u8)],
+    joined: &Block,
+    row: u32,
+    height: u8,
+) -> Result<Row, NoMemory>
     requires rising { IsRising (keys left.now) }
     requires rows { row + height ≤ joined.now.rows }
     requires cols { width left.now ≤ joined.now.cols }
     ensures { IfOk result (λ l. IsFreshRow (matrix_of joined.now) row height left.now old.now l) }
 {
     let parts = row_parts(alloc, joined, row, height, left)?;
-    old.with_fresh(alloc, left, parts)
+    old.with_blocks(alloc, left, parts)
 }
 
 /// A column once the parts of some columns of a matrix have been noted at the listed cells.
@@ -49,11 +90,11 @@ fn fresh_column(
 /// The rows of the cells below once a joined matrix has come in.
 pub(crate) fn fresh_rows(
     alloc: Global,
-    rows: &Lines<Block>,
+    rows: &Rows,
     left: &[(u32, u8)],
     below: &[(u32, u8)],
     joined: &Block,
-) -> Result<Vec<Line<Block>>, NoMemory>
+) -> Result<Vec<Row>, NoMemory>
     requires rising { IsRising (keys left.now) }
     requires within { (c : ℕ) → has c (keys below.now) ≡ true → has c rows.now.cells ≡ true }
     requires cols { width left.now ≤ joined.now.cols }
@@ -68,7 +109,7 @@ pub(crate) fn fresh_rows(
         // The loop's invariant names the place.
         let _at = j;
         let height = cell.1;
-        fresh.push(fresh_row(alloc, rows.line(cell.0), left, joined, row, height)?)?;
+        fresh.push(fresh_row(alloc, rows.row(cell.0), left, joined, row, height)?)?;
         row += u32::from(height);
     }
     Ok(fresh)

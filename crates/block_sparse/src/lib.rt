@@ -2,8 +2,8 @@
 //!
 //! What is here: to make and copy one, to read its blocks by pair, row and column, to put blocks one by one, by list or
 //! as the parts of a joined matrix, to set flags, to take cells away, to compare a joined matrix with the blocks of a
-//! row or of a column, to find the square blocks without a flag, and to apply all blocks to a cochain. Besides, whether
-//! a part of a joined matrix is zero, or a block.
+//! row or of a column, to find the square blocks without a flag, and to apply all blocks to a cochain. Besides, an
+//! entry of a joined matrix, and whether a part of it is zero, or a block.
 #![tactic(auto)]
 
 mod blocks;
@@ -16,4 +16,4 @@ mod parts;
 
 pub use blocks::Blocks;
 pub use comparison::is_listed;
-pub use parts::{is_same_at, is_zero_at};
+pub use parts::{is_same_at, is_zero_at, scalar_at};

@@ -1,11 +1,11 @@
 ghost use Rattle.std.specs.Prelude.{◌≡◌, ◌==◌, ◌<◌, ◌≤◌, ◌+◌, ℕ, false, [], None, Some, if◌then◌else◌, length, take};
-ghost use Rattle.std.specs.Prelude.{drop, slice_index_or, IfOk, IsTrue, ◌↔◌};
+ghost use Rattle.std.specs.Prelude.{drop, slice_index_or, map, All, IfOk, IsTrue, ◌↔◌};
 ghost use Rattle.std.specs.List.{list_all};
 ghost use Rattle.dense_blocks.specs.Blocks.{matrix_of};
 ghost use Rattle.dense_blocks.specs.BlockFacts.{IsBlock};
 ghost use Rattle.block_sparse.specs.StoredBlocks.{is_zero};
 ghost use Rattle.block_sparse.specs.Grids.{width, window, IsPart};
-ghost use Rattle.block_sparse.specs.Fresh.{mark_of};
+ghost use Rattle.block_sparse.specs.Fresh.{mark_of, nonzero_entry};
 
 use dense_blocks::{Block, Entries};
 use open_columns::Mark;
@@ -28,8 +28,31 @@ fn row_part(joined: &Block, i: u32, col: u32, width: u8) -> &[u8]
     &joined.row(i)[start..start + width as usize]
 }
 
+/// The entry of a matrix in a row and a column.
+pub fn scalar_at(joined: &Block, row: u32, col: u32) -> u8
+    requires row { row < joined.now.rows }
+    requires col { col < joined.now.cols }
+    ensures value { result ≡ slice_index_or (slice_index_or (matrix_of joined.now) row []) col 0 }
+    ensures size { length (slice_index_or (matrix_of joined.now) row []) ≡ joined.now.cols }
+{
+    joined.row(row)[col as usize]
+}
+
 /// Whether a part of a matrix is zero: `height` rows from `row` on, and of each `width` entries from `col` on.
 pub fn is_zero_at(joined: &Block, row: u32, height: u8, col: u32, width: u8) -> bool
+    requires rows { row + height ≤ joined.now.rows }
+    requires cols { col + width ≤ joined.now.cols }
+    ensures { result ≡ is_zero (window row height col width (matrix_of joined.now)) }
+{
+    if height == 1 && width == 1 {
+        scalar_at(joined, row, col) == 0
+    } else {
+        are_zero_rows(joined, row, height, col, width)
+    }
+}
+
+/// The same for parts of any shape.
+fn are_zero_rows(joined: &Block, row: u32, height: u8, col: u32, width: u8) -> bool
     requires rows { row + height ≤ joined.now.rows }
     requires cols { col + width ≤ joined.now.cols }
     ensures { result ≡ is_zero (window row height col width (matrix_of joined.now)) }
@@ -84,6 +107,37 @@ fn part(
     } else {
         Ok(Some(cut(alloc, joined, row, height, col, width)?))
     }
+}
+
+/// Whether each of the listed cells has size 1.
+pub(crate) fn are_scalar(listed: &[(u32, u8)]) -> bool
+    ensures { IsTrue result ↔ All (λ l. l.1 ≡ 1) listed.now }
+{
+    listed.iter().all(|l| l.1 == 1)
+}
+
+/// The first `count` entries of a row of a matrix; none for each that is 0.
+pub(crate) fn row_entries(
+    alloc: Global,
+    joined: &Block,
+    row: u32,
+    count: usize,
+) -> Result<Vec<Option<u8>>, NoMemory>
+    requires row { row < joined.now.rows }
+    requires cols { count ≤ joined.now.cols }
+    ensures entries { IfOk result
+        (λ es. es.items ≡ map nonzero_entry (take count (slice_index_or (matrix_of joined.now) row []))) }
+    ensures size { length (slice_index_or (matrix_of joined.now) row []) ≡ joined.now.cols }
+{
+    let entries = &joined.row(row)[..count];
+    entries.iter().map(nonzero_entry).collect(alloc)
+}
+
+/// The entry; none where it is 0.
+fn nonzero_entry(entry: &u8) -> Option<u8>
+    ensures { result ≡ nonzero_entry entry.now }
+{
+    if *entry == 0 { None } else { Some(*entry) }
 }
 
 /// The parts of some rows of a matrix, one for each of the cells that its columns belong to.

@@ -1,52 +1,21 @@
-use Rattle.std.proofs.Common.{◌≡◌, ◌<◌, ◌≤◌, ℕ, true, ap, ◌∙◌, sym, subst, length, get_or, arith, inl, inr, rules}
-use Rattle.std.proofs.lemmas.Bool.{cases_lt}
+use Rattle.std.proofs.Common.{ℕ}
 use Rattle.dense_blocks.specs.Blocks.{matrix_of}
-use Rattle.block_sparse.specs.Grids.{window}
-use Rattle.block_grids.specs.Joined.{grid_block, IsSamePart}
-use Rattle.block_sparse.proofs.Windows.{width-next, width-within}
-use Rattle.block_grids.proofs.WalkLaws.{all-passed, next-passed}
+use Rattle.block_grids.proofs.JoinLaws.{scalars-shaped, same-scalar}
 use Rattle.block_grids.proofs.grids.count_same.Goals as goal
 
-pub is_corner-requires-clause-cols : goal.is_corner-requires-clause-cols
-is_corner-requires-clause-cols c =
-    let inside : c.loop-i.i < length c.args.left.now = omega (arith, c.requires.within) in
-    omega (arith, c.loop-i.invariant.col, width-within c.args.left.now c.loop-i.i inside, c.requires.cols)
+pub count_same_entries-requires-clause-scalars : goal.count_same_entries-requires-clause-scalars
+count_same_entries-requires-clause-scalars c =
+    scalars-shaped c.args.line.now c.in-Some.entries.now c.in-Some.ensures c.args.height c.args.left.now
+    c.requires.shaped
 
-pub overflow_add-col : goal.overflow_add-col
-overflow_add-col c =
-    let inside : c.loop-i.i < length c.args.left.now = omega (arith, c.requires.within) in
-    omega (
-      arith,
-      c.loop-i.invariant.col,
-      width-within c.args.left.now c.loop-i.i inside,
-      c.requires.cols,
-      c.args.joined.now.cols_fit,
-    )
+pub returns-in-Some-clause-same : goal.returns-in-Some-clause-same
+returns-in-Some-clause-same c = λ i l.
+    (same-scalar c.args.line.now c.in-Some.entries.now c.in-Some.ensures c.args.left.now
+    (matrix_of c.args.joined.now) c.args.row c.args.height i).0
+    (c.count_same_entries.ensures.same i l)
 
-pub loop-i-preserved : goal.loop-i-preserved
-loop-i-preserved c =
-    let line = c.args.line.now in
-    let left = c.args.left.now in
-    let A = matrix_of c.args.joined.now in
-    let i : ℕ = c.loop-i.i in
-    let inside : i < length left = omega (arith, c.requires.within) in
-    let x = get_or left i (0, 0) in
-    let passed : c.is_corner.result ≡ true = search rules in
-    record {
-      col = omega (arith, c.loop-i.invariant.col, width-next left i inside);
-      within = subst (λ ks. c.place_from-at.result ≤ length ks) c.cells-cells.ensures.cells
-          c.place_from-at.ensures.within;
-      passed = next-passed left line.cells c.place_from-at.result i c.requires.rising
-          (all-passed line.cells c.loop-i.at c.place_from-at.result x.0 (λ a l. c.loop-i.invariant.passed a l inside)
-          (subst (λ ks. (a : ℕ) → c.loop-i.at ≤ a → a < c.place_from-at.result → get_or ks a 0 < x.0)
-          c.cells-cells.ensures.cells c.place_from-at.ensures.passed));
-      same = λ k l. elim (cases_lt k i) [
-        | inl u ↦ c.loop-i.invariant.same k u
-        | inr u ↦
-            let e : i ≡ k = omega arith in
-            subst (IsSamePart line left A c.args.row c.args.height) e
-            (ap (λ n. window c.args.row c.args.height n x.1 A) (sym c.loop-i.invariant.col)
-            ∙ c.is_corner.ensures.0 passed
-            ∙ ap (λ o. grid_block o c.args.height x.1) c.value_at.ensures)
-      ];
-    }
+pub returns-in-Some-clause-other : goal.returns-in-Some-clause-other
+returns-in-Some-clause-other c = λ l s.
+    c.count_same_entries.ensures.other l
+    ((same-scalar c.args.line.now c.in-Some.entries.now c.in-Some.ensures c.args.left.now
+    (matrix_of c.args.joined.now) c.args.row c.args.height c.count_same_entries.result).1 s)

@@ -1,28 +1,10 @@
-use Rattle.std.proofs.Common.{◌<◌, ◌≤◌, ◌++◌, ℕ, List, ap, ◌∙◌, sym, subst, length, get_or, take, append_assoc, arith}
-use Rattle.rising_lists.specs.Rising.{entry}
-use Rattle.block_grids.specs.Joined.{corner_row, joined_row}
-use Rattle.block_grids.proofs.WalkLaws.{all-passed, next-passed, pieces-next}
+use Rattle.std.proofs.Common.{◌≡◌, ◌++◌, sym, subst}
+use Rattle.std.specs.Result.{OnOk}
+use Rattle.block_grids.proofs.JoinLaws.{joined-scalars}
 use Rattle.block_grids.proofs.grids.push_row.Goals as goal
 
-pub loop-cell-preserved : goal.loop-cell-preserved
-loop-cell-preserved c =
-    let line = c.args.line.now in
-    let left = c.args.left.now in
-    let i : ℕ = c.loop-cell.cell-index in
-    let inside : i < length left = omega arith in
-    let piece : ℕ × ℕ → List ℕ = λ x. corner_row (entry line x.0) x.1 c.args.k in
-    let x = get_or left i (0, 0) in
-    record {
-      entries = c.in_ok-push_corner.ensures
-          ∙ ap (λ o. c.loop-cell.entries ++ corner_row o x.1 c.args.k) c.value_at.ensures
-          ∙ ap (λ e. e ++ piece x) c.loop-cell.invariant.entries
-          ∙ append_assoc c.args.entries.now (joined_row line (take i left) c.args.k) (piece x)
-          ∙ ap (λ e. c.args.entries.now ++ e) (sym (pieces-next piece left i (0, 0) inside));
-      within = subst (λ ks. c.place_from-at.result ≤ length ks) c.cells-cells.ensures.cells
-          c.place_from-at.ensures.within;
-      passed = next-passed left line.cells c.place_from-at.result i c.requires.rising
-          (all-passed line.cells c.loop-cell.at c.place_from-at.result x.0
-          (λ a l. c.loop-cell.invariant.passed a l inside)
-          (subst (λ ks. (a : ℕ) → c.loop-cell.at ≤ a → a < c.place_from-at.result → get_or ks a 0 < x.0)
-          c.cells-cells.ensures.cells c.place_from-at.ensures.passed));
-    }
+pub returns-in-Some : goal.returns-in-Some
+returns-in-Some c =
+    subst (λ row. OnOk c.push_entries.result (c.push_entries.new.entries ≡ c.args.entries.now ++ row))
+    (sym (joined-scalars c.args.line.now c.in-Some.row.now c.in-Some.ensures c.args.left.now c.args.k c.requires.row))
+    c.push_entries.ensures

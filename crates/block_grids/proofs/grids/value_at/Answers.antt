@@ -1,19 +1,19 @@
 use Rattle.std.proofs.Common.{◌≡◌, ◌≢◌, ◌<◌, ◌≤◌, ap, ◌∙◌, sym, subst, length, get_or, arith}
-use Rattle.rising_lists.proofs.Keyed.{look-found, look-absent}
+use Rattle.rising_lists.specs.Rising.{entry}
+use Rattle.rising_lists.proofs.Keyed.{look-absent}
 use Rattle.block_grids.proofs.WalkLaws.{absent-from}
 use Rattle.block_grids.proofs.grids.value_at.Goals as goal
 use Rattle.block_grids.proofs.grids.value_at.Goals.{else-at-cells-via-then-at-cells+else-cells-at}
 use Rattle.block_grids.proofs.grids.value_at.Goals.{else-at-cells-via-else-at-cells}
 
+pub block_at-requires : goal.block_at-requires
+block_at-requires c = subst (λ ks. c.args.at < length ks) c.cells-cells.ensures.cells c.if-at-cells.true
+
 pub returns-then-cells-at : goal.returns-then-cells-at
 returns-then-cells-at c =
-    let line = c.args.line.now in
-    let is = c.cells-cells.ensures.cells in
-    sym (look-found line.cells line.values c.args.c c.args.at c.index-values-at.result c.cells-cells.ensures.line.full
-    c.cells-cells.ensures.line.rising
-    (subst (λ ks. c.args.at < length ks) is c.if-at-cells.true)
-    (subst (λ ks. get_or ks c.args.at 0 ≡ c.args.c) is c.if-cells-at.true)
-    (c.index-values-at.is ∙ ap (λ vs. get_or vs c.args.at c.index-values-at.result) c.values.ensures.values))
+    sym c.block_at.ensures
+    ∙ ap (entry c.args.line.now)
+    (subst (λ ks. get_or ks c.args.at 0 ≡ c.args.c) c.cells-cells.ensures.cells c.if-cells-at.true)
 
 pub returns-else-at-cells : goal.returns-else-at-cells
 returns-else-at-cells c =

@@ -10,8 +10,8 @@ use Rattle.block_sparse.proofs.GridLaws.{key-listed}
 use Rattle.block_sparse.proofs.Windows.{width-next, width-within}
 use Rattle.block_sparse.proofs.fresh.fresh_rows.Goals as goal
 
-pub line-requires : goal.line-requires
-line-requires c = c.requires.within (get_or c.args.below.now c.loop-j.j (0, 0)).0
+pub row-requires : goal.row-requires
+row-requires c = c.requires.within (get_or c.args.below.now c.loop-j.j (0, 0)).0
     (key-listed c.args.below.now c.loop-j.j (omega arith))
 
 pub fresh_row-requires-clause-rows : goal.fresh_row-requires-clause-rows
@@ -43,8 +43,8 @@ loop-j-preserved c =
     let full : length old ≡ j = c.loop-j.invariant.count in
     let here : IsFreshRow A (width (take j below)) (get_or below j (0, 0)).1 left
     (line_of rows (get_or below j (0, 0)).0) new =
-    subst (λ l. IsFreshRow A (width (take j below)) (get_or below j (0, 0)).1 left l new) c.line.ensures
-    (subst (λ n. IsFreshRow A n (get_or below j (0, 0)).1 left c.line.result.now new) c.loop-j.invariant.row
+    subst (λ l. IsFreshRow A (width (take j below)) (get_or below j (0, 0)).1 left l new) c.row.ensures
+    (subst (λ n. IsFreshRow A n (get_or below j (0, 0)).1 left c.row.result.now new) c.loop-j.invariant.row
     c.in_ok-fresh_row.ensures) in
     record {
       count = ap length c.in_ok-push.ensures.items ∙ omega (arith, length-append old (new ∷ []), full);

@@ -3,5 +3,5 @@ use Rattle.rising_lists.specs.Rising.{has}
 use Rattle.block_complexes.specs.BlockComplexes.{cells}
 use Rattle.block_sparse.proofs.blocks.Blocks.line.Goals as goal
 
-pub line-requires : goal.line-requires
-line-requires c = c.self.invariant.has_row c.args.y (ap (λ v. has c.args.y (cells v.live)) c.self.view_is ∙ c.requires)
+pub row-requires : goal.row-requires
+row-requires c = c.self.invariant.has_row c.args.y (ap (λ v. has c.args.y (cells v.live)) c.self.view_is ∙ c.requires)

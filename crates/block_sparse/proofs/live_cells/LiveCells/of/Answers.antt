@@ -1,7 +1,6 @@
-use Rattle.std.proofs.Common.{◌≡◌, ap, ◌∙◌, sym, subst, length}
+use Rattle.std.proofs.Common.{ap, ◌∙◌, sym, subst, length}
 use Rattle.std.proofs.lemmas.List.{length-map}
 use Rattle.rising_lists.specs.Rising.{IsRising}
-use Rattle.block_sparse.specs.Invariants.{AreSizes}
 use Rattle.block_sparse.proofs.SizeLaws.{sizes_of-live}
 use Rattle.block_sparse.proofs.live_cells.LiveCells.of.Goals as goal
 

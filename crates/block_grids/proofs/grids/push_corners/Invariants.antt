@@ -1,6 +1,6 @@
 use Rattle.std.proofs.Common.{◌≡◌, ◌<◌, ◌≤◌, ◌++◌, ℕ, length, get_or, take}
 use Rattle.block_grids.specs.Joined.{joined_row}
-use Rattle.block_grids.proofs.grids.push_row.Given as goal
+use Rattle.block_grids.proofs.grids.push_corners.Given as goal
 
 abbrev pub invariant-loop-cell : goal.invariant-loop-cell
 invariant-loop-cell l = record {
