@@ -23,7 +23,6 @@ use Rattle.reduce_step.specs.Differences.{sources, targets, is_copied, copied_ma
 use Rattle.reduce_step.specs.Differences.{IsAsCopied, IsBeside, IsSameAt, IsFirstResized, IsResized, IsReached}
 use Rattle.reduce_step.specs.Differences.{IsGained, IsBefore, IsEarlier, Found, FoundResized, FoundUnlisted}
 use Rattle.reduce_step.proofs.FirstLaws.{not-before, found-either, found-within}
-use Rattle.reduce_step.proofs.ListLaws.{one-rises}
 
 -- a live cell has a coordinate
 pub live-size : (live : List (ℕ × ℕ × ℕ)) (c : ℕ) → AreLive live → has c (cells live) ≡ true → 1 ≤ size_of live c

@@ -1,4 +1,3 @@
-use Rattle.std.proofs.Common.{ℕ}
 use Rattle.dense_blocks.specs.Blocks.{matrix_of}
 use Rattle.block_grids.proofs.JoinLaws.{scalars-shaped, same-scalar}
 use Rattle.block_grids.proofs.grids.count_same.Goals as goal
