@@ -86,6 +86,7 @@ fn carries_inverses_over(rt: HostRuntime) -> Result<(), NoMemory> {
     assert!(rt; commit_next(&rt, rt.alloc(), &mut twin)? == (2, 5, 1));
     assert!(rt; is_finished(&mut twin)? && twin.now().live().is_empty());
     assert!(rt; twin.log().len() == 3 && slot.log().len() == 1);
+    assert!(rt; slot.base().live().len() == 6 && slot.now().live().len() == 4);
     Ok(())
 }
 
