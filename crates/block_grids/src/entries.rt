@@ -1,4 +1,5 @@
-ghost use Rattle.std.specs.Prelude.{◌≡◌, ◌<◌, ◌≤◌, ◌+◌, ◌++◌, ◌↔◌, ℕ, Some, length, slice_index, option_map, OnOk, IsTrue};
+ghost use Rattle.std.specs.Prelude.{◌≡◌, ◌<◌, ◌≤◌, ◌+◌, ◌++◌, ◌↔◌, ℕ, Some, length, slice_index, option_map, OnOk};
+ghost use Rattle.std.specs.Prelude.{IsTrue};
 ghost use Rattle.dense_blocks.specs.Blocks.{matrix_of};
 ghost use Rattle.rising_lists.specs.Rising.{IsRising, keys, entry};
 ghost use Rattle.block_rows.specs.BlockRows.{scalar_block};

@@ -1,4 +1,5 @@
-ghost use Rattle.std.specs.Prelude.{◌≡◌, ◌==◌, ◌<◌, ℕ, [], None, Some, if◌then◌else◌, length, map, replicate, slice_index};
+ghost use Rattle.std.specs.Prelude.{◌≡◌, ◌==◌, ◌<◌, ℕ, [], None, Some, if◌then◌else◌, length, map, replicate};
+ghost use Rattle.std.specs.Prelude.{slice_index};
 ghost use Rattle.std.specs.Prelude.{option_copied, option_map, IfOk, IfSome};
 ghost use Rattle.rising_lists.specs.Rising.{IsRising, IsLine, has, keys, entry, entry_after};
 ghost use Rattle.block_rows.specs.BlockRows.{block_or, scalar_block};

@@ -1,6 +1,7 @@
 -- The parts of a row of a matrix at cells of size 1.
 use Rattle.std.proofs.Common.{◌≡◌, ℕ, zero, suc, ◌<◌, ◌≤◌, Bool, true, false, ◌&&◌, cond, refl, sym, ap, ap₂, ◌∙◌}
-use Rattle.std.proofs.Common.{subst, arith, List, [], ◌∷◌, length, map, take, drop, get_or, Option, None, Some, All, eqb}
+use Rattle.std.proofs.Common.{subst, arith, List, [], ◌∷◌, length, map, take, drop, get_or, Option, None, Some, All}
+use Rattle.std.proofs.Common.{eqb}
 use Rattle.std.proofs.Common.{drop-cons, inl, inr}
 use Rattle.std.proofs.lemmas.Bool.{cases_eq, eq-eqb, ne_eqb}
 use Rattle.std.proofs.lemmas.List.{get_or-take, get_or-map, length-map, length-take-le}

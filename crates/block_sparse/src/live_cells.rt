@@ -1,4 +1,5 @@
-ghost use Rattle.std.specs.Prelude.{◌≡◌, ◌==◌, ◌<◌, ◌≤◌, ℕ, true, false, length, slice_index, slice_index_or, not, filter};
+ghost use Rattle.std.specs.Prelude.{◌≡◌, ◌==◌, ◌<◌, ◌≤◌, ℕ, true, false, length, slice_index, slice_index_or, not};
+ghost use Rattle.std.specs.Prelude.{filter};
 ghost use Rattle.std.specs.Prelude.{map, MatchOption, IfOk};
 ghost use Rattle.rising_lists.specs.Rising.{IsRising, has};
 ghost use Rattle.block_complexes.specs.BlockComplexes.{cells, degree_of, size_of};

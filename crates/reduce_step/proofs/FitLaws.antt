@@ -46,7 +46,8 @@ nonzero-block_at K v s t e = elim (cases_Bool (is_some (block_at v s t))) [
 ]
 
 -- a zero matrix has no inverse
-pub zero-no_inverse : (K : Ops) (F : IsField K) (n : ℕ) (B : List (List ℕ)) → 1 ≤ n → IsInverse K n (zero_matrix n n) B → ⊥
+pub zero-no_inverse : (K : Ops) (F : IsField K) (n : ℕ) (B : List (List ℕ)) → 1 ≤ n
+    → IsInverse K n (zero_matrix n n) B → ⊥
 zero-no_inverse K F zero B l inverse = absurd (omega arith)
 zero-no_inverse K F (suc n) B l inverse =
     let v : List ℕ = 1 ∷ zeros n in

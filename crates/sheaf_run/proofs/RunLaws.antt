@@ -117,7 +117,8 @@ pub replies_limit : (job : Job) (r : Reading) (line n : ℕ) (which w : Which) {
     → Replies (λ a. a ≡ bad_line n (Over w)) sink sink_new result → Replies (AnswersReading job r) sink sink_new result
 replies_limit job r line n which w e f g replies =
     replies_weaker (λ a. a ≡ bad_line n (Over w)) (AnswersReading job r)
-    (λ a is. subst (λ (t : Reading). AnswersReading job t a) (sym e) (is ∙ ap₂ (λ i o. bad_line i (Over o)) f g)) replies
+    (λ a is. subst (λ (t : Reading). AnswersReading job t a) (sym e)
+    (is ∙ ap₂ (λ i o. bad_line i (Over o)) f g)) replies
 
 -- the input that was read is answered
 pub replies_input : (job : Job) (r : Reading) (i : Input) (scripts : List (List Command)) {sink sink_new : SinkView}

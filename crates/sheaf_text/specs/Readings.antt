@@ -51,8 +51,7 @@ abbrev pub command_with_set : Set → Command → Command
 command_with_set s (Change e) = Change (record { sets = e.sets ++ s ∷ [] })
 command_with_set s (Ask q) = Ask q
 
--- what is known after a line of this kind: the block of a face goes from stalk to stalk, a client begins a script, a
--- command goes to the end of the last script, and a change to the end of the last edit
+-- what is known after a line of this kind: a client begins a script, a command ends the last, a change the last edit
 abbrev pub advance : Known → Option Kind → List (List ℕ) → Known
 advance k None ws = k
 advance k (Some kinds.Field) ws = record k { stage = stages.Cells; input = record k.input { order = value ws 1 } }
@@ -118,4 +117,5 @@ run k line (ws ∷ more) = option_map_or (RefusedLine (line + 1)) (refusal k ws)
 
 unfoldable pub reading : List ℕ → Reading
 reading bytes =
-    if nat_lt 16777216 (length bytes) then RefusedLine 0 (Over limits.Bytes) else run nothing_known 0 (map words (lines bytes))
+    if nat_lt 16777216 (length bytes) then RefusedLine 0 (Over limits.Bytes)
+    else run nothing_known 0 (map words (lines bytes))

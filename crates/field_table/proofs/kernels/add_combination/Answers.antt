@@ -39,7 +39,8 @@ loop-ks-preserved g c =
     let now : c.add_four.new.target ≡ plus_rows K n c.loop-ks.target (take 4 ks) (take (4 * n) rest) =
     c.add_four.ensures.sum
     ∙ ap₂ (λ k t. plus_rows K k c.loop-ks.target t four_rows) width c.split_at.ensures.front
-    ∙ ap (plus_rows K n c.loop-ks.target (take 4 ks)) (c.split_at-in-loop-ks.ensures.front ∙ ap (λ k. take k rest) start)
+    ∙ ap (plus_rows K n c.loop-ks.target (take 4 ks))
+    (c.split_at-in-loop-ks.ensures.front ∙ ap (λ k. take k rest) start)
     in
     record {
       sum = ap₂ (λ t k. plus_rows K n t k c.split_at-in-loop-ks.result.1.now) now c.split_at.ensures.back

@@ -29,7 +29,8 @@ loop-k-preserved g c =
           c.loop-k.rest.now row c.split_at.result.1.now c.add_scaled.new.target c.loop-k-test.true
           c.split_at.ensures.front c.split_at.ensures.back c.add_scaled.ensures.sum c.loop-k.invariant.sum;
       width = ap length c.add_scaled.ensures.sum
-          ∙ length-plus K c.loop-k.target (multiple K (get_or cs i 0) row) (length-map row (K.mul (get_or cs i 0)) ∙ wide)
+          ∙ length-plus K c.loop-k.target (multiple K (get_or cs i 0) row)
+          (length-map row (K.mul (get_or cs i 0)) ∙ wide)
           ∙ c.loop-k.invariant.width;
       left = one_less (length cs) i n (length c.split_at.result.1.now) (length c.loop-k.rest.now) c.loop-k-test.true
           c.split_at.ensures.back_len c.loop-k.invariant.left;

@@ -9,7 +9,8 @@ use Rattle.dense_blocks.specs.Vectors.{AllScalars, zeros}
 use Rattle.dense_blocks.proofs.RowSteps.{changed-none, changed-next, changed-at, changed-all, changed}
 use Rattle.field_table.specs.Modular.{modulo}
 use Rattle.field_table.specs.ModularFacts.{plus_rows}
-use Rattle.field_table.proofs.RowSums.{plus_rows-none, plus_rows-scalars, plus_rows-size, plus_rows-at, whole_at, four_entries}
+use Rattle.field_table.proofs.RowSums.{plus_rows-none, plus_rows-scalars, plus_rows-size, plus_rows-at, whole_at}
+use Rattle.field_table.proofs.RowSums.{four_entries}
 use Rattle.field_table.proofs.kernels.add_four.Given.{Over}
 use Rattle.field_table.proofs.kernels.add_four.Goals.{In-loop-i}
 use Rattle.field_table.proofs.kernels.add_four.Goals as goal

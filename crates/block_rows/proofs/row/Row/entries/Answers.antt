@@ -11,7 +11,8 @@ returns-then-is_empty c = λ q.
     let n : ℕ = length c.cells.result.now in
     let none : n ≡ 0 = elim (cases_eq n 0) [
       | inl e ↦ e
-      | inr other ↦ absurd (let f : false ≡ true = sym (ne_eqb n 0 other) ∙ sym c.is_empty.ensures ∙ c.if-is_empty.true in cc)
+      | inr other ↦ absurd
+          (let f : false ≡ true = sym (ne_eqb n 0 other) ∙ sym c.is_empty.ensures ∙ c.if-is_empty.true in cc)
     ] in
     ap (λ r. entry r q) (sym c.self.view_is)
     ∙ entry-scalars c.self.inside.entries L q (nil_from_length L.cells (sym (ap length c.cells.ensures.cells) ∙ none))

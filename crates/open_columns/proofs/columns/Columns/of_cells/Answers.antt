@@ -7,5 +7,6 @@ pub invariant_of-result : goal.invariant_of-result
 invariant_of-result c =
     first-empty c.in_ok-of_cells.field-0 c.in_ok-constant.field-0 (c.in_ok-constant.ensures.cells
     ∙ sym c.in_ok-of_cells.ensures.cells)
-    (c.in_ok-constant.ensures.values ∙ ap (λ cells. replicate (length cells) nothing) (sym c.in_ok-constant.ensures.cells))
+    (c.in_ok-constant.ensures.values
+    ∙ ap (λ cells. replicate (length cells) nothing) (sym c.in_ok-constant.ensures.cells))
     (λ s t. ap (λ l. entry l t) (c.in_ok-of_cells.ensures.empty s))
