@@ -17,7 +17,7 @@ is_column_part-requires-clause-height c = sym (c.requires.sized c.loop-j.j (0, 0
 pub is_column_part-requires-clause-cols : goal.is_column_part-requires-clause-cols
 is_column_part-requires-clause-cols c =
     let w : c.cell_and_size-size.result.1 ≡ size_of c.args.self.now.live c.args.x =
-        ap (λ (p : ℕ × ℕ). p.1) c.cell_and_size-size.ensures in
+    ap (λ (p : ℕ × ℕ). p.1) c.cell_and_size-size.ensures in
     omega (arith, w, c.requires.cols)
 
 pub is_column_part-requires-clause-rows : goal.is_column_part-requires-clause-rows
@@ -43,7 +43,7 @@ loop-j-preserved c =
     let inside : j < length below = omega arith in
     let A = matrix_of c.args.joined.now in
     let w : c.cell_and_size-size.result.1 ≡ c.args.joined.now.cols =
-        ap (λ (p : ℕ × ℕ). p.1) c.cell_and_size-size.ensures ∙ sym c.requires.cols in
+    ap (λ (p : ℕ × ℕ). p.1) c.cell_and_size-size.ensures ∙ sym c.requires.cols in
     let passed : c.is_column_part.result ≡ true = search rules in
     record {
       row = omega (arith, c.loop-j.invariant.row, width-next below j inside);
@@ -66,7 +66,7 @@ returns-then-not-is_column_part c =
     let inside : j < length below = omega arith in
     let A = matrix_of c.args.joined.now in
     let w : c.cell_and_size-size.result.1 ≡ c.args.joined.now.cols =
-        ap (λ (p : ℕ × ℕ). p.1) c.cell_and_size-size.ensures ∙ sym c.requires.cols in
+    ap (λ (p : ℕ × ℕ). p.1) c.cell_and_size-size.ensures ∙ sym c.requires.cols in
     let failed : c.is_column_part.result ≡ false = search rules in (
       λ a. let e : false ≡ true = a in cc,
       λ a.

@@ -17,7 +17,7 @@ is_row_part-requires-clause-width c = sym (c.requires.sized c.loop-i.i (0, 0) (o
 pub is_row_part-requires-clause-rows : goal.is_row_part-requires-clause-rows
 is_row_part-requires-clause-rows c =
     let h : c.cell_and_size-height.result.1 ≡ size_of c.args.self.now.live c.args.y =
-        ap (λ (p : ℕ × ℕ). p.1) c.cell_and_size-height.ensures in
+    ap (λ (p : ℕ × ℕ). p.1) c.cell_and_size-height.ensures in
     omega (arith, h, c.requires.rows)
 
 pub is_row_part-requires-clause-cols : goal.is_row_part-requires-clause-cols
@@ -43,7 +43,7 @@ loop-i-preserved c =
     let inside : i < length left = omega arith in
     let A = matrix_of c.args.joined.now in
     let h : c.cell_and_size-height.result.1 ≡ c.args.joined.now.rows =
-        ap (λ (p : ℕ × ℕ). p.1) c.cell_and_size-height.ensures ∙ sym c.requires.rows in
+    ap (λ (p : ℕ × ℕ). p.1) c.cell_and_size-height.ensures ∙ sym c.requires.rows in
     let passed : c.is_row_part.result ≡ true = search rules in
     record {
       col = omega (arith, c.loop-i.invariant.col, width-next left i inside);
@@ -66,7 +66,7 @@ returns-then-not-is_row_part c =
     let inside : i < length left = omega arith in
     let A = matrix_of c.args.joined.now in
     let h : c.cell_and_size-height.result.1 ≡ c.args.joined.now.rows =
-        ap (λ (p : ℕ × ℕ). p.1) c.cell_and_size-height.ensures ∙ sym c.requires.rows in
+    ap (λ (p : ℕ × ℕ). p.1) c.cell_and_size-height.ensures ∙ sym c.requires.rows in
     let failed : c.is_row_part.result ≡ false = search rules in (
       λ a. let e : false ≡ true = a in cc,
       λ a.
