@@ -1,7 +1,0 @@
-//! Tests of slots.
-#![tactic(auto)]
-
-#[cfg(test)]
-mod samples;
-#[cfg(test)]
-mod slot_tests;
