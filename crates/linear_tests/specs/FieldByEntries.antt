@@ -3,7 +3,7 @@ use Rattle.dense_blocks.specs.Field.{Ops}
 use Rattle.dense_blocks.specs.FieldLaws.{IsField}
 use Rattle.field_table.specs.Table.{ops_of}
 use Rattle.field_table.specs.TableLaws.{table_is_field}
-use Rattle.linear_tests.specs.declared.kernels.ByEntries.{ByEntries}
+use Rattle.linear_tests.specs.declared.by_entries.ByEntries.{ByEntries}
 
 abbrev pub by_entries : ByEntries → Ops
 by_entries f = ops_of f.field

@@ -1,42 +1,9 @@
 //! The calls on slices of the fields of the table, beside those that go entry by entry.
+use crate::by_entries::ByEntries;
 use dense_blocks::{Scalars, all_scalars};
 use field_table::Field;
 use std::alloc::{AllocError as NoMemory, Global};
 use std::process::Abort;
-
-// A field by its calls on scalars alone: on slices it has the calls of the trait.
-#[derive(Clone, Copy)]
-struct ByEntries {
-    field: Field,
-}
-
-impl Scalars for ByEntries {
-    ghost use Rattle.linear_tests.specs.FieldByEntries.{by_entries, by_entries_is_field};
-
-    ghost ops = { by_entries };
-
-    ghost is_field = { by_entries_is_field };
-
-    fn order(&self) -> u32 {
-        self.field.order()
-    }
-
-    fn add(&self, a: u8, b: u8) -> u8 {
-        self.field.add(a, b)
-    }
-
-    fn neg(&self, a: u8) -> u8 {
-        self.field.neg(a)
-    }
-
-    fn mul(&self, a: u8, b: u8) -> u8 {
-        self.field.mul(a, b)
-    }
-
-    fn inv(&self, a: u8) -> u8 {
-        self.field.inv(a)
-    }
-}
 
 // Five entries plus the combination of nine rows: two times four, and one more.
 fn combine<F: Scalars>(

@@ -3,6 +3,7 @@
 
 #[cfg(test)]
 mod blocks;
+mod by_entries;
 #[cfg(test)]
 mod cochains;
 #[cfg(test)]
