@@ -1,5 +1,0 @@
-use Rattle.equivalences.proofs.ReductionLaws as laws
-use Rattle.equivalences.proofs.laws.after_is_by_removals.Goals as goal
-
-pub returns : goal.returns
-returns c = laws.after_is_by_removals

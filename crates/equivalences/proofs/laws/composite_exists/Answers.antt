@@ -1,5 +1,0 @@
-use Rattle.equivalences.proofs.CompositeLaws as laws
-use Rattle.equivalences.proofs.laws.composite_exists.Goals as goal
-
-pub returns : goal.returns
-returns c = laws.composite_exists

@@ -1,5 +1,0 @@
-use Rattle.equivalences.proofs.ReductionLaws as laws
-use Rattle.equivalences.proofs.laws.pairs_give_equivalence.Goals as goal
-
-pub returns : goal.returns
-returns c = laws.pairs_give_equivalence
