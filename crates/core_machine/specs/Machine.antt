@@ -15,7 +15,10 @@ use Rattle.sheaf_words.specs.declared.reply.Reply.{Reply as Answer}
 use Rattle.sheaf_words.specs.declared.event.Event.{Event}
 use Rattle.sheaf_words.specs.declared.event.Event.TheVariants.{Edit, Ask, Pair, Reply}
 use Rattle.edit_versions.specs.Verdicts.{IsVerdict, IsEdited}
-use Rattle.core_machine.specs.Replies.{IsRightReply}
+use Rattle.block_complexes.specs.BlockComplexes.{HaveSameMatrices}
+use Rattle.removals.specs.Reductions.{IsAfter, IsInvertibleAt, IsIrreducible}
+use Rattle.coboundary.specs.Start.{start_complex}
+use Rattle.core_machine.specs.Replies.{Reduction, IsRightReply}
 
 -- ---- states
 
@@ -75,42 +78,71 @@ pub record AskStep {F : Type 0} (scripts : List (List Command)) (c : ℕ) (s t :
   pub lanes : t.lanes ≡ with_lane s.lanes c (waiting_lane position version)
   pub pairs : t.pairs ≡ update nat_eq s.pairs version (Some (unwrap_or (s.pairs version) []))
 
--- client c waits for an answer on a version, and the reply is right for the whole complex of the sheaf there
+-- r is the reduction of version v: of its sheaf, by the pairs that have been removed from its start complex
+pub record IsReductionOf {F : Type 0} (K : Ops) (s : State F) (v : ℕ) (r : Reduction) : Type 0 where
+  pub sheaf : SheafData F
+  pub version : slice_get s.sheaves v ≡ Some sheaf
+  pub whole : r.whole ≡ cochain_complex_of K sheaf.complex sheaf.stalks sheaf.blocks
+  pub degrees : r.degrees ≡ degree_count sheaf.complex.dims
+  pub start : HaveSameMatrices (start_complex K sheaf.complex sheaf.stalks sheaf.blocks) r.start
+  pub removed : s.pairs v ≡ Some r.pairs
+  pub rest : IsAfter K r.start r.pairs r.rest
+
+-- version v was asked, and in what is left of its start complex the matrix from x to y is invertible: the pair is
+-- removed
+pub record PairStep {F : Type 0} (K : Ops) (v x y : ℕ) (s t : State F) : Type 0 where
+  pub reduction : Reduction
+  pub asked : IsReductionOf K s v reduction
+  pub invertible : IsInvertibleAt K reduction.rest x y
+  pub versions : t.sheaves ≡ s.sheaves
+  pub lanes : t.lanes ≡ s.lanes
+  pub pairs : t.pairs ≡ update nat_eq s.pairs v (Some (reduction.pairs ++ (x, y) ∷ []))
+
+-- client c waits for an answer on a version; of its start complex is left what no pair can be removed from, and the
+-- reply is right
 pub record ReplyStep {F : Type 0} (K : Ops) (scripts : List (List Command)) (c : ℕ) (reply : Answer) (s t : State F) :
     Type 0 where
   pub position : ℕ
   pub query : Query
   pub version : ℕ
-  pub sheaf : SheafData F
+  pub reduction : Reduction
   pub is_waiting : s.lanes c ≡ waiting_lane position version
   pub command : command_at scripts c position ≡ Some (commands.Ask query)
-  pub asked : slice_get s.sheaves version ≡ Some sheaf
-  pub right : IsRightReply K (cochain_complex_of K sheaf.complex sheaf.stalks sheaf.blocks)
-      (degree_count sheaf.complex.dims) query reply
+  pub asked : IsReductionOf K s version reduction
+  pub irreducible : IsIrreducible K reduction.rest
+  pub right : IsRightReply K reduction query reply
   pub versions : t.sheaves ≡ s.sheaves
   pub lanes : t.lanes ≡ with_lane s.lanes c (free_lane (position + 1))
   pub pairs : t.pairs ≡ s.pairs
 
--- the event leads from state s to state t; for now no pair of cells is removed
+-- the event leads from state s to state t
 abbrev pub Step : {F : Type 0} → Ops → List (List Command) → Event → State F → State F → Type 0
 Step K scripts (Edit c verdict) s t = EditStep K scripts c verdict s t
 Step K scripts (Ask c) s t = AskStep scripts c s t
-Step K scripts (Pair v x y) s t = ⊥
+Step K scripts (Pair v x y) s t = PairStep K v x y s t
 Step K scripts (Reply c reply) s t = ReplyStep K scripts c reply s t
 
 -- ---- runs
 
--- the events lead, one after the other, from state s to state t
-abbrev pub Leads : {F : Type 0} → Ops → List (List Command) → List Event → State F → State F → Type 0
-Leads K scripts [] s t = s ≡ t
-Leads {F} K scripts (event ∷ events) s t = (m : State F) × Step K scripts event s m × Leads K scripts events m t
+-- the events lead by such steps, one after the other, from state s to state t
+abbrev pub Leads : {F : Type 0} → (Event → State F → State F → Type 0) → List Event → State F → State F → Type 0
+Leads IsStep [] s t = s ≡ t
+Leads {F} IsStep (event ∷ events) s t = (m : State F) × IsStep event s m × Leads IsStep events m t
 
--- the events are one legal order of all commands of these scripts on this sheaf, whole: they lead from the state that
--- has this one version, with nothing done, pending or asked, to one with each script done and nothing pending
-pub record IsLegalAndWhole {F : Type 0} (K : Ops) (scripts : List (List Command)) (sheaf : SheafData F)
-    (events : List Event) : Type 0 where
+-- all commands of client c are done, and it waits for nothing
+abbrev pub IsDone : List (List Command) → (ℕ → Lane) → ℕ → Type 0
+IsDone scripts lanes c = (script : List Command) → slice_get scripts c ≡ Some script
+    → lanes c ≡ free_lane (length script)
+
+-- the events lead by such steps from the state that has this one version, with nothing done, pending or asked, to one
+-- in which all commands of these scripts are done
+pub record IsWholeOrder {F : Type 0} (IsStep : Event → State F → State F → Type 0) (scripts : List (List Command))
+    (sheaf : SheafData F) (events : List Event) : Type 0 where
   pub last : State F
-  pub legal : Leads K scripts events
+  pub legal : Leads IsStep events
       (record { sheaves = sheaf ∷ []; lanes = λ c. free_lane 0; pairs = λ v. None }) last
-  pub whole : (c : ℕ) (script : List Command) → slice_get scripts c ≡ Some script
-      → last.lanes c ≡ free_lane (length script)
+  pub whole : (c : ℕ) → IsDone scripts last.lanes c
+
+-- the events are one legal order of all commands of these scripts on this sheaf, whole
+abbrev pub IsLegalAndWhole : {F : Type 0} → Ops → List (List Command) → SheafData F → List Event → Type 0
+IsLegalAndWhole {F} K scripts sheaf events = IsWholeOrder (Step {F} K scripts) scripts sheaf events

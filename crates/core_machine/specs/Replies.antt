@@ -1,14 +1,64 @@
 -- Which reply is right for a question.
-use Rattle.std.specs.Prelude.{ℕ}
+use Rattle.std.specs.Prelude.{◌≡◌, ℕ, suc, List, [], Some, length, slice_get}
+use Rattle.std.specs.Option.{option_map_or}
 use Rattle.dense_blocks.specs.Field.{Ops}
-use Rattle.cochain_vec.specs.Complexes.{CellularComplex}
+use Rattle.dense_blocks.specs.Blocks.{matrix_of}
+use Rattle.dense_blocks.specs.LinearMaps.{IsMatrixOf}
+use Rattle.dense_blocks.specs.declared.block.Block.{Block}
+use Rattle.cochain_vec.specs.Complexes.{CellularComplex, coordinates, coboundary}
 use Rattle.cochain_vec.specs.Cohomology.{AreDimensions}
+use Rattle.block_complexes.specs.BlockComplexes.{BlockComplex}
+use Rattle.block_complexes.specs.Cochains.{complex_of}
+use Rattle.equivalence_laws.specs.Equivalences.{GradedMatrix, IsEquivalence}
 use Rattle.sheaf_words.specs.declared.query.Query.{Query}
 use Rattle.sheaf_words.specs.declared.query.Query.TheVariants as queries
+use Rattle.sheaf_words.specs.declared.reply.Reduced.{Reduced}
+use Rattle.sheaf_words.specs.declared.reply.Maps.{Maps}
 use Rattle.sheaf_words.specs.declared.reply.Reply.{Reply}
 use Rattle.sheaf_words.specs.declared.reply.Reply.TheVariants as replies
 
--- the reply is right for the question on the complex C, with cells of so many degrees: a line for each kind of reply
-abbrev pub IsRightReply : Ops → CellularComplex → ℕ → Query → Reply → Type 0
-IsRightReply K C degrees queries.Betti (replies.Betti numbers) = AreDimensions K C degrees numbers
-IsRightReply K C degrees query reply = ⊥
+-- the whole complex of a version, with cells of so many degrees; its start complex, the pairs of cells that were removed
+-- from it, in order, and what is left
+pub record Reduction : Type 0 where
+  pub whole : CellularComplex
+  pub degrees : ℕ
+  pub start : BlockComplex
+  pub pairs : List (ℕ × ℕ)
+  pub rest : BlockComplex
+
+-- the matrix at each degree: that of the block there, and none, without rows, where there is no block
+abbrev pub graded_matrix : List Block → GradedMatrix
+graded_matrix blocks k = option_map_or matrix_of (slice_get blocks k) []
+
+-- a block for each of so many degrees, from 0 on: that of degree k has m k rows and n k columns
+pub record AreGradedBlocks (degrees : ℕ) (m n : ℕ → ℕ) (blocks : List Block) : Type 0 where
+  pub one_each : length blocks ≡ degrees
+  pub rows : (k : ℕ) (b : Block) → slice_get blocks k ≡ Some b → b.rows ≡ m k
+  pub columns : (k : ℕ) (b : Block) → slice_get blocks k ≡ Some b → b.cols ≡ n k
+
+-- the pairs that were removed; the cells that are left; and in each degree the matrix of their coboundary
+pub record IsRightReduced (K : Ops) (r : Reduction) (reply : Reduced) : Type 0 where
+  pub pairs : reply.pairs ≡ r.pairs
+  pub live : reply.live ≡ r.rest.live
+  pub shapes : AreGradedBlocks r.degrees (λ k. coordinates (complex_of r.rest) (suc k)) (coordinates (complex_of r.rest))
+      reply.d
+  pub matrices : (k : ℕ) → IsMatrixOf K (coordinates (complex_of r.rest) (suc k)) (coordinates (complex_of r.rest) k)
+      (coboundary K (complex_of r.rest) k) (graded_matrix reply.d k)
+
+-- the cells of the start complex; and matrices that make it equivalent to what is left
+pub record AreRightMaps (K : Ops) (r : Reduction) (maps : Maps) : Type 0 where
+  pub base : maps.base ≡ r.start.live
+  pub pi_shapes : AreGradedBlocks r.degrees (coordinates (complex_of r.rest)) (coordinates (complex_of r.start)) maps.pi
+  pub iota_shapes : AreGradedBlocks r.degrees (coordinates (complex_of r.start)) (coordinates (complex_of r.rest))
+      maps.iota
+  pub h_shapes : AreGradedBlocks r.degrees (coordinates (complex_of r.start))
+      (λ k. coordinates (complex_of r.start) (suc k)) maps.h
+  pub equivalence : IsEquivalence K (complex_of r.start) (complex_of r.rest)
+      (graded_matrix maps.pi) (graded_matrix maps.iota) (graded_matrix maps.h)
+
+-- the reply is right for the question on the version: a line for each kind of reply
+abbrev pub IsRightReply : Ops → Reduction → Query → Reply → Type 0
+IsRightReply K r queries.Betti (replies.Betti numbers) = AreDimensions K r.whole r.degrees numbers
+IsRightReply K r queries.Reduce (replies.Reduce reply) = IsRightReduced K r reply
+IsRightReply K r queries.Equiv (replies.Equiv reply maps) = IsRightReduced K r reply × AreRightMaps K r maps
+IsRightReply K r query reply = ⊥
