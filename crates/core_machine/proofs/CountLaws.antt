@@ -6,9 +6,7 @@ use Rattle.std.proofs.lemmas.Option.{slice_get_within, same_Some, none-some}
 use Rattle.std.proofs.lemmas.Bool.{eqb-true}
 use Rattle.std.specs.Prelude.{option_and_then}
 use Rattle.dense_blocks.specs.Field.{Ops}
-use Rattle.cochain_vec.specs.Complexes.{CellularComplex}
 use Rattle.sheaf_data.specs.Sheaves.{SheafData}
-use Rattle.sheaf_data.specs.Betti.{cochain_complex_of, degree_count}
 use Rattle.sheaf_words.specs.declared.query.Query.{Query}
 use Rattle.sheaf_words.specs.declared.query.Query.TheVariants as queries
 use Rattle.sheaf_words.specs.declared.query.Command.{Command}
@@ -23,9 +21,10 @@ use Rattle.reply_text.specs.ClientEvents.{IsAnswerTo, IfPresent, IsAnswered, IsO
 use Rattle.reply_text.specs.Transcripts.{ends_for, is_accepted, ended_count}
 use Rattle.reply_text.specs.Parts.{current_version, asked_version}
 use Rattle.reply_text.proofs.Counting.{count-more, asked-more}
-use Rattle.core_machine.specs.Replies.{IsRightReply}
+use Rattle.core_machine.specs.Replies.{Reduction, IsRightReply}
 use Rattle.core_machine.specs.Machine.{Lane, State, free_lane, waiting_lane, command_at, with_lane}
-use Rattle.core_machine.specs.Machine.{AreVersionsAfter, EditStep, AskStep, ReplyStep, Step, Leads}
+use Rattle.core_machine.specs.Machine.{AreVersionsAfter, EditStep, AskStep, PairStep, ReplyStep, Step}
+use Rattle.core_machine.specs.Machine.{Leads}
 use Rattle.core_machine.specs.Legal.{first_state, IsLegal}
 use Rattle.core_machine.specs.Counts.{lane_position, lane_pending, IsCounted}
 
@@ -105,6 +104,17 @@ counted-ask scripts events c s t step h = record {
     version : step.version ≡ current_version events
     version = omega (arith, step.current, h.current)
 
+counted-pair : {F : Type 0} (K : Ops) (events : List Event) (v x y : ℕ) (s t : State F)
+    → PairStep K v x y s t → IsCounted events s → IsCounted (events ++ Pair v x y ∷ []) t
+counted-pair K events v x y s t step h = record {
+  current = ap length step.versions ∙ h.current
+      ∙ ap (λ n. n + 1) (omega arith ∙ sym (count-more is_accepted events (Pair v x y)));
+  positions = λ d. ap (λ lanes. lane_position (lanes d)) step.lanes ∙ h.positions d ∙ omega arith
+      ∙ sym (count-more (ends_for d) events (Pair v x y));
+  pendings = λ d w is. h.pendings d w (sym (ap (λ lanes. lane_pending (lanes d)) step.lanes) ∙ is)
+      ∙ sym (asked-more d events (Pair v x y));
+}
+
 counted-reply : {F : Type 0} (K : Ops) (scripts : List (List Command)) (events : List Event) (c : ℕ) (r : Answer)
     (s t : State F)
     → ReplyStep K scripts c r s t → IsCounted events s → IsCounted (events ++ Reply c r ∷ []) t
@@ -124,13 +134,13 @@ counted-step : {F : Type 0} (K : Ops) (scripts : List (List Command)) (events : 
     → Step K scripts event s t → IsCounted events s → IsCounted (events ++ event ∷ []) t
 counted-step K scripts events (Edit c verdict) s t step h = counted-edit K scripts events c verdict s t step h
 counted-step K scripts events (Ask c) s t step h = counted-ask scripts events c s t step h
-counted-step K scripts events (Pair v x y) s t step h = absurd step
+counted-step K scripts events (Pair v x y) s t step h = counted-pair K events v x y s t step h
 counted-step K scripts events (Reply c r) s t step h = counted-reply K scripts events c r s t step h
 
 -- ---- all steps
 
 counted-from : {F : Type 0} (K : Ops) (scripts : List (List Command)) (earlier events : List Event) (s t : State F)
-    → Leads K scripts events s t → IsCounted earlier s → IsCounted (earlier ++ events) t
+    → Leads (Step {F} K scripts) events s t → IsCounted earlier s → IsCounted (earlier ++ events) t
 counted-from K scripts earlier [] s t leads h =
     subst (λ es. IsCounted es t) (sym (append-nil earlier)) (subst (IsCounted earlier) leads h)
 counted-from K scripts earlier (event ∷ events) s t leads h =
@@ -168,10 +178,12 @@ inside scripts c p command there = go (slice_get scripts c) refl there
     go None e h = absurd (none-some command h)
     go (Some script) e h = slice_get_within scripts c script e
 
-right-answers : (K : Ops) (C : CellularComplex) (degrees c : ℕ) (q : Query) (r : Answer)
-    → IsRightReply K C degrees q r → IsAnswerTo (commands.Ask q) (Reply c r)
-right-answers K C degrees c queries.Betti (replies.Betti numbers) right = tt
-right-answers K C degrees c q r right = absurd right
+right-answers : (K : Ops) (reduction : Reduction) (c : ℕ) (q : Query) (r : Answer)
+    → IsRightReply K reduction q r → IsAnswerTo (commands.Ask q) (Reply c r)
+right-answers K reduction c queries.Betti (replies.Betti numbers) right = tt
+right-answers K reduction c queries.Reduce (replies.Reduce reduced) right = tt
+right-answers K reduction c queries.Equiv (replies.Equiv reduced maps) right = tt
+right-answers K reduction c q r right = absurd right
 
 of-step : {F : Type 0} (K : Ops) (scripts : List (List Command)) (events : List Event) (event : Event) (s t : State F)
     → Step K scripts event s t → IsCounted events s → IsOf scripts events event
@@ -183,12 +195,10 @@ of-step K scripts events (Pair v x y) s t step h = tt
 of-step K scripts events (Reply c r) s t step h =
     answered scripts events c step.position (commands.Ask step.query) (Reply c r)
     (sym (ap lane_position step.is_waiting) ∙ h.positions c) step.command
-    (right-answers K
-    (cochain_complex_of K step.sheaf.complex step.sheaf.stalks step.sheaf.blocks)
-    (degree_count step.sheaf.complex.dims) c step.query r step.right)
+    (right-answers K step.reduction c step.query r step.right)
 
 of-from : {F : Type 0} (K : Ops) (scripts : List (List Command)) (earlier events : List Event) (s t : State F)
-    → Leads K scripts events s t → IsCounted earlier s
+    → Leads (Step {F} K scripts) events s t → IsCounted earlier s
     → (i : ℕ) (event : Event) → slice_get events i ≡ Some event → IsOf scripts (earlier ++ take i events) event
 of-from K scripts earlier [] s t leads h i event at = absurd (none-some event at)
 of-from K scripts earlier (first ∷ events) s t leads h zero event at =
@@ -207,9 +217,9 @@ events_are_answers K scripts sheaf events s reaches i event at = of-from K scrip
 
 -- ---- one event more
 
-pub leads-more : {F : Type 0} (K : Ops) (scripts : List (List Command)) (events : List Event) (event : Event)
+pub leads-more : {F : Type 0} (IsStep : Event → State F → State F → Type 0) (events : List Event) (event : Event)
     (s m t : State F)
-    → Leads K scripts events s m → Step K scripts event m t → Leads K scripts (events ++ event ∷ []) s t
-leads-more K scripts [] event s m t leads step = (t, subst (λ x. Step K scripts event x t) (sym leads) step, refl)
-leads-more K scripts (first ∷ events) event s m t leads step =
-    (leads.0, leads.1, leads-more K scripts events event leads.0 m t leads.2 step)
+    → Leads IsStep events s m → IsStep event m t → Leads IsStep (events ++ event ∷ []) s t
+leads-more IsStep [] event s m t leads step = (t, subst (λ x. IsStep event x t) (sym leads) step, refl)
+leads-more IsStep (first ∷ events) event s m t leads step =
+    (leads.0, leads.1, leads-more IsStep events event leads.0 m t leads.2 step)

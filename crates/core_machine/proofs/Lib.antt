@@ -1,2 +1,4 @@
 pub mod CountLaws
 pub mod SheafLaws
+pub mod ReplyLaws
+pub mod SoloLaws
