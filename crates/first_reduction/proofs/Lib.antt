@@ -1,0 +1,3 @@
+mod WorkLaws
+mod FirstLaws
+mod StandingLaws
