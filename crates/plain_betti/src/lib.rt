@@ -8,4 +8,5 @@ mod arrows;
 mod cells;
 mod numbers;
 
+pub use cells::degree_count;
 pub use numbers::betti;

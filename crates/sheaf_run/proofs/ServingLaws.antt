@@ -1,18 +1,26 @@
--- Clients that are served one after the other make a legal order.
-use Rattle.std.proofs.Common.{◌≡◌, ℕ, ◌+◌, Bool, true, false, ◌==◌, if◌then◌else◌, nat_lt, List, [], ◌∷◌, ◌++◌}
-use Rattle.std.proofs.Common.{length, slice_get, slice_index_or, Some, refl, sym, ap, ap₂, subst}
-use Rattle.std.proofs.Common.{◌∙◌, arith, length-append, All}
+-- Clients that are served one after the other make a solo order.
+use Rattle.std.proofs.Common.{◌≡◌, ℕ, ◌+◌, ◌<◌, Bool, true, false, ◌==◌, if◌then◌else◌, nat_lt, List, [], ◌∷◌, ◌++◌}
+use Rattle.std.proofs.Common.{length, slice_get, slice_index_or, Option, Some, None, refl, sym, ap, ap₂, subst}
+use Rattle.std.proofs.Common.{inl, inr, ◌∙◌, arith, length-append, append_nil, append_assoc, All}
 use Rattle.std.specs.Prelude.{unwrap_or, nat_eq}
 use Rattle.std.specs.Map.{update}
 use Rattle.std.proofs.lemmas.List.Elements.{All-weaker}
 use Rattle.std.proofs.lemmas.Option.{slice_get_within, get_or_from_slice_get}
-use Rattle.std.proofs.lemmas.Bool.{eqb-true, eqb-false, eq-eqb, ltb-true, ltb-false, lt-ltb, le-ltb}
+use Rattle.std.proofs.lemmas.Bool.{eqb-true, eqb-false, eq-eqb, ne_eqb, ltb-true, ltb-false, lt-ltb, le-ltb}
 use Rattle.dense_blocks.specs.Field.{Ops}
 use Rattle.field_table.specs.declared.field.Field.{Field}
 use Rattle.field_table.specs.Table.{ops_of}
+use Rattle.block_complexes.specs.BlockComplexes.{BlockComplex, HaveSameMatrices}
+use Rattle.block_complexes.proofs.SameLaws.{same-refl}
+use Rattle.removals.specs.Reductions.{IsAfter}
+use Rattle.block_sparse.specs.StoredBlocks.{complex_in}
+use Rattle.coboundary.specs.Start.{start_complex}
+use Rattle.reduce_step.specs.Logs.{pairs_of}
+use Rattle.pair_commit.specs.Slots.{SlotValue}
+use Rattle.first_reduction.specs.FirstPairs.{IsFirstReduction}
+use Rattle.first_reduction.proofs.FirstLaws.{removed-more, reduction-after, reduction-irreducible}
 use Rattle.sheaf_data.specs.Sheaves.{SheafData}
 use Rattle.sheaf_data.specs.Betti.{cochain_complex_of, degree_count}
-use Rattle.sheaf_data.specs.BettiNumbers.{AreBetti}
 use Rattle.sheaf_words.specs.declared.query.Query.{Query}
 use Rattle.sheaf_words.specs.declared.query.Query.TheVariants as queries
 use Rattle.sheaf_words.specs.declared.query.Command.{Command}
@@ -21,17 +29,19 @@ use Rattle.sheaf_words.specs.declared.edit.Edit.{Edit as Change}
 use Rattle.sheaf_words.specs.declared.edit.Verdict.{Verdict}
 use Rattle.sheaf_words.specs.declared.edit.Verdict.TheVariants.{Accepted, Refused}
 use Rattle.sheaf_words.specs.declared.reply.Reply.{Reply as Answer}
-use Rattle.sheaf_words.specs.declared.reply.Reply.TheVariants as replies
 use Rattle.sheaf_words.specs.declared.event.Event.{Event}
-use Rattle.sheaf_words.specs.declared.event.Event.TheVariants.{Edit, Ask, Reply}
+use Rattle.sheaf_words.specs.declared.event.Event.TheVariants.{Edit, Ask, Pair, Reply}
 use Rattle.edit_versions.specs.Verdicts.{IsVerdict, IsEdited}
-use Rattle.core_machine.specs.Replies.{IsRightReply}
+use Rattle.core_machine.specs.Replies.{Reduction, IsRightReply}
 use Rattle.core_machine.specs.Machine.{Lane, State, free_lane, waiting_lane, command_at, with_lane, EditStep, AskStep}
-use Rattle.core_machine.specs.Machine.{ReplyStep, IsLegalAndWhole}
+use Rattle.core_machine.specs.Machine.{PairStep, ReplyStep, Leads, IsDone}
 use Rattle.core_machine.specs.Legal.{first_state}
+use Rattle.core_machine.specs.Solo.{SoloStep, IsSoloOrder, HasCompositeMaps}
 use Rattle.core_machine.proofs.CountLaws.{leads-more}
 use Rattle.sheaf_text.specs.Answers.{IsServable, AreServable}
-use Rattle.sheaf_run.specs.Sessions.{Progress, IsSessionCommand, IsSheafAfter, IsJudged, position_of, IsProgress}
+use Rattle.sheaf_run.specs.Sessions.{Progress, IsSessionCommand, IsProgressAfter, IsJudged, position_of, IsProgress}
+use Rattle.sheaf_run.specs.Sessions.{IsWaiting, IsSheafReduction, IsSoloReply, IsSoloAnswer, IsFirstAsked, IsReducedFrom}
+use Rattle.sheaf_run.specs.Sessions.{removed_pairs, pair_events, version_reduction, IsKnownReduction}
 
 slice_get-last : {X : Type 0} (xs : List X) (x : X) → slice_get (xs ++ x ∷ []) (length xs) ≡ Some x
 slice_get-last [] x = refl
@@ -84,47 +94,95 @@ position-next scripts c d script there = go (nat_lt d c) (c == d) refl refl
         ∙ sym (ap (λ b. if b then length (slice_index_or scripts d []) else if (c + 1) == d then 0 else 0)
         (le-ltb d (c + 1) (omega (arith, ltb-false d c l, eqb-false c d e))))
 
+-- ---- lanes
+
+-- the clients before c have all of theirs done
+done-before : (scripts : List (List Command)) (c i d : ℕ) (lane : Lane) → d < c → lane ≡ free_lane (position_of scripts c i d)
+    → (script : List Command) → slice_get scripts d ≡ Some script → lane ≡ free_lane (length script)
+done-before scripts c i d lane l is script there =
+    is ∙ ap free_lane (
+    ap (λ b. if b then length (slice_index_or scripts d []) else if c == d then i else 0) (lt-ltb d c l)
+    ∙ ap length (get_or_from_slice_get scripts d script [] there))
+
+-- the lane of client c, which waits
+lane-waits : (lanes : ℕ → Lane) (c : ℕ) (lane : Lane) → with_lane lanes c lane c ≡ lane
+lane-waits lanes c lane = ap (λ b. if b then lane else lanes c) (eq-eqb c c refl)
+
+-- it no longer waits
+lane-over : (lanes : ℕ → Lane) (c : ℕ) (waits free : Lane) (d : ℕ)
+    → with_lane (with_lane lanes c waits) c free d ≡ with_lane lanes c free d
+lane-over lanes c waits free d = go (c == d)
+  where
+    go : (b : Bool) → (if b then free else if b then waits else lanes d) ≡ (if b then free else lanes d)
+    go true = refl
+    go false = refl
+
+lane-same : (lanes others : ℕ → Lane) (c d : ℕ) (lane : Lane) → ((e : ℕ) → lanes e ≡ others e)
+    → with_lane lanes c lane d ≡ with_lane others c lane d
+lane-same lanes others c d lane h = ap (λ l. if c == d then lane else l) (h d)
+
+-- ---- what was removed
+
+update-there : (pairs : ℕ → Option (List (ℕ × ℕ))) (v : ℕ) (o : Option (List (ℕ × ℕ)))
+    → update nat_eq pairs v o v ≡ o
+update-there pairs v o = ap (λ b. if b then o else pairs v) (eq-eqb v v refl)
+
+update-later : (pairs : ℕ → Option (List (ℕ × ℕ))) (v u : ℕ) (o : Option (List (ℕ × ℕ))) → v < u
+    → update nat_eq pairs v o u ≡ pairs u
+update-later pairs v u o l = ap (λ b. if b then o else pairs u) (ne_eqb v u (λ e. absurd (omega (arith, l, e))))
+
+leads-then : (K : Ops) (scripts : List (List Command)) (es fs : List Event) (s m t : State Field)
+    → Leads (SoloStep K scripts) es s m → Leads (SoloStep K scripts) fs m t → Leads (SoloStep K scripts) (es ++ fs) s t
+leads-then K scripts [] fs s m t h g = subst (λ x. Leads (SoloStep K scripts) fs x t) (sym h) g
+leads-then K scripts (e ∷ es) fs s m t h g = (h.0, h.1, leads-then K scripts es fs h.0 m t h.2 g)
+
 -- ---- steps
 
 -- the client's edit is judged
 pub judge-step : (scripts : List (List Command)) (start : SheafData Field) (c i : ℕ) (p : Progress) (e : Change)
-    (v : Verdict) (new : SheafData Field)
-    → command_at scripts c i ≡ Some (commands.Change e) → IsJudged p.sheaf e v new → IsProgress scripts start c i p
-    → IsProgress scripts start c (i + 1) (record { sheaf = new; events = p.events ++ Edit c v ∷ [] })
+    (v : Verdict) (new : Progress)
+    → command_at scripts c i ≡ Some (commands.Change e) → IsJudged p e v new → IsProgress scripts start c i p
+    → IsProgress scripts start c (i + 1) (record new { events = p.events ++ Edit c v ∷ [] })
 judge-step scripts start c i p e v new comes judged h = go v judged.after judged.judged
   where
     lanes : ℕ → Lane
     lanes = with_lane h.state.lanes c (free_lane (i + 1))
 
-    go : (w : Verdict) → IsSheafAfter p.sheaf e w new → IsVerdict (ops_of p.sheaf.field) p.sheaf e w
-        → IsProgress scripts start c (i + 1) (record { sheaf = new; events = p.events ++ Edit c w ∷ [] })
+    before : (d : ℕ) → d < c → IsDone scripts h.state.lanes d
+    before d l = done-before scripts c i d (h.state.lanes d) l (h.lanes_are d)
+
+    go : (w : Verdict) → IsProgressAfter p e w new → IsVerdict (ops_of p.sheaf.field) p.sheaf e w
+        → IsProgress scripts start c (i + 1) (record new { events = p.events ++ Edit c w ∷ [] })
     go Accepted edited is =
         let K : Ops = ops_of start.field in
-        let right : IsEdited K p.sheaf e new = subst (λ f. IsEdited (ops_of f) p.sheaf e new) h.field edited
-        in
+        let right : IsEdited K p.sheaf e new.sheaf = subst (λ f. IsEdited (ops_of f) p.sheaf e new.sheaf) h.field
+        edited.sheaf in
         let after : State Field =
-        record { sheaves = h.state.sheaves ++ new ∷ []; lanes = lanes; pairs = h.state.pairs } in
+        record { sheaves = h.state.sheaves ++ new.sheaf ∷ []; lanes = lanes; pairs = h.state.pairs } in
         let step : EditStep K scripts c Accepted h.state after = record {
           position = i;
           edit = e;
-          version = h.version;
+          version = p.version;
           sheaf = p.sheaf;
-          is_free = h.lanes c ∙ ap free_lane (position-here scripts c i);
+          is_free = h.lanes_are c ∙ ap free_lane (position-here scripts c i);
           command = comes;
           current = h.current;
           current_sheaf = h.current_sheaf;
           judged = subst (λ f. IsVerdict (ops_of f) p.sheaf e Accepted) h.field is;
-          versions = (new, right, refl);
+          versions = (new.sheaf, right, refl);
           lanes = refl;
           pairs = refl;
         } in record {
           state = after;
-          legal = leads-more K scripts p.events (Edit c Accepted) (first_state start) h.state after h.legal step;
-          version = length h.state.sheaves;
-          current = length-append h.state.sheaves (new ∷ []);
-          current_sheaf = slice_get-last h.state.sheaves new;
-          field = edited.field ∙ h.field;
-          lanes = λ d. position-more scripts h.state.lanes c i (i + 1) d (h.lanes d);
+          legal = leads-more (SoloStep K scripts) p.events (Edit c Accepted) (first_state start) h.state after h.legal
+              (step, before);
+          current = length-append h.state.sheaves (new.sheaf ∷ []) ∙ ap (λ n. n + 1) (h.current ∙ sym edited.version);
+          current_sheaf = subst (λ n. slice_get (h.state.sheaves ++ new.sheaf ∷ []) n ≡ Some new.sheaf)
+              (h.current ∙ sym edited.version) (slice_get-last h.state.sheaves new.sheaf);
+          field = edited.sheaf.field ∙ h.field;
+          lanes_are = λ d. position-more scripts h.state.lanes c i (i + 1) d (h.lanes_are d);
+          pairs_are = h.later new.version (omega (arith, edited.version)) ∙ ap removed_pairs (sym edited.slot);
+          later = λ u l. h.later u (omega (arith, edited.version, l));
         }
     go (Refused cause) same is =
         let K : Ops = ops_of start.field in
@@ -132,9 +190,9 @@ judge-step scripts start c i p e v new comes judged h = go v judged.after judged
         let step : EditStep K scripts c (Refused cause) h.state after = record {
           position = i;
           edit = e;
-          version = h.version;
+          version = p.version;
           sheaf = p.sheaf;
-          is_free = h.lanes c ∙ ap free_lane (position-here scripts c i);
+          is_free = h.lanes_are c ∙ ap free_lane (position-here scripts c i);
           command = comes;
           current = h.current;
           current_sheaf = h.current_sheaf;
@@ -142,106 +200,230 @@ judge-step scripts start c i p e v new comes judged h = go v judged.after judged
           versions = refl;
           lanes = refl;
           pairs = refl;
-        } in record {
+        } in
+        let events : List Event = p.events ++ Edit c (Refused cause) ∷ [] in
+        subst (λ q. IsProgress scripts start c (i + 1) (record q { events = events })) (sym same) (record {
           state = after;
-          legal = leads-more K scripts p.events (Edit c (Refused cause)) (first_state start) h.state after h.legal step;
-          version = h.version;
+          legal = leads-more (SoloStep K scripts) p.events (Edit c (Refused cause)) (first_state start) h.state after
+              h.legal (step, before);
           current = h.current;
-          current_sheaf = h.current_sheaf ∙ ap Some (sym same);
-          field = ap (λ (s : SheafData Field). s.field) same ∙ h.field;
-          lanes = λ d. position-more scripts h.state.lanes c i (i + 1) d (h.lanes d);
-        }
+          current_sheaf = h.current_sheaf;
+          field = h.field;
+          lanes_are = λ d. position-more scripts h.state.lanes c i (i + 1) d (h.lanes_are d);
+          pairs_are = h.pairs_are;
+          later = h.later;
+        })
 
--- the reply is right for a question on the sheaf
-abbrev IsRightOn : Ops → SheafData Field → Query → Answer → Type 0
-IsRightOn K d q r = IsRightReply K (cochain_complex_of K d.complex d.stalks d.blocks) (degree_count d.complex.dims) q r
-
--- the client's question is asked, and answered
-pub answer-step : (scripts : List (List Command)) (start : SheafData Field) (c i : ℕ) (p : Progress) (q : Query)
-    (r : Answer)
-    → command_at scripts c i ≡ Some (commands.Ask q) → IsRightOn (ops_of p.sheaf.field) p.sheaf q r
-    → IsProgress scripts start c i p
-    → IsProgress scripts start c (i + 1)
-    (record { sheaf = p.sheaf; events = (p.events ++ Ask c ∷ []) ++ Reply c r ∷ [] })
-answer-step scripts start c i p q r comes right h =
+-- the client's question is asked
+pub ask-step : (scripts : List (List Command)) (start : SheafData Field) (c i : ℕ) (p : Progress) (q : Query)
+    → command_at scripts c i ≡ Some (commands.Ask q) → IsProgress scripts start c i p
+    → IsWaiting scripts start c i (record p { events = p.events ++ Ask c ∷ [] })
+ask-step scripts start c i p q comes h =
     let K : Ops = ops_of start.field in
-    let v : ℕ = h.version in
+    let removed : List (ℕ × ℕ) = unwrap_or (h.state.pairs p.version) [] in
     let asking : State Field = record {
       sheaves = h.state.sheaves;
-      lanes = with_lane h.state.lanes c (waiting_lane i v);
-      pairs = update nat_eq h.state.pairs v (Some (unwrap_or (h.state.pairs v) []));
-    } in
-    let after : State Field = record {
-      sheaves = h.state.sheaves;
-      lanes = with_lane asking.lanes c (free_lane (i + 1));
-      pairs = asking.pairs;
+      lanes = with_lane h.state.lanes c (waiting_lane i p.version);
+      pairs = update nat_eq h.state.pairs p.version (Some removed);
     } in
     let ask : AskStep scripts c h.state asking = record {
       position = i;
       query = q;
-      version = v;
-      is_free = h.lanes c ∙ ap free_lane (position-here scripts c i);
+      version = p.version;
+      is_free = h.lanes_are c ∙ ap free_lane (position-here scripts c i);
       command = comes;
       current = h.current;
       versions = refl;
       lanes = refl;
       pairs = refl;
+    } in record {
+      state = asking;
+      legal = leads-more (SoloStep K scripts) p.events (Ask c) (first_state start) h.state asking h.legal
+          (ask, λ d l. done-before scripts c i d (h.state.lanes d) l (h.lanes_are d));
+      current = h.current;
+      current_sheaf = h.current_sheaf;
+      field = h.field;
+      lanes_are = λ d. lane-same h.state.lanes (λ d. free_lane (position_of scripts c i d)) c d
+          (waiting_lane i p.version) h.lanes_are;
+      pairs_are = update-there h.state.pairs p.version (Some removed)
+          ∙ ap (λ o. Some (unwrap_or o [])) h.pairs_are;
+      later = λ u l. update-later h.state.pairs p.version u (Some removed) l ∙ h.later u l;
+    }
+
+-- ---- the pairs of a version
+
+module _ (K : Ops) (scripts : List (List Command)) (d : SheafData Field) (v : ℕ) (start : BlockComplex)
+    (same : HaveSameMatrices (start_complex K d.complex d.stalks d.blocks) start) where
+  -- what stays, and these pairs
+  record HasPairs (s t : State Field) (pairs : List (ℕ × ℕ)) : Type 0 where
+    sheaves : t.sheaves ≡ s.sheaves
+    lanes : t.lanes ≡ s.lanes
+    there : t.pairs v ≡ Some pairs
+    later : (u : ℕ) → v < u → t.pairs u ≡ s.pairs u
+
+  reduction_at : List (ℕ × ℕ) → BlockComplex → Reduction
+  reduction_at pairs rest = record {
+    whole = cochain_complex_of K d.complex d.stalks d.blocks;
+    degrees = degree_count d.complex.dims;
+    start = start;
+    pairs = pairs;
+    rest = rest;
+  }
+
+  pairs-lead : (ps qs : List (ℕ × ℕ)) (m w : BlockComplex) (s : State Field) → slice_get s.sheaves v ≡ Some d
+      → s.pairs v ≡ Some ps → IsAfter K start ps m → IsFirstReduction K m qs w
+      → (t : State Field) × Leads (SoloStep K scripts) (pair_events v qs) s t × HasPairs s t (ps ++ qs)
+  pairs-lead ps [] m w s sheaf removed after r = (
+    s,
+    refl,
+    record {
+      sheaves = refl;
+      lanes = refl;
+      there = removed ∙ ap Some (sym (append_nil ps));
+      later = λ u l. refl;
+    },
+  )
+  pairs-lead ps (q ∷ qs) m w s sheaf removed after r =
+      let next = ps ++ (q.0, q.1) ∷ [] in
+      let middle : State Field = record {
+        sheaves = s.sheaves;
+        lanes = s.lanes;
+        pairs = update nat_eq s.pairs v (Some next);
+      } in
+      let removal = r.3 in
+      let step : PairStep K v q.0 q.1 s middle = record {
+        reduction = reduction_at ps m;
+        asked = record {
+          sheaf = d;
+          version = sheaf;
+          whole = refl;
+          degrees = refl;
+          start = same;
+          removed = removed;
+          rest = after;
+        };
+        invertible = (r.1, record { pair = removal.pair; square = removal.square; inverse = removal.inverse });
+        versions = refl;
+        lanes = refl;
+        pairs = refl;
+      } in
+      let rest = pairs-lead next qs r.0 w middle sheaf (update-there s.pairs v (Some next))
+      (removed-more K start m r.0 ps q.0 q.1 r.1 after removal) r.4 in (
+        rest.0,
+        (middle, (step, r.2), rest.1),
+        record {
+          sheaves = rest.2.sheaves;
+          lanes = rest.2.lanes;
+          there = rest.2.there ∙ ap Some (append_assoc ps (q ∷ []) qs);
+          later = λ u l. rest.2.later u l ∙ update-later s.pairs v u (Some next) l;
+        },
+      )
+
+-- the current version, which was not asked before, has been reduced
+pub reduce-step : (scripts : List (List Command)) (start : SheafData Field) (c i : ℕ) (p : Progress)
+    (slot : SlotValue Field) → p.slot ≡ None → IsSheafReduction p.sheaf slot → IsWaiting scripts start c i p
+    → IsWaiting scripts start c i
+    (record p { slot = Some slot; events = p.events ++ pair_events p.version (pairs_of slot.log) })
+reduce-step scripts start c i p slot none is h =
+    let K : Ops = ops_of start.field in
+    let right : IsSheafReduction (record p.sheaf { field = start.field }) slot = subst
+    (λ f. IsSheafReduction (record p.sheaf { field = f }) slot) h.field is in
+    let made = pairs-lead K scripts p.sheaf p.version (complex_in slot.base) right.start [] (pairs_of slot.log)
+    (complex_in slot.base) (complex_in slot.present) h.state h.current_sheaf
+    (h.pairs_are ∙ ap (λ o. Some (unwrap_or (removed_pairs o) [])) none) (same-refl (complex_in slot.base))
+    right.reduction in
+    record {
+      state = made.0;
+      legal = leads-then K scripts p.events (pair_events p.version (pairs_of slot.log)) (first_state start) h.state
+          made.0 h.legal made.1;
+      current = ap length made.2.sheaves ∙ h.current;
+      current_sheaf = ap (λ l. slice_get l p.version) made.2.sheaves ∙ h.current_sheaf;
+      field = h.field;
+      lanes_are = λ d. ap (λ lanes. lanes d) made.2.lanes ∙ h.lanes_are d;
+      pairs_are = made.2.there;
+      later = λ u l. made.2.later u l ∙ h.later u l;
+    }
+
+-- the question is answered
+pub reply-step : (scripts : List (List Command)) (start : SheafData Field) (c i : ℕ) (p : Progress)
+    (slot : SlotValue Field) (q : Query) (r : Answer)
+    → command_at scripts c i ≡ Some (commands.Ask q) → p.slot ≡ Some slot → IsSheafReduction p.sheaf slot
+    → IsSoloReply p.sheaf slot q r → IsWaiting scripts start c i p
+    → IsProgress scripts start c (i + 1) (record p { events = p.events ++ Reply c r ∷ [] })
+reply-step scripts start c i p slot q r comes there is right h =
+    let K : Ops = ops_of start.field in
+    let after : State Field = record {
+      sheaves = h.state.sheaves;
+      lanes = with_lane h.state.lanes c (free_lane (i + 1));
+      pairs = h.state.pairs;
     } in
-    let reply : ReplyStep K scripts c r asking after = record {
+    let own : IsSheafReduction (record p.sheaf { field = start.field }) slot = subst
+    (λ f. IsSheafReduction (record p.sheaf { field = f }) slot) h.field is in
+    let good : IsSoloReply (record p.sheaf { field = start.field }) slot q r = subst
+    (λ f. IsSoloReply (record p.sheaf { field = f }) slot q r) h.field right in
+    let reply : ReplyStep K scripts c r h.state after = record {
       position = i;
       query = q;
-      version = v;
-      sheaf = p.sheaf;
-      is_waiting = ap (λ b. if b then waiting_lane i v else h.state.lanes c) (eq-eqb c c refl);
+      version = p.version;
+      reduction = version_reduction (record p.sheaf { field = start.field }) slot;
+      is_waiting = h.lanes_are c
+          ∙ lane-waits (λ d. free_lane (position_of scripts c i d)) c (waiting_lane i p.version);
       command = comes;
-      asked = h.current_sheaf;
-      right = subst (λ f. IsRightOn (ops_of f) p.sheaf q r) h.field right;
+      asked = record {
+        sheaf = p.sheaf;
+        version = h.current_sheaf;
+        whole = refl;
+        degrees = refl;
+        start = own.start;
+        removed = h.pairs_are ∙ ap (λ o. Some (unwrap_or (removed_pairs o) [])) there;
+        rest = reduction-after K (complex_in slot.base) (complex_in slot.present) (pairs_of slot.log) own.reduction;
+      };
+      irreducible =
+          reduction-irreducible K (complex_in slot.base) (complex_in slot.present) (pairs_of slot.log) own.reduction;
+      right = good.right;
       versions = refl;
       lanes = refl;
       pairs = refl;
     } in record {
       state = after;
-      legal = leads-more K scripts (p.events ++ Ask c ∷ []) (Reply c r) (first_state start) asking after
-          (leads-more K scripts p.events (Ask c) (first_state start) h.state asking h.legal ask) reply;
-      version = h.version;
+      legal = leads-more (SoloStep K scripts) p.events (Reply c r) (first_state start) h.state after h.legal
+          (reply, good.composite);
       current = h.current;
       current_sheaf = h.current_sheaf;
       field = h.field;
-      lanes = λ d. over d (c == d) refl ∙ position-more scripts h.state.lanes c i (i + 1) d (h.lanes d);
+      lanes_are = λ d.
+          lane-same h.state.lanes (with_lane (λ d. free_lane (position_of scripts c i d)) c (waiting_lane i p.version)) c d
+          (free_lane (i + 1)) h.lanes_are
+          ∙ lane-over (λ d. free_lane (position_of scripts c i d)) c (waiting_lane i p.version) (free_lane (i + 1)) d
+          ∙ position-more scripts (λ d. free_lane (position_of scripts c i d)) c i (i + 1) d refl;
+      pairs_are = h.pairs_are ∙ ap (λ o. Some (unwrap_or (removed_pairs o) [])) there
+          ∙ sym (ap removed_pairs there);
+      later = h.later;
     }
-  where
-    over : (d : ℕ) (b : Bool) → (c == d) ≡ b
-        → with_lane (with_lane h.state.lanes c (waiting_lane i h.version)) c (free_lane (i + 1)) d
-        ≡ with_lane h.state.lanes c (free_lane (i + 1)) d
-    over d true e =
-        ap (λ b. if b then free_lane (i + 1) else with_lane h.state.lanes c (waiting_lane i h.version) d) e
-        ∙ sym (ap (λ b. if b then free_lane (i + 1) else h.state.lanes d) e)
-    over d false e =
-        ap (λ b. if b then free_lane (i + 1) else if b then waiting_lane i h.version else h.state.lanes d) e
-        ∙ sym (ap (λ b. if b then free_lane (i + 1) else h.state.lanes d) e)
 
--- ---- first, next and last
+-- ---- first and last
 
 pub first-progress : (scripts : List (List Command)) (start : SheafData Field)
-    → IsProgress scripts start 0 0 (record { sheaf = start; events = [] })
+    → IsProgress scripts start 0 0 (record { sheaf = start; version = 0; slot = None; events = [] })
 first-progress scripts start = record {
   state = first_state start;
   legal = refl;
-  version = 0;
   current = refl;
   current_sheaf = refl;
   field = refl;
-  lanes = λ d. ap free_lane
+  lanes_are = λ d. ap free_lane
       (sym (ap (λ b. if b then length (slice_index_or scripts d []) else if 0 == d then 0 else 0)
       (le-ltb d 0 (omega arith)) ∙ if-same (0 == d) 0));
+  pairs_are = refl;
+  later = λ u l. refl;
 }
 
 pub last-progress : (scripts : List (List Command)) (start : SheafData Field) (p : Progress)
-    → IsProgress scripts start (length scripts) 0 p → IsLegalAndWhole (ops_of start.field) scripts start p.events
+    → IsProgress scripts start (length scripts) 0 p → IsSoloOrder (ops_of start.field) scripts start p.events
 last-progress scripts start p h = record {
   last = h.state;
   legal = h.legal;
-  whole = λ c script there. h.lanes c ∙ ap free_lane (
+  whole = λ c script there. h.lanes_are c ∙ ap free_lane (
       ap (λ b. if b then length (slice_index_or scripts c []) else if length scripts == c then 0 else 0)
       (lt-ltb c (length scripts) (slice_get_within scripts c script there))
       ∙ ap length (get_or_from_slice_get scripts c script [] there));
@@ -249,42 +431,42 @@ last-progress scripts start p h = record {
 
 -- ---- what the calls made of the progress
 
--- the Betti numbers of the sheaf were asked and answered
-pub answer-progress : (scripts : List (List Command)) (start : SheafData Field) (c i : ℕ) (q : Query) (old : Progress)
-    (sheaf : SheafData Field)
-    (before asked after : List Event) (numbers : List ℕ)
-    → q ≡ queries.Betti → old ≡ record { sheaf = sheaf; events = before }
-    → AreBetti (ops_of old.sheaf.field) old.sheaf.complex old.sheaf.stalks old.sheaf.blocks numbers
-    → asked ≡ before ++ Ask c ∷ [] → after ≡ asked ++ Reply c (replies.Betti numbers) ∷ []
-    → command_at scripts c i ≡ Some (commands.Ask q) → IsProgress scripts start c i old
-    → IsProgress scripts start c (i + 1) (record { sheaf = sheaf; events = after })
-answer-progress scripts start c i q old sheaf before asked after numbers is was right e f comes h =
-    let own = λ (p : Progress). AreBetti (ops_of p.sheaf.field) p.sheaf.complex p.sheaf.stalks p.sheaf.blocks numbers in
-    subst (λ es. IsProgress scripts start c (i + 1) (record { sheaf = sheaf; events = es }))
-    (sym (f ∙ ap (λ es. es ++ Reply c (replies.Betti numbers) ∷ []) e))
-    (answer-step scripts start c i (record { sheaf = sheaf; events = before }) queries.Betti (replies.Betti numbers)
-    (comes ∙ ap (λ k. Some (commands.Ask k)) is) (subst own was right) (subst (IsProgress scripts start c i) was h))
-
 -- the edit was judged
 pub edit-progress : (scripts : List (List Command)) (start : SheafData Field) (c i : ℕ) (e : Change) (v : Verdict)
-    (old middle : Progress) (new : SheafData Field)
-    (before after : List Event) → middle.events ≡ old.events → IsJudged old.sheaf e v middle.sheaf
-    → middle ≡ record { sheaf = new; events = before }
+    (old middle : Progress) (before after : List Event) → IsJudged old e v middle → before ≡ old.events
     → after ≡ before ++ Edit c v ∷ [] → command_at scripts c i ≡ Some (commands.Change e)
     → IsProgress scripts start c i old
-    → IsProgress scripts start c (i + 1) (record { sheaf = new; events = after })
-edit-progress scripts start c i e v old middle new before after same judged was f comes h =
-    let events : before ≡ old.events = sym (ap (λ (p : Progress). p.events) was) ∙ same in
-    let all : after ≡ old.events ++ Edit c v ∷ [] = f ∙ ap (λ es. es ++ Edit c v ∷ []) events in
-    let sheaf : middle.sheaf ≡ new = ap (λ (p : Progress). p.sheaf) was in
-    subst (λ es. IsProgress scripts start c (i + 1) (record { sheaf = new; events = es })) (sym all)
-    (judge-step scripts start c i old e v new comes (subst (IsJudged old.sheaf e v) sheaf judged) h)
+    → IsProgress scripts start c (i + 1) (record middle { events = after })
+edit-progress scripts start c i e v old middle before after judged same f comes h =
+    subst (λ es. IsProgress scripts start c (i + 1) (record middle { events = es }))
+    (sym (f ∙ ap (λ es. es ++ Edit c v ∷ []) same)) (judge-step scripts start c i old e v middle comes judged h)
+
+-- the question was asked, the version reduced, and the question answered
+pub answer-progress : (scripts : List (List Command)) (start : SheafData Field) (c i : ℕ) (q : Query) (r : Answer)
+    (old middle : Progress) (asked after : List Event)
+    → asked ≡ old.events ++ Ask c ∷ [] → IsReducedFrom (record old { events = asked }) middle
+    → IsSoloAnswer middle q r → after ≡ middle.events ++ Reply c r ∷ []
+    → command_at scripts c i ≡ Some (commands.Ask q) → IsProgress scripts start c i old
+    → IsProgress scripts start c (i + 1) (record middle { events = after })
+answer-progress scripts start c i q r old middle asked after e reduced right f comes h =
+    subst (λ es. IsProgress scripts start c (i + 1) (record middle { events = es })) (sym f)
+    (reply-step scripts start c i middle right.slot q r comes right.there right.reduction right.right (go reduced))
+  where
+    waits : IsWaiting scripts start c i (record old { events = asked })
+    waits = subst (λ es. IsWaiting scripts start c i (record old { events = es })) (sym e)
+        (ask-step scripts start c i old q comes h)
+
+    go : IsReducedFrom (record old { events = asked }) middle → IsWaiting scripts start c i middle
+    go (inl same) = subst (IsWaiting scripts start c i) (sym same.1) waits
+    go (inr first) = subst (IsWaiting scripts start c i) (sym first.new_is)
+        (reduce-step scripts start c i (record old { events = asked }) first.slot first.none first.reduction waits)
 
 -- ---- what a session serves
 
 session_command : (dims : List ℕ) (command : Command) → IsServable dims 1000000000 command → IsSessionCommand command
 session_command dims (commands.Change edit) few = few
-session_command dims (commands.Ask queries.Betti) can = refl
+session_command dims (commands.Ask queries.Betti) can = tt
+session_command dims (commands.Ask queries.Reduce) can = tt
 session_command dims (commands.Ask q) can = absurd can
 
 pub session_commands : (dims : List ℕ) (scripts : List (List Command)) → AreServable dims scripts

@@ -5,6 +5,7 @@ mod answers;
 mod input;
 mod job;
 mod output;
+mod reduction;
 mod refusals;
 mod session;
 mod status;

@@ -1,18 +1,24 @@
-ghost use Rattle.std.specs.Prelude.{◌≡◌, ℕ, ◌+◌, ◌≤◌, List, Some, [], length, slice_get, IfOk, OnOk, All};
+ghost use Rattle.std.specs.Prelude.{◌≡◌, ℕ, ◌+◌, ◌≤◌, ◌<◌, List, Some, None, [], length, slice_get, sum_by};
+ghost use Rattle.std.specs.Prelude.{IfOk, OnOk, All, true, is_some};
 ghost use Rattle.field_table.specs.Table.{ops_of};
 ghost use Rattle.field_table.specs.declared.field.Field.{Field as FieldValue};
 ghost use Rattle.sheaf_data.specs.Sheaves.{SheafData};
 ghost use Rattle.sheaf_data.specs.BettiNumbers.{AreBetti};
 ghost use Rattle.sheaf_words.specs.declared.query.Command.{Command as CommandValue};
 ghost use Rattle.sheaf_words.specs.declared.query.Command.TheVariants.{Change, Ask};
-ghost use Rattle.sheaf_words.specs.declared.query.Query.TheVariants.{Betti};
+ghost use Rattle.sheaf_words.specs.declared.query.Query.TheVariants.{Reduce};
 ghost use Rattle.core_machine.specs.Machine.{command_at, IsLegalAndWhole};
-ghost use Rattle.sheaf_run.specs.Sessions.{IsSessionCommand, IsJudged, IsProgress};
+ghost use Rattle.core_machine.specs.Solo.{IsSoloOrder};
+ghost use Rattle.sheaf_run.specs.Sessions.{IsSessionCommand, IsSoloQuery, IsSoloAnswer, IsJudged, IsProgress};
+ghost use Rattle.sheaf_run.specs.Sessions.{IsReducedFrom};
 
+use crate::reduction::{push_pairs, reduction};
 use dense_blocks::Listed;
 use edit_versions::{EditFault, apply};
 use field_table::Field;
-use plain_betti::betti;
+use pair_commit::Slot;
+use plain_betti::{betti, degree_count};
+use query_answers::reduced;
 use sheaf_data::Sheaf;
 use sheaf_words::{Command, Edit, Event, Numbers, Query, Reply, Verdict, copy_values};
 use std::alloc::{AllocError as NoMemory, Global};
@@ -22,28 +28,34 @@ use std::marker::Model;
 #[derive(Drop)]
 struct Session {
     sheaf: Sheaf<Field>,
+    /// The number of the sheaf's version: so many edits were accepted.
+    version: u32,
+    /// The reduction of the sheaf, once it was asked.
+    slot: Option<Slot<Field>>,
     /// The Betti numbers of the sheaf, once they were asked.
     numbers: Option<Numbers>,
     events: Vec<Event>,
 }
 
 impl Model for Session {
-    ghost use Rattle.sheaf_run.specs.Sessions.{Progress, AreKnown};
+    ghost use Rattle.sheaf_run.specs.Sessions.{Progress, AreKnown, IsKnownReduction};
 
     ghost Value = { Progress };
 
-    ghost view = { λ s. record { sheaf = s.sheaf; events = s.events.items } };
+    ghost view = { λ s. record { sheaf = s.sheaf; version = s.version; slot = s.slot; events = s.events.items } };
 
-    ghost invariant = { λ s. AreKnown s.sheaf s.numbers };
+    ghost invariant = { λ s. AreKnown s.sheaf s.numbers × IsKnownReduction s.sheaf s.slot };
 }
 
 impl Session {
     /// Nothing has happened yet.
     fn new(alloc: Global, sheaf: Sheaf<Field>) -> Session
-        ensures { result ≡ record { sheaf = sheaf; events = [] } }
+        ensures { result ≡ record { sheaf = sheaf; version = 0; slot = None; events = [] } }
     {
         Session {
             sheaf,
+            version: 0,
+            slot: None,
             numbers: None,
             events: Vec::new(alloc),
         }
@@ -64,14 +76,17 @@ impl Session {
         Ok(copy)
     }
 
-    /// Makes the edit, or refuses it; gives the verdict. The numbers stay with the version.
+    /// Makes the edit, or refuses it; gives the verdict. Numbers and reduction stay with the version.
     fn edit_verdict(&mut self, alloc: Global, edit: &Edit) -> Result<Verdict, NoMemory>
-        requires { length edit.now.sets ≤ 1000000000 }
-        ensures events { self.new.events ≡ self.old.events }
-        ensures judged { IfOk result (λ verdict. IsJudged self.old.sheaf edit.now verdict self.new.sheaf) }
+        requires few { length edit.now.sets ≤ 1000000000 }
+        requires room { self.old.version < 4096 }
+        ensures judged { IfOk result (λ verdict. IsJudged self.old edit.now verdict self.new) }
+        ensures version { self.new.version ≤ self.old.version + 1 }
     {
         match apply(alloc, &mut self.sheaf, edit) {
             Ok(()) => {
+                self.version += 1;
+                self.slot = None;
                 self.numbers = None;
                 Ok(Verdict::Accepted)
             }
@@ -82,38 +97,78 @@ impl Session {
 
     /// Judges the edit that the client comes to.
     fn judge(&mut self, alloc: Global, client: u32, edit: &Edit) -> Result<(), NoMemory>
-        requires { length edit.now.sets ≤ 1000000000 }
-        ensures { OnOk result ((scripts : List (List CommandValue)) (start : SheafData FieldValue) (i : ℕ)
+        requires few { length edit.now.sets ≤ 1000000000 }
+        requires room { self.old.version < 4096 }
+        ensures progress { OnOk result ((scripts : List (List CommandValue)) (start : SheafData FieldValue) (i : ℕ)
             → command_at scripts client i ≡ Some (Change edit.now)
             → IsProgress scripts start client i self.old → IsProgress scripts start client (i + 1) self.new) }
+        ensures version { self.new.version ≤ self.old.version + 1 }
     {
         let verdict = self.edit_verdict(alloc, edit)?;
         self.events.push(Event::Edit { c: client, verdict })?;
         Ok(())
     }
 
+    /// Reduces the version that stands, unless it was done before; each pair is an event.
+    fn reduce(&mut self, alloc: Global) -> Result<(), NoMemory>
+        ensures reduced { OnOk result (IsReducedFrom self.old self.new) }
+        ensures version { self.new.version ≡ self.old.version }
+    {
+        if self.slot.is_some() {
+            return Ok(());
+        }
+        let slot = reduction(alloc, &self.sheaf)?;
+        push_pairs(&mut self.events, self.version, slot.log())?;
+        self.slot = Some(slot);
+        Ok(())
+    }
+
+    /// The answer to a question on the version that stands, which was reduced.
+    fn reply(&mut self, alloc: Global, query: &Query) -> Result<Reply, NoMemory>
+        requires query { IsSoloQuery query.now }
+        requires reduced { is_some self.old.slot ≡ true }
+        ensures same { self.new ≡ self.old }
+        ensures right { IfOk result (IsSoloAnswer self.old query.now) }
+    {
+        match query {
+            Query::Betti => Ok(Reply::Betti(self.numbers(alloc)?)),
+            _ => self.reduced_reply(alloc),
+        }
+    }
+
+    /// The pairs that were removed from the version that stands, and what they leave.
+    fn reduced_reply(&self, alloc: Global) -> Result<Reply, NoMemory>
+        requires { is_some self.now.slot ≡ true }
+        ensures { IfOk result (IsSoloAnswer self.now Reduce) }
+    {
+        let degrees = degree_count(self.sheaf.draft().complex.dims()) as u8;
+        let slot = self.slot.as_ref().unwrap();
+        Ok(Reply::Reduce(reduced(alloc, slot, degrees)?))
+    }
+
     /// Asks the question that the client comes to, and answers it.
     fn answer(&mut self, alloc: Global, client: u32, query: &Query) -> Result<(), NoMemory>
-        requires { query.now ≡ Betti }
-        ensures { OnOk result ((scripts : List (List CommandValue)) (start : SheafData FieldValue) (i : ℕ)
+        requires { IsSoloQuery query.now }
+        ensures progress { OnOk result ((scripts : List (List CommandValue)) (start : SheafData FieldValue) (i : ℕ)
             → command_at scripts client i ≡ Some (Ask query.now)
             → IsProgress scripts start client i self.old → IsProgress scripts start client (i + 1) self.new) }
+        ensures version { self.new.version ≡ self.old.version }
     {
-        let numbers = self.numbers(alloc)?;
         self.events.push(Event::Ask { c: client })?;
-        self.events.push(Event::Reply {
-            c: client,
-            r: Reply::Betti(numbers),
-        })?;
+        self.reduce(alloc)?;
+        let r = self.reply(alloc, query)?;
+        self.events.push(Event::Reply { c: client, r })?;
         Ok(())
     }
 
     /// Serves the command that the client comes to.
     fn serve(&mut self, alloc: Global, client: u32, command: &Command) -> Result<(), NoMemory>
-        requires { IsSessionCommand command.now }
-        ensures { OnOk result ((scripts : List (List CommandValue)) (start : SheafData FieldValue) (i : ℕ)
+        requires command { IsSessionCommand command.now }
+        requires room { self.old.version < 4096 }
+        ensures progress { OnOk result ((scripts : List (List CommandValue)) (start : SheafData FieldValue) (i : ℕ)
             → command_at scripts client i ≡ Some command.now
             → IsProgress scripts start client i self.old → IsProgress scripts start client (i + 1) self.new) }
+        ensures version { self.new.version ≤ self.old.version + 1 }
     {
         match command {
             Command::Change(edit) => self.judge(alloc, client, edit),
@@ -123,10 +178,12 @@ impl Session {
 
     /// Serves all commands of the client, in order.
     fn serve_all(&mut self, alloc: Global, client: u32, script: &[Command]) -> Result<(), NoMemory>
-        requires { All IsSessionCommand script.now }
-        ensures { OnOk result ((scripts : List (List CommandValue)) (start : SheafData FieldValue)
+        requires commands { All IsSessionCommand script.now }
+        requires room { self.old.version + length script.now ≤ 4096 }
+        ensures progress { OnOk result ((scripts : List (List CommandValue)) (start : SheafData FieldValue)
             → slice_get scripts client ≡ Some script.now
             → IsProgress scripts start client 0 self.old → IsProgress scripts start (client + 1) 0 self.new) }
+        ensures version { OnOk result (self.new.version ≤ self.old.version + length script.now) }
     {
         for command in script {
             self.serve(alloc, client, command)?;
@@ -150,8 +207,10 @@ pub fn session_events(
     scripts: &[Listed<Command>],
 ) -> Result<Vec<Event>, NoMemory>
     requires few { length scripts.now ≤ 8 }
+    requires commands { sum_by length scripts.now ≤ 4096 }
     requires served { All (All IsSessionCommand) scripts.now }
-    ensures { IfOk result (λ events. IsLegalAndWhole (ops_of sheaf.field) scripts.now sheaf events.items) }
+    ensures legal { IfOk result (λ events. IsLegalAndWhole (ops_of sheaf.field) scripts.now sheaf events.items) }
+    ensures solo { IfOk result (λ events. IsSoloOrder (ops_of sheaf.field) scripts.now sheaf events.items) }
 {
     let mut session = Session::new(alloc, sheaf);
     let mut client = 0u32;
