@@ -1,0 +1,4 @@
+pub mod CellLists
+pub mod JoinedLaws
+pub mod DegreeLists
+pub mod SlotLaws

@@ -1,0 +1,8 @@
+//! Replies to questions, out of a slot: what a reduction leaves, as one matrix for each degree.
+#![tactic(auto)]
+
+mod degrees;
+mod reduced;
+
+pub use degrees::coboundary_matrices;
+pub use reduced::reduced;
