@@ -26,6 +26,8 @@ ender_of (Reply c r) = Some c
 abbrev pub IsAnswerTo : Command → Event → Type 0
 IsAnswerTo (Change edit) (Edit c verdict) = Unit {0}
 IsAnswerTo (Question queries.Betti) (Reply c (replies.Betti numbers)) = Unit {0}
+IsAnswerTo (Question queries.Reduce) (Reply c (replies.Reduce r)) = Unit {0}
+IsAnswerTo (Question queries.Equiv) (Reply c (replies.Equiv r m)) = Unit {0}
 IsAnswerTo command event = ⊥
 
 -- there is a value, and it meets P
