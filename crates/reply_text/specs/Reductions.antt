@@ -1,27 +1,28 @@
 -- The lines of a reduced complex, and of the maps between the whole complex and it.
-use Rattle.std.specs.Prelude.{ℕ, ◌+◌, ◌==◌, List, [], ◌∷◌, ◌++◌, map, length, codes}
+use Rattle.std.specs.Prelude.{ℕ, List, [], ◌∷◌, ◌++◌, map, length, codes}
 use Rattle.std.specs.Fmt.{decimal}
 use Rattle.sheaf_words.specs.declared.reply.Reduced.{Reduced}
 use Rattle.sheaf_words.specs.declared.reply.Maps.{Maps}
+use Rattle.reply_text.specs.declared.joined.Direction.TheVariants.{Up, Level, Down}
 use Rattle.reply_text.specs.JoinedMatrices.{JoinedMatrices, block_lines}
 
 -- ---- the joined matrices of a reply
 
 -- the coboundary of the reduced complex, from each degree to the next
 abbrev pub reduced_coboundary : Reduced → JoinedMatrices
-reduced_coboundary r = record { matrices = r.d; from = r.live; to = r.live; are_degrees = λ k l. l == k + 1 }
+reduced_coboundary r = record { matrices = r.d; from = r.live; to = r.live; direction = Up }
 
 -- from the whole complex to the reduced one
 abbrev pub projection : Reduced → Maps → JoinedMatrices
-projection r m = record { matrices = m.pi; from = m.base; to = r.live; are_degrees = λ k l. l == k }
+projection r m = record { matrices = m.pi; from = m.base; to = r.live; direction = Level }
 
 -- from the reduced complex to the whole one
 abbrev pub inclusion : Reduced → Maps → JoinedMatrices
-inclusion r m = record { matrices = m.iota; from = r.live; to = m.base; are_degrees = λ k l. l == k }
+inclusion r m = record { matrices = m.iota; from = r.live; to = m.base; direction = Level }
 
 -- in the whole complex, from each degree to the one below
 abbrev pub homotopy : Maps → JoinedMatrices
-homotopy m = record { matrices = m.h; from = m.base; to = m.base; are_degrees = λ k l. l + 1 == k }
+homotopy m = record { matrices = m.h; from = m.base; to = m.base; direction = Down }
 
 -- ---- lines
 

@@ -49,7 +49,11 @@ further_lines (events.Reply c (replies.Reduce r)) = reduced_lines r
 further_lines (events.Reply c (replies.Equiv r m)) = reduced_lines r ++ map_lines r m
 further_lines event = []
 
+-- the first line
+abbrev pub first_line : ℕ → ℕ → Command → Event → List (List ℕ)
+first_line number v command event =
+    decimal number ∷ (codes "v" ++ decimal v) ∷ command_word command ∷ answer_words event
+
 -- the lines that answer the command of this number on version v
 abbrev pub reply_lines : ℕ → ℕ → Command → Event → List (List (List ℕ))
-reply_lines number v command event =
-    (decimal number ∷ (codes "v" ++ decimal v) ∷ command_word command ∷ answer_words event) ∷ further_lines event
+reply_lines number v command event = first_line number v command event ∷ further_lines event
