@@ -1,14 +1,16 @@
 -- Blocks of joined matrices, row by row, and their lines, one by one.
 use Rattle.std.proofs.Common.{◌≡◌, ℕ, zero, suc, ◌+◌, ◌≤◌, min, Bool, true, false, Option, Some, None, List, [], ◌∷◌, ◌++◌}
 use Rattle.std.proofs.Common.{if◌then◌else◌, map, length, take, drop, get_or, add-one, refl, sym, ap, ap₂, ◌∙◌, arith}
-use Rattle.std.proofs.Common.{append_assoc, append-nil}
+use Rattle.std.proofs.Common.{append_assoc, append-nil, ◌<◌, ◌⊎◌, ⊎_elim, ◌&&◌, eqb}
+use Rattle.std.proofs.lemmas.Bool.{cases_lt}
 use Rattle.std.specs.Prelude.{sum_by, slice_get}
-use Rattle.std.specs.List.{flat_map, concat}
+use Rattle.std.specs.List.{flat_map, concat, list_all}
 use Rattle.std.specs.Option.{option_map_or}
 use Rattle.std.specs.Fmt.{decimal}
-use Rattle.std.proofs.lemmas.List.{map-append, take-map, drop-map, drop_min, length-take, length-append, get_or-drop}
+use Rattle.std.proofs.lemmas.List.{map-append, take-map, drop-map, drop_min, length-take, get_or-drop, get_or_past}
+use Rattle.std.proofs.Common.{length-append}
 use Rattle.std.proofs.lemmas.List.Concat.{flat_map-append}
-use Rattle.std.proofs.lemmas.List.Folds.{flat_map-map}
+use Rattle.std.proofs.lemmas.List.Folds.{flat_map-map, list_all-append}
 use Rattle.dense_blocks.specs.Matrices.{cut}
 use Rattle.dense_blocks.specs.Blocks.{matrix_of}
 use Rattle.dense_blocks.specs.declared.block.Block.{Block}
@@ -17,15 +19,23 @@ use Rattle.reply_text.specs.declared.coordinates.Coordinates.{Coordinates}
 use Rattle.reply_text.specs.JoinedMatrices.{JoinedMatrices, coordinates_after, all_coordinates, submatrix, entries_between}
 use Rattle.reply_text.specs.JoinedMatrices.{matrix_between, nonzero_line, block_line, block_lines}
 use Rattle.reply_text.specs.Lines.{line_text}
+use Rattle.reply_text.proofs.Writing.{one_line}
 use Rattle.reply_text.specs.Parts.{spaced_words, lines_text, capped, row_between, entries_words}
 
 -- ---- rows
 
-nothing : (w col : ℕ) → take w (drop col []) ≡ []
+nothing : (w col : ℕ) → take {A = ℕ} w (drop col []) ≡ []
 nothing zero zero = refl
 nothing zero (suc col) = refl
 nothing (suc w) zero = refl
 nothing (suc w) (suc col) = refl
+
+-- no row of the block stands where the matrix has none
+pub row-beyond : (b : Block) (s t : Coordinates) (i : ℕ) → b.rows ≤ t.first + i → row_between b s t i ≡ []
+row-beyond b s t i beyond =
+    ap (λ r. take s.size (drop s.first r)) (get_or_past (matrix_of b) (t.first + i) []
+    (omega (arith, cut-size b.rows b.cols b.entries, beyond)))
+    ∙ nothing s.size s.first
 
 -- one row more, of which a missing one gives nothing
 rows-more : (f : List ℕ → List ℕ) → f [] ≡ [] → (xs : List (List ℕ)) (i : ℕ)
@@ -41,16 +51,54 @@ rows-more f none (x ∷ xs) (suc i) =
 abbrev pub first_entries : ℕ → Block → Coordinates → Coordinates → List ℕ
 first_entries i b s t = concat (submatrix t.first i s.first s.size (matrix_of b))
 
-pub first-none : (b : Block) (s t : Coordinates) → first_entries 0 b s t ≡ []
-first-none b s t = refl
+first-suc : (i : ℕ) (b : Block) (s t : Coordinates) → first_entries (suc i) b s t ≡ first_entries i b s t
+    ++ row_between b s t i
+first-suc i b s t =
+    let f : List ℕ → List ℕ = λ r. take s.size (drop s.first r) in
+    let rows = drop t.first (matrix_of b) in
+    rows-more f (nothing s.size s.first) rows i
+    ∙ ap (λ r. concat (map f (take i rows)) ++ f r) (get_or-drop t.first (matrix_of b) i [])
 
 pub first-more : (i : ℕ) (b : Block) (s t : Coordinates) → first_entries (i + 1) b s t ≡ first_entries i b s t
     ++ row_between b s t i
-first-more i b s t =
-    let f : List ℕ → List ℕ = λ r. take s.size (drop s.first r) in
-    let rows = drop t.first (matrix_of b) in
-    ap (λ n. concat (map f (take n rows))) (add-one i) ∙ rows-more f (nothing s.size s.first) rows i
-    ∙ ap (λ r. concat (map f (take i rows)) ++ f r) (get_or-drop t.first (matrix_of b) i [])
+first-more i b s t = ap (λ n. first_entries n b s t) (add-one i) ∙ first-suc i b s t
+
+-- ---- zero rows
+
+are_zero : List ℕ → Bool
+are_zero entries = list_all (λ e. eqb e 0) entries
+
+and-false : (a : Bool) → (a && false) ≡ false
+and-false true = refl
+and-false false = refl
+
+-- one zero row more
+pub zero-more : (i : ℕ) (b : Block) (s t : Coordinates) → list_all (λ e. eqb e 0) (first_entries i b s t) ≡ true
+    → list_all (λ e. eqb e 0) (row_between b s t i) ≡ true
+    → list_all (λ e. eqb e 0) (first_entries (i + 1) b s t) ≡ true
+zero-more i b s t h is_zero =
+    ap are_zero (first-more i b s t)
+    ∙ list_all-append (λ e. eqb e 0) (first_entries i b s t) (row_between b s t i) ∙ ap₂ ◌&&◌ h is_zero
+
+-- a row that is not zero
+pub not-zero : (i n : ℕ) (b : Block) (s t : Coordinates) → i < n
+    → list_all (λ e. eqb e 0) (row_between b s t i) ≡ false
+    → list_all (λ e. eqb e 0) (first_entries n b s t) ≡ false
+not-zero i zero b s t l e = absurd (omega arith)
+not-zero i (suc m) b s t l e =
+    ap are_zero (first-suc m b s t)
+    ∙ list_all-append (λ x. eqb x 0) (first_entries m b s t) (row_between b s t m)
+    ∙ ⊎_elim (λ (k : i < m). before (not-zero i m b s t k e)) last (cases_lt i m)
+  where
+    before : are_zero (first_entries m b s t) ≡ false
+        → (are_zero (first_entries m b s t) && are_zero (row_between b s t m)) ≡ false
+    before is = ap (λ x. x && are_zero (row_between b s t m)) is
+
+    last : m ≤ i → (are_zero (first_entries m b s t) && are_zero (row_between b s t m)) ≡ false
+    last k =
+        let same : m ≡ i = omega (arith, k, l) in
+        ap (λ x. are_zero (first_entries m b s t) && x) (ap (λ j. are_zero (row_between b s t j)) same ∙ e)
+        ∙ and-false (are_zero (first_entries m b s t))
 
 words-append : (xs ys : List ℕ) → entries_words (xs ++ ys) ≡ entries_words xs ++ entries_words ys
 words-append xs ys =
@@ -68,6 +116,22 @@ words-more i b s t start old new h more =
     ∙ ap (λ text. start ++ text) (sym (words-append first row) ∙ ap entries_words (sym (first-more i b s t)))
 
 -- ---- lines
+
+-- what is written of a block that is not zero
+pub nonzero-written : (word : List ℕ) (s t : Coordinates) (entries old new : List ℕ)
+    → list_all (λ e. eqb e 0) entries ≡ false
+    → new ≡ (((old ++ (word ++ 32 ∷ decimal s.cell)) ++ 32 ∷ decimal t.cell) ++ entries_words entries) ++ 10 ∷ []
+    → new ≡ old ++ lines_text (nonzero_line word s t entries)
+nonzero-written word s t entries old new nonzero written =
+    let words = decimal s.cell ∷ decimal t.cell ∷ map decimal entries in
+    let one = 32 ∷ decimal s.cell in
+    let two = 32 ∷ decimal t.cell in
+    let rest = entries_words entries in
+    written
+    ∙ ap (λ text. text ++ 10 ∷ []) (append_assoc (old ++ (word ++ one)) two rest
+    ∙ append_assoc old (word ++ one) (two ++ rest) ∙ ap (λ text. old ++ text) (append_assoc word one (two ++ rest)))
+    ∙ append_assoc old (word ++ spaced_words words) (10 ∷ []) ∙ ap (λ text. old ++ text) (one_line word words)
+    ∙ ap (λ (zero : Bool). old ++ lines_text (if zero then [] else (word ∷ words) ∷ [])) (sym nonzero)
 
 flat_map-more : {X A : Type 0} (f : X → List A) (xs : List X) (x : X) → flat_map f (xs ++ x ∷ []) ≡ flat_map f xs ++ f x
 flat_map-more f xs x = flat_map-append f xs (x ∷ []) ∙ ap (λ rest. flat_map f xs ++ rest) (append-nil (f x))

@@ -42,11 +42,12 @@ fn are_zero(entries: &[u8]) -> bool
 fn is_zero_between(block: &Block, s: Coordinates, t: Coordinates) -> bool
     ensures { result ≡ list_all (λ e. e == 0) (entries_between block.now s t) }
 {
-    let mut zero = true;
     for i in 0..u32::from(t.size) {
-        zero = zero && are_zero(row_between(block, s, t, i));
+        if !are_zero(row_between(block, s, t, i)) {
+            return false;
+        }
     }
-    zero
+    true
 }
 
 /// Appends a space before each entry, and the entry.
@@ -112,7 +113,7 @@ fn put_block(
     s: Coordinates,
     t: Coordinates,
 ) -> Result<(), NoMemory>
-    ensures { OnOk result (out.new.items ≡ out.old.items ++ lines_text (block_line word.now (joined_value m) s t)) }
+    ensures { OnOk result (out.new.items ≡ out.old.items ++ lines_text (block_line word.now (joined_value m.entry) s t)) }
 {
     match m.matrix_between(s, t) {
         Some(block) => put_nonzero(out, word, block, s, t),
@@ -121,7 +122,7 @@ fn put_block(
 }
 
 fn block_count(m: Joined<'_>, s: Coordinates, t: Coordinates) -> usize
-    ensures { (word : List ℕ) → result ≡ length (block_line word (joined_value m) s t) }
+    ensures { (word : List ℕ) → result ≡ length (block_line word (joined_value m.entry) s t) }
 {
     match m.matrix_between(s, t) {
         Some(block) => nonzero_count(block, s, t),
@@ -138,7 +139,7 @@ fn put_blocks_from(
     to: &[Coordinates],
 ) -> Result<(), NoMemory>
     ensures { OnOk result (out.new.items ≡ out.old.items
-        ++ lines_text (flat_map (λ t. block_line word.now (joined_value m) s t) to.now)) }
+        ++ lines_text (flat_map (λ t. block_line word.now (joined_value m.entry) s t) to.now)) }
 {
     for t in to {
         put_block(out, word, m, s, *t)?;
@@ -155,11 +156,40 @@ fn sum(a: usize, b: usize) -> Result<usize, NoMemory>
 
 /// How many lines those are.
 fn count_from(m: Joined<'_>, s: Coordinates, to: &[Coordinates]) -> Result<usize, NoMemory>
-    ensures { (word : List ℕ) → IfOk result (λ n. n ≡ length (flat_map (λ t. block_line word (joined_value m) s t) to.now)) }
+    ensures { (word : List ℕ) → IfOk result (λ n. n ≡ length (flat_map (λ t. block_line word (joined_value m.entry) s t) to.now)) }
 {
     let mut count = 0usize;
     for t in to {
         count = sum(count, block_count(m, s, *t))?;
+    }
+    Ok(count)
+}
+
+/// Appends the lines of all blocks from these to those.
+fn put_blocks_between(
+    out: &mut Vec<u8>,
+    word: &[u8],
+    m: Joined<'_>,
+    from: &[Coordinates],
+    to: &[Coordinates],
+) -> Result<(), NoMemory>
+    ensures { OnOk result (out.new.items ≡ out.old.items
+        ++ lines_text (flat_map (λ s. flat_map (λ t. block_line word.now (joined_value m.entry) s t) to.now) from.now)) }
+{
+    for s in from {
+        put_blocks_from(out, word, m, *s, to)?;
+    }
+    Ok(())
+}
+
+/// How many lines those are.
+fn count_between(m: Joined<'_>, from: &[Coordinates], to: &[Coordinates]) -> Result<usize, NoMemory>
+    ensures { (word : List ℕ) → IfOk result (λ n. n ≡ length
+        (flat_map (λ s. flat_map (λ t. block_line word (joined_value m.entry) s t) to.now) from.now)) }
+{
+    let mut count = 0usize;
+    for s in from {
+        count = sum(count, count_from(m, *s, to)?)?;
     }
     Ok(count)
 }
@@ -172,25 +202,18 @@ pub(crate) fn put_blocks(
     word: &[u8],
     m: Joined<'_>,
 ) -> Result<(), NoMemory>
-    ensures { OnOk result (out.new.items ≡ out.old.items ++ lines_text (block_lines word.now (joined_value m))) }
+    ensures { OnOk result (out.new.items ≡ out.old.items ++ lines_text (block_lines word.now (joined_value m.entry))) }
 {
     let from = all_coordinates(alloc, m.from)?;
     let to = all_coordinates(alloc, m.to)?;
-    for s in from.as_slice() {
-        put_blocks_from(out, word, m, *s, to.as_slice())?;
-    }
-    Ok(())
+    put_blocks_between(out, word, m, from.as_slice(), to.as_slice())
 }
 
 /// How many lines those are.
 pub(crate) fn count_blocks(alloc: Global, m: Joined<'_>) -> Result<usize, NoMemory>
-    ensures { (word : List ℕ) → IfOk result (λ n. n ≡ length (block_lines word (joined_value m))) }
+    ensures { (word : List ℕ) → IfOk result (λ n. n ≡ length (block_lines word (joined_value m.entry))) }
 {
     let from = all_coordinates(alloc, m.from)?;
     let to = all_coordinates(alloc, m.to)?;
-    let mut count = 0usize;
-    for s in from.as_slice() {
-        count = sum(count, count_from(m, *s, to.as_slice())?)?;
-    }
-    Ok(count)
+    count_between(m, from.as_slice(), to.as_slice())
 }

@@ -1,5 +1,5 @@
 ghost use Rattle.std.specs.Prelude.{◌≡◌, ◌==◌, [], if◌then◌else◌, min, map, IfOk};
-ghost use Rattle.reply_text.specs.JoinedMatrices.{degree_size, all_coordinates};
+ghost use Rattle.reply_text.specs.JoinedMatrices.{degree_size, coordinates_after, all_coordinates};
 ghost use Rattle.reply_text.specs.Parts.{capped};
 
 use dense_blocks::Block;
@@ -20,14 +20,10 @@ pub(crate) struct Coordinates {
 }
 
 /// How many of the cell's coordinates are of the degree: all or none.
-fn size_at(degree: u8, cell: Cell) -> u32
+fn size_at(degree: u8, cell: Cell) -> u8
     ensures { result ≡ (if cell.1 == degree then cell.2 else 0) }
 {
-    if cell.1 == degree {
-        u32::from(cell.2)
-    } else {
-        0
-    }
+    if cell.1 == degree { cell.2 } else { 0 }
 }
 
 /// How many coordinates the cells of the degree have together; at most as many as a block has rows.
@@ -36,13 +32,25 @@ fn degree_size(cells: &[Cell], degree: u8) -> u32
 {
     let mut size = 0u32;
     for cell in cells {
-        size = (size + size_at(degree, *cell)).min(Block::MOST);
+        size = (size + u32::from(size_at(degree, *cell))).min(Block::MOST);
     }
     size
 }
 
-/// The coordinates of each cell, in order. Those that would come after as many as a block has rows begin right there,
-/// where a block has none.
+/// The coordinates of a cell that comes after these. Those that would come after as many as a block has rows begin right
+/// there, where a block has none.
+fn coordinates_after(earlier: &[Cell], cell: Cell) -> Coordinates
+    ensures { result ≡ capped (coordinates_after earlier.now cell) }
+{
+    Coordinates {
+        cell: cell.0,
+        degree: cell.1,
+        first: degree_size(earlier, cell.1),
+        size: cell.2,
+    }
+}
+
+/// Those of each cell, in order.
 pub(crate) fn all_coordinates(
     alloc: Global,
     cells: &[Cell],
@@ -51,14 +59,7 @@ pub(crate) fn all_coordinates(
 {
     let mut list = Vec::with_capacity(alloc, cells.len())?;
     for i in 0..cells.len() {
-        let (cell, degree, size) = cells[i];
-        let first = degree_size(&cells[..i], degree);
-        list.push(Coordinates {
-            cell,
-            degree,
-            first,
-            size,
-        })?;
+        list.push(coordinates_after(&cells[..i], cells[i]))?;
     }
     Ok(list)
 }

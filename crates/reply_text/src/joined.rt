@@ -41,8 +41,8 @@ pub(crate) struct Joined<'a> {
 impl<'a> Joined<'a> {
     /// The matrix that the block from one cell to another is a part of, if there is one.
     pub(crate) fn matrix_between(self, s: Coordinates, t: Coordinates) -> Option<&'a Block>
-        ensures { MatchOption result (matrix_between (joined_value self) s t ≡ None)
-            (λ b. matrix_between (joined_value self) s t ≡ Some b.now) }
+        ensures { MatchOption result (matrix_between (joined_value self.entry) s t ≡ None)
+            (λ b. matrix_between (joined_value self.entry) s t ≡ Some b.now) }
     {
         if !self.direction.goes(s.degree, t.degree) {
             return None;
