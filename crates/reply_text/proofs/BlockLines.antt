@@ -65,7 +65,7 @@ first-more i b s t = ap (λ n. first_entries n b s t) (add-one i) ∙ first-suc 
 
 -- ---- zero rows
 
-are_zero : List ℕ → Bool
+abbrev are_zero : List ℕ → Bool
 are_zero entries = list_all (λ e. eqb e 0) entries
 
 and-false : (a : Bool) → (a && false) ≡ false

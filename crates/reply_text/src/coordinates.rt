@@ -51,10 +51,7 @@ fn coordinates_after(earlier: &[Cell], cell: Cell) -> Coordinates
 }
 
 /// Those of each cell, in order.
-pub(crate) fn all_coordinates(
-    alloc: Global,
-    cells: &[Cell],
-) -> Result<Vec<Coordinates>, NoMemory>
+pub(crate) fn all_coordinates(alloc: Global, cells: &[Cell]) -> Result<Vec<Coordinates>, NoMemory>
     ensures { IfOk result (λ list. list.items ≡ map capped (all_coordinates [] cells.now)) }
 {
     let mut list = Vec::with_capacity(alloc, cells.len())?;
