@@ -70,3 +70,7 @@ counted-more c event counts after a b ea eb ended current_version asked_version 
 pub take_next : {X : Type 0} (xs : List X) (i : ℕ) (x : X) → i < length xs → x ≡ get_or xs i x
     → take (i + 1) xs ≡ take i xs ++ x ∷ []
 take_next xs i x l e = ap (λ k. take k xs) (add-one i) ∙ take-suc xs i x l ∙ ap (λ y. take i xs ++ y ∷ []) (sym e)
+
+pub take_at : {X : Type 0} (xs : List X) (i : ℕ) (d : X) → i < length xs
+    → take (i + 1) xs ≡ take i xs ++ get_or xs i d ∷ []
+take_at xs i d l = ap (λ k. take k xs) (add-one i) ∙ take-suc xs i d l

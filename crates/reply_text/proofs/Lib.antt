@@ -2,3 +2,4 @@ mod Writing
 pub mod Counting
 mod Naming
 mod Bounds
+mod BlockLines

@@ -1,4 +1,6 @@
 pub mod Lines
+pub mod JoinedMatrices
+pub mod Reductions
 pub mod Replies
 pub mod Transcripts
 pub mod Parts

@@ -1,12 +1,17 @@
 -- Parts of a transcript.
 use Rattle.std.specs.Prelude.{ℕ, ◌+◌, Bool, false, ◌==◌, List, [], ◌∷◌, ◌++◌, Option, slice_get, count_by}
-use Rattle.std.specs.Prelude.{if◌then◌else◌, map, take, codes}
+use Rattle.std.specs.Prelude.{if◌then◌else◌, map, take, drop, min, slice_index_or, codes}
 use Rattle.std.specs.Fmt.{decimal}
 use Rattle.std.specs.List.{flat_map, enumerate_from}
 use Rattle.std.specs.Option.{option_map_or}
 use Rattle.sheaf_words.specs.declared.query.Command.{Command}
 use Rattle.sheaf_words.specs.declared.event.Event.{Event}
 use Rattle.sheaf_words.specs.declared.event.Event.TheVariants.{Edit, Ask, Pair, Reply}
+use Rattle.dense_blocks.specs.Blocks.{matrix_of}
+use Rattle.dense_blocks.specs.declared.block.Block.{Block}
+use Rattle.reply_text.specs.declared.coordinates.Coordinates.{Coordinates}
+use Rattle.reply_text.specs.declared.joined.Joined.{Joined}
+use Rattle.reply_text.specs.JoinedMatrices.{JoinedMatrices}
 use Rattle.reply_text.specs.Lines.{line_text}
 use Rattle.reply_text.specs.Replies.{reply_lines}
 use Rattle.reply_text.specs.Transcripts.{ends_for, ended_count, is_accepted, asked_from, version_named, client_lines}
@@ -75,3 +80,21 @@ numbered_words number (Edit c verdict) = codes "edit" ∷ decimal c ∷ decimal 
 numbered_words number (Ask c) = codes "ask" ∷ decimal c ∷ decimal number ∷ []
 numbered_words number (Pair v x y) = codes "pair" ∷ decimal v ∷ decimal x ∷ decimal y ∷ []
 numbered_words number (Reply c r) = codes "reply" ∷ decimal c ∷ decimal number ∷ []
+
+-- ---- blocks
+
+-- these joined matrices as a plain value
+abbrev pub joined_value : Joined → JoinedMatrices
+joined_value j = record { matrices = j.matrices.now; from = j.from.now; to = j.to.now; direction = j.direction }
+
+-- the same coordinates; those from place 4,096 on, which no block has, begin there
+abbrev pub capped : Coordinates → Coordinates
+capped c = record { cell = c.cell; degree = c.degree; first = min c.first 4096; size = c.size }
+
+-- row i of the block from s to t, without entries where the matrix has no such row
+abbrev pub row_between : Block → Coordinates → Coordinates → ℕ → List ℕ
+row_between b s t i = take s.size (drop s.first (slice_index_or (matrix_of b) (t.first + i) []))
+
+-- a space before each entry
+abbrev pub entries_words : List ℕ → List ℕ
+entries_words entries = spaced_words (map decimal entries)

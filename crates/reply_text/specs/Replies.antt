@@ -11,6 +11,7 @@ use Rattle.sheaf_words.specs.declared.edit.Verdict.TheVariants.{Accepted, Refuse
 use Rattle.sheaf_words.specs.declared.event.Event.{Event}
 use Rattle.sheaf_words.specs.declared.event.Event.TheVariants as events
 use Rattle.sheaf_words.specs.declared.reply.Reply.TheVariants as replies
+use Rattle.reply_text.specs.Reductions.{reduced_counts, map_counts, reduced_lines, map_lines}
 
 -- the first word of a command
 abbrev pub command_word : Command → List ℕ
@@ -33,14 +34,26 @@ cause_words (Entry i) = codes "entry" ∷ decimal i ∷ []
 cause_words TotalLimit = codes "total" ∷ []
 cause_words (Square s u) = codes "square" ∷ decimal s ∷ decimal u ∷ []
 
--- what the line says after the word of the command
+-- what the first line says after the word of the command
 abbrev pub answer_words : Event → List (List ℕ)
 answer_words (events.Edit c Accepted) = codes "accepted" ∷ []
 answer_words (events.Edit c (Refused cause)) = codes "refused" ∷ cause_words cause
 answer_words (events.Reply c (replies.Betti numbers)) = map decimal numbers
+answer_words (events.Reply c (replies.Reduce r)) = map decimal (reduced_counts r)
+answer_words (events.Reply c (replies.Equiv r m)) = map decimal (reduced_counts r ++ map_counts r m)
 answer_words event = []
 
--- the lines that answer the command of this number on version v: for now there is one
+-- the lines after the first
+abbrev pub further_lines : Event → List (List (List ℕ))
+further_lines (events.Reply c (replies.Reduce r)) = reduced_lines r
+further_lines (events.Reply c (replies.Equiv r m)) = reduced_lines r ++ map_lines r m
+further_lines event = []
+
+-- the first line
+abbrev pub first_line : ℕ → ℕ → Command → Event → List (List ℕ)
+first_line number v command event =
+    decimal number ∷ (codes "v" ++ decimal v) ∷ command_word command ∷ answer_words event
+
+-- the lines that answer the command of this number on version v
 abbrev pub reply_lines : ℕ → ℕ → Command → Event → List (List (List ℕ))
-reply_lines number v command event =
-    (decimal number ∷ (codes "v" ++ decimal v) ∷ command_word command ∷ answer_words event) ∷ []
+reply_lines number v command event = first_line number v command event ∷ further_lines event

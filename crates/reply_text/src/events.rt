@@ -1,4 +1,4 @@
-ghost use Rattle.std.specs.Prelude.{◌≡◌, ◌∷◌, ◌++◌, IfOk, OnOk, OnErr, codes};
+ghost use Rattle.std.specs.Prelude.{◌≡◌, ◌∷◌, ◌++◌, OnOk, OnErr, codes};
 ghost use Rattle.std.specs.Fmt.{decimal};
 ghost use Rattle.std.specs.List.{join_with_byte};
 ghost use Rattle.reply_text.specs.Lines.{line_text};
@@ -36,20 +36,19 @@ fn put_event(out: &mut Vec<u8>, number: u32, event: &Event) -> Result<(), NoMemo
     }
 }
 
-/// The line of an event, with its line end.
-fn line(alloc: Global, number: u32, event: &Event) -> Result<Vec<u8>, NoMemory>
-    ensures { IfOk result (λ text. text.items ≡ line_text (numbered_words number event.now)) }
+/// Appends the line of an event, as `event_line`; but without memory a part of it may stand there.
+pub(crate) fn put_line(out: &mut Vec<u8>, number: u32, event: &Event) -> Result<(), NoMemory>
+    ensures { OnOk result (out.new.items ≡ out.old.items ++ line_text (numbered_words number event.now)) }
 {
-    let mut text = Vec::new(alloc);
-    put_event(&mut text, number, event)?;
-    text.push(b'\n')?;
-    Ok(text)
+    put_event(out, number, event)?;
+    out.push(b'\n')?;
+    Ok(())
 }
 
 /// Appends the line of an event that is about the command of this number, counted from 1 for each client.
 ///
-/// The line of a pair has its own version and no number; no other line has a version. Without memory the text is as
-/// before.
+/// The line of a pair has its own version and no number; no other line has a version. The line is made apart, and so
+/// without memory the text is as before.
 pub fn event_line(
     alloc: Global,
     number: u32,
@@ -60,6 +59,7 @@ pub fn event_line(
     ensures ok { OnOk result (out.new.items ≡ out.old.items ++ line_text (numbered_words number event.now)) }
     ensures err { OnErr result (out.new.items ≡ out.old.items) }
 {
-    let text = line(alloc, number, event)?;
+    let mut text = Vec::new(alloc);
+    put_line(&mut text, number, event)?;
     out.extend_from_slice(text.as_slice())
 }

@@ -1,9 +1,13 @@
 //! The text of a transcript: replies and events, as lines of words.
 #![tactic(auto)]
 
+mod blocks;
+mod coordinates;
 mod counts;
 mod events;
+mod joined;
 mod order;
+mod reductions;
 mod replies;
 mod transcripts;
 mod words;

@@ -4,7 +4,7 @@ ghost use Rattle.reply_text.specs.Parts.{lines_text, command_number, placed_line
 ghost use Rattle.reply_text.specs.ClientEvents.{AreOf, client_of, ender_of};
 ghost use Rattle.reply_text.specs.Counts.{AreCounted};
 
-use crate::events::event_line;
+use crate::events::put_line;
 use dense_blocks::Listed;
 use sheaf_words::{Command, Event};
 use std::alloc::{AllocError as NoMemory, Global};
@@ -69,7 +69,7 @@ pub(crate) fn put_order(
     let mut counts = vec![in alloc; 0u32; scripts.len()]?;
     for event in events {
         let number = number_of(counts.as_slice(), event);
-        event_line(alloc, number, 0, event, out)?;
+        put_line(out, number, event)?;
         count_event(&mut counts, event);
     }
     Ok(())

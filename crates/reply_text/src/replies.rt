@@ -1,10 +1,14 @@
-ghost use Rattle.std.specs.Prelude.{◌≡◌, ◌∷◌, ◌++◌, codes, IfOk, OnOk, OnErr};
+ghost use Rattle.std.specs.Prelude.{◌≡◌, ◌∷◌, ◌++◌, [], map, codes, OnOk, OnErr};
+ghost use Rattle.std.specs.Fmt.{decimal};
 ghost use Rattle.reply_text.specs.Parts.{spaced_words, lines_text};
-ghost use Rattle.reply_text.specs.Replies.{command_word, cause_words, answer_words, reply_lines};
+ghost use Rattle.reply_text.specs.Reductions.{reduced_counts, map_counts, reduced_lines, map_lines};
+ghost use Rattle.reply_text.specs.Replies.{command_word, cause_words, answer_words, first_line, further_lines};
+ghost use Rattle.reply_text.specs.Replies.{reply_lines};
 ghost use Rattle.reply_text.specs.ClientEvents.{IsAnswerTo};
 
+use crate::reductions::{put_map_counts, put_maps, put_reduced, put_reduced_counts};
 use crate::words::{put_all, put_named, put_next, put_number};
-use sheaf_words::{Cause, Command, Event, Query, Reply, Verdict};
+use sheaf_words::{Cause, Command, Event, Maps, Query, Reduced, Reply, Verdict};
 use std::alloc::{AllocError as NoMemory, Global};
 
 /// The first word of a command.
@@ -51,7 +55,32 @@ fn put_refusal(out: &mut Vec<u8>, cause: Cause) -> Result<(), NoMemory>
     put_cause(out, cause)
 }
 
-fn put_answer(out: &mut Vec<u8>, event: &Event) -> Result<(), NoMemory>
+/// Appends what the first line says of a reply, after the word of the command.
+fn put_reply_words(alloc: Global, out: &mut Vec<u8>, c: u32, r: &Reply) -> Result<(), NoMemory>
+    ensures { OnOk result (out.new.items ≡ out.old.items ++ spaced_words (answer_words (Event.Reply c r.now))) }
+{
+    match r {
+        Reply::Betti(numbers) => put_all(out, numbers.as_slice()),
+        Reply::Reduce(reduced) => put_reduced_counts(alloc, out, reduced),
+        Reply::Equiv(reduced, maps) => put_equiv_counts(alloc, out, reduced, maps),
+        _ => Ok(()),
+    }
+}
+
+fn put_equiv_counts(
+    alloc: Global,
+    out: &mut Vec<u8>,
+    reduced: &Reduced,
+    maps: &Maps,
+) -> Result<(), NoMemory>
+    ensures { OnOk result (out.new.items ≡ out.old.items
+        ++ spaced_words (map decimal (reduced_counts reduced.now ++ map_counts reduced.now maps.now))) }
+{
+    put_reduced_counts(alloc, out, reduced)?;
+    put_map_counts(alloc, out, reduced, maps)
+}
+
+fn put_answer(alloc: Global, out: &mut Vec<u8>, event: &Event) -> Result<(), NoMemory>
     ensures { OnOk result (out.new.items ≡ out.old.items ++ spaced_words (answer_words event.now)) }
 {
     match event {
@@ -63,40 +92,84 @@ fn put_answer(out: &mut Vec<u8>, event: &Event) -> Result<(), NoMemory>
             verdict: Verdict::Refused(cause),
             ..
         } => put_refusal(out, *cause),
-        Event::Reply {
-            r: Reply::Betti(numbers),
-            ..
-        } => put_all(out, numbers.as_slice()),
+        Event::Reply { c, r } => put_reply_words(alloc, out, *c, r),
         _ => Ok(()),
     }
 }
 
-/// The lines that answer a command, from the first word to the last line end.
-fn reply(
+/// Appends the first line.
+fn put_first(
+    alloc: Global,
+    out: &mut Vec<u8>,
+    number: u32,
+    v: u32,
+    command: &Command,
+    event: &Event,
+) -> Result<(), NoMemory>
+    ensures { OnOk result (out.new.items ≡ out.old.items
+        ++ lines_text (first_line number v command.now event.now ∷ [])) }
+{
+    put_number(out, number)?;
+    out.extend_from_slice(b" v")?;
+    put_number(out, v)?;
+    out.push(b' ')?;
+    out.extend_from_slice(command_word(command))?;
+    put_answer(alloc, out, event)?;
+    out.push(b'\n')?;
+    Ok(())
+}
+
+fn put_equiv(
+    alloc: Global,
+    out: &mut Vec<u8>,
+    reduced: &Reduced,
+    maps: &Maps,
+) -> Result<(), NoMemory>
+    ensures { OnOk result (out.new.items ≡ out.old.items
+        ++ lines_text (reduced_lines reduced.now ++ map_lines reduced.now maps.now)) }
+{
+    put_reduced(alloc, out, reduced)?;
+    put_maps(alloc, out, reduced, maps)
+}
+
+/// Appends the lines after the first.
+fn put_further(alloc: Global, out: &mut Vec<u8>, event: &Event) -> Result<(), NoMemory>
+    ensures { OnOk result (out.new.items ≡ out.old.items ++ lines_text (further_lines event.now)) }
+{
+    match event {
+        Event::Reply {
+            r: Reply::Reduce(reduced),
+            ..
+        } => put_reduced(alloc, out, reduced),
+        Event::Reply {
+            r: Reply::Equiv(reduced, maps),
+            ..
+        } => put_equiv(alloc, out, reduced, maps),
+        _ => Ok(()),
+    }
+}
+
+/// Appends the lines that answer a command, as `reply_lines`; but without memory some of them may stand there.
+pub(crate) fn put_reply(
     alloc: Global,
     number: u32,
     v: u32,
     command: &Command,
     event: &Event,
-) -> Result<Vec<u8>, NoMemory>
-    ensures { IfOk result (λ text. text.items ≡ lines_text (reply_lines number v command.now event.now)) }
+    out: &mut Vec<u8>,
+) -> Result<(), NoMemory>
+    ensures { OnOk result (out.new.items ≡ out.old.items
+        ++ lines_text (reply_lines number v command.now event.now)) }
 {
-    let mut text = Vec::new(alloc);
-    put_number(&mut text, number)?;
-    text.extend_from_slice(b" v")?;
-    put_number(&mut text, v)?;
-    text.push(b' ')?;
-    text.extend_from_slice(command_word(command))?;
-    put_answer(&mut text, event)?;
-    text.push(b'\n')?;
-    Ok(text)
+    put_first(alloc, out, number, v, command, event)?;
+    put_further(alloc, out, event)
 }
 
 /// Appends the lines that answer the command of this number, counted from 1, on the version `v`: for an edit that is
 /// accepted the new version, for one that is refused the version that stands, for a query the version that was asked.
 ///
-/// The event is the verdict on the edit, or the reply to the query, that the command is. Without memory the text is as
-/// before.
+/// The event is the verdict on the edit, or the reply to the query, that the command is. The lines are made apart, and
+/// so without memory the text is as before.
 pub fn reply_lines(
     alloc: Global,
     number: u32,
@@ -110,6 +183,7 @@ pub fn reply_lines(
         ++ lines_text (reply_lines number v command.now event.now)) }
     ensures err { OnErr result (out.new.items ≡ out.old.items) }
 {
-    let text = reply(alloc, number, v, command, event)?;
+    let mut text = Vec::new(alloc);
+    put_reply(alloc, number, v, command, event, &mut text)?;
     out.extend_from_slice(text.as_slice())
 }

@@ -10,7 +10,7 @@ ghost use Rattle.reply_text.specs.Counts.{IsCountOf};
 
 use crate::counts::Counts;
 use crate::order::put_order;
-use crate::replies::reply_lines;
+use crate::replies::put_reply;
 use crate::words::put_number;
 use dense_blocks::Listed;
 use sheaf_words::{Command, Event, Verdict};
@@ -132,7 +132,7 @@ fn put_answer(
     };
     let number = counts.ended + 1;
     let version = counts.version_named(event);
-    reply_lines(alloc, number, version, command, event, out)
+    put_reply(alloc, number, version, command, event, out)
 }
 
 /// Appends the replies to the client with this script, in order.

@@ -21,6 +21,15 @@ pub fn put_next(out: &mut Vec<u8>, number: u32) -> Result<(), NoMemory>
     put_number(out, number)
 }
 
+/// Appends a space and a count.
+pub fn put_count(out: &mut Vec<u8>, count: usize) -> Result<(), NoMemory>
+    ensures { OnOk result (out.new.items ≡ out.old.items ++ 32 ∷ decimal count) }
+{
+    out.push(b' ')?;
+    let mut buffer = Buffer::new();
+    out.extend_from_slice(buffer.format(count).as_bytes())
+}
+
 /// Appends a space before each number, and the number.
 pub fn put_all(out: &mut Vec<u8>, numbers: &[u32]) -> Result<(), NoMemory>
     ensures { OnOk result (out.new.items ≡ out.old.items ++ spaced_words (map decimal numbers.now)) }

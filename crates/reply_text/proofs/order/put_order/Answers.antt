@@ -28,8 +28,8 @@ loop-event-preserved c =
     let counted : AreCounted (take i events) c.as_slice.result.now = subst (AreCounted (take i events))
     (sym c.as_slice.ensures.value) inv.1 in (
       ordered-more events i item c.number_of-number.result c.args.out.now.items c.loop-event.out.items
-          c.event_line.new.out.items
-          inv.0 c.in_ok-event_line.ensures.ok (c.number_of-number.ensures (take i events) counted) next,
+          c.put_line.new.out.items
+          inv.0 c.in_ok-put_line.ensures (c.number_of-number.ensures (take i events) counted) next,
       subst (λ es. AreCounted es c.count_event.new.counts.items) (sym next)
           (c.count_event.ensures.counted (take i events) inv.1),
       c.count_event.ensures.len ∙ inv.2,

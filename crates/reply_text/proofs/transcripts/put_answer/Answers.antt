@@ -9,5 +9,5 @@ returns c = λ events h.
     let is = answer-is c.args.client c.args.script.now events c.args.event.now c.in-Some.command.now c.args.counts
     c.version_named-version.result
     (search rules) h there (c.version_named-version.ensures events c.args.client (search rules) h) in
-    subst (λ lines. OnOk c.reply_lines.result (c.reply_lines.new.out.items ≡ c.args.out.now.items ++ lines_text lines))
-    (sym is) c.reply_lines.ensures.ok
+    subst (λ lines. OnOk c.put_reply.result (c.put_reply.new.out.items ≡ c.args.out.now.items ++ lines_text lines))
+    (sym is) c.put_reply.ensures
