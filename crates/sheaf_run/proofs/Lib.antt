@@ -1,3 +1,4 @@
+mod DegreeLaws
 pub mod DueLaws
 pub mod Lines
 pub mod RunLaws
