@@ -1,6 +1,6 @@
 -- How far a reduction by first pairs has come: its beginning, one pair more, and its end.
 use Rattle.std.proofs.Common.{◌≡◌, ◌<◌, ◌≤◌, ◌⊎◌, inl, inr, ℕ, zero, suc, Bool, true, false, cond, ◌&&◌, List, [], ◌∷◌}
-use Rattle.std.proofs.Common.{◌++◌, map, Option, Some, None, refl, sym, ap, ap₂, ◌∙◌, subst, arith, append_nil, append_assoc}
+use Rattle.std.proofs.Common.{◌++◌, map, Option, Some, None, refl, sym, ap, ap₂, ◌∙◌, subst, arith, append-nil, append_assoc}
 use Rattle.std.specs.Prelude.{◌==◌, not}
 use Rattle.std.proofs.lemmas.Bool.{cases_Bool, eq-eqb}
 use Rattle.dense_blocks.specs.Field.{Ops}
@@ -9,7 +9,7 @@ use Rattle.dense_blocks.specs.MatrixFacts.{IsInverse, zero_matrix}
 use Rattle.block_complexes.specs.BlockComplexes.{BlockComplex, AreConsecutive, HaveSameMatrices, size_of}
 use Rattle.block_complexes.proofs.SameLaws.{same-refl, same-sym, same-trans}
 use Rattle.removals.specs.Removals.{IsRemoval}
-use Rattle.removals.specs.Reductions.{IsInverseAt, IsInvertibleAt, IsIrreducible}
+use Rattle.removals.specs.Reductions.{IsAfter, IsInverseAt, IsInvertibleAt, IsIrreducible}
 use Rattle.removals.proofs.SameRemovals.{removal-same-before}
 use Rattle.block_sparse.specs.StoredBlocks.{StoredBlocks, StoredBlock, complex_in, block_at, matrix, flag_of}
 use Rattle.block_sparse.specs.Candidates.{is_candidate, is_unflagged}
@@ -54,6 +54,25 @@ reduction-same K v m (p ∷ pairs) w h r = (
   r.4,
 )
 
+-- ---- what a reduction by first pairs is
+
+pub removed-more : (K : Ops) (v m w : BlockComplex) (pairs : List (ℕ × ℕ)) (x y : ℕ) (a : List (List ℕ))
+    → IsAfter K v pairs m → IsRemoval K m x y a w → IsAfter K v (pairs ++ (x, y) ∷ []) w
+removed-more K v m w [] x y a after removal =
+    (w, a, removal-same-before K m v x y a w (same-sym v m after) removal, same-refl w)
+removed-more K v m w (p ∷ pairs) x y a after removal =
+    (after.0, after.1, after.2, removed-more K after.0 m w pairs x y a after.3 removal)
+
+pub reduction-after : (K : Ops) (v w : BlockComplex) (pairs : List (ℕ × ℕ)) → IsFirstReduction K v pairs w
+    → IsAfter K v pairs w
+reduction-after K v w [] r = r.1
+reduction-after K v w (p ∷ pairs) r = (r.0, r.1, r.3, reduction-after K r.0 w pairs r.4)
+
+pub reduction-irreducible : (K : Ops) (v w : BlockComplex) (pairs : List (ℕ × ℕ)) → IsFirstReduction K v pairs w
+    → IsIrreducible K w
+reduction-irreducible K v w [] r = λ s t i. r.0 s t (invertible-same K v w r.1 s t i)
+reduction-irreducible K v w (p ∷ pairs) r = reduction-irreducible K r.0 w pairs r.4
+
 -- ---- beginnings
 
 pub beginning-none : (K : Ops) (v : BlockComplex) → IsBeginning K v [] v
@@ -74,7 +93,7 @@ beginning-then K u v w ps qs b c = λ rest x r.
 pub beginning-end : (K : Ops) (v w : BlockComplex) (pairs : List (ℕ × ℕ)) → IsBeginning K v pairs w
     → IsIrreducible K w → IsFirstReduction K v pairs w
 beginning-end K v w pairs b i =
-    subst (λ l. IsFirstReduction K v l w) (append_nil pairs) (b [] w (i, same-refl w))
+    subst (λ l. IsFirstReduction K v l w) (append-nil pairs) (b [] w (i, same-refl w))
 
 -- ---- the first candidate
 

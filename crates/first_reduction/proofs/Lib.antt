@@ -1,3 +1,4 @@
 mod WorkLaws
-mod FirstLaws
+pub mod FirstLaws
 mod StandingLaws
+mod AdvanceLaws

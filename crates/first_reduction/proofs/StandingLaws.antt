@@ -1,6 +1,6 @@
 -- The footprint of a candidate fits, and its pivot stands.
 use Rattle.std.proofs.Common.{◌≡◌, ℕ, Bool, true, false, ◌&&◌, ◌||◌, cond, List, length, refl, sym, ap, ap₂, ◌∙◌, subst}
-use Rattle.std.proofs.Common.{inl, inr, ◌⊎◌, Option, Some, None}
+use Rattle.std.proofs.Common.{inl, inr, ◌⊎◌, Option, Some, None, [], ◌∷◌}
 use Rattle.std.specs.Prelude.{◌==◌, not, is_some}
 use Rattle.std.proofs.lemmas.Bool.{cases_eq, cases_Bool, eq-eqb, eqb-true, ne_eqb, and_parts, or_parts}
 use Rattle.dense_blocks.specs.Field.{Ops}
@@ -103,7 +103,7 @@ module _ (K : Ops) (F : IsField K) (v : StoredBlocks) (sound : IsSound v.live v.
   copied s t (inl e) (inr m) =
       ap (λ s. matrix v s t) (sym (eqb-true foot.x s e))
       ∙ sym (column foot.x t (eq-eqb foot.x foot.x refl) m)
-      ∙ sym (column-part foot.x (size_of v.live foot.x) foot.below foot.column t (foot.parts.column_cols ∙ cols))
+      ∙ column-part foot.x (size_of v.live foot.x) foot.below foot.column t (foot.parts.column_cols ∙ cols)
       ∙ sym (copied-at v foot s t true false (eq-eqb s foot.x (sym (eqb-true foot.x s e))) (not_y v foot t m))
     where
       column : (p q : ℕ) → (foot.x == p) ≡ true → has q (keys foot.below) ≡ true

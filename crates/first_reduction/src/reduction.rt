@@ -25,10 +25,16 @@ pub fn reduce<F: Scalars>(alloc: Global, slot: &mut Slot<F>) -> Result<(), NoMem
     ensures carried { slot.new.carried ≡ [] }
     ensures reduced { OnOk result (IsReduced (F.ops slot.old.f) slot.old slot.new) }
 {
-    'pairs: while let Some(foot) = first_footprint(slot)? {
-        try_pair(alloc, slot, foot)?;
+    'pairs: loop {
+        match first_footprint(slot)? {
+            Some(foot) => try_pair(alloc, slot, foot)?,
+            None => {
+                // This call is made for its clauses alone.
+                let _cells = slot.now().live();
+                return Ok(());
+            }
+        }
     }
-    Ok(())
 }
 
 /// The footprint of the first pair to be tried; none where each square block was tried.
@@ -46,11 +52,7 @@ fn first_footprint<F: Scalars>(slot: &mut Slot<F>) -> Result<Option<Footprint>, 
 }
 
 /// Removes the pair of the footprint, where its pivot has an inverse; else sets the pivot's flag.
-fn try_pair<F: Scalars>(
-    alloc: Global,
-    slot: &mut Slot<F>,
-    foot: Footprint,
-) -> Result<(), NoMemory>
+fn try_pair<F: Scalars>(alloc: Global, slot: &mut Slot<F>, foot: Footprint) -> Result<(), NoMemory>
     requires none { slot.old.carried ≡ [] }
     requires first { IsFirstFootprint slot.old.present foot }
     requires over { IsOverField (F.ops slot.old.f) foot }
@@ -59,15 +61,19 @@ fn try_pair<F: Scalars>(
     ensures carried { slot.new.carried ≡ [] }
     ensures advance { OnOk result (IsAdvance (F.ops slot.old.f) slot.old slot.new) }
 {
+    // This call is made for its clauses alone.
+    let _cells = slot.now().live();
     let f = slot.field();
     match foot.finish(alloc, &f) {
         Ok(Finish::Made(record)) => remove(slot, record),
-        Ok(Finish::Singular {
-            x,
-            y,
-            pivot,
-            kernel,
-        }) => {
+        Ok(
+            Finish::Singular {
+                x,
+                y,
+                pivot,
+                kernel,
+            },
+        ) => {
             set_flag(slot, x, y, &pivot, &kernel);
             Ok(())
         }
