@@ -34,7 +34,7 @@ use Rattle.core_machine.specs.Machine.{EditStep, AskStep, PairStep, ReplyStep, S
 use Rattle.core_machine.specs.Machine.{IsLegalAndWhole}
 use Rattle.core_machine.specs.Legal.{first_state}
 use Rattle.core_machine.specs.Counts.{lane_position, lane_pending}
-use Rattle.core_machine.specs.Solo.{IsFirstInvertible, HasCompositeMaps, SoloStep, IsSoloOrder}
+use Rattle.core_machine.specs.Solo.{SoloStep, IsSoloOrder}
 use Rattle.core_machine.proofs.SheafLaws.{IsSheafOver, IsVersion, version-at, all-step, edits-keep-version}
 use Rattle.core_machine.proofs.ReplyLaws.{AreSameReductions, one-reduction, same-invertible, one-reply}
 
@@ -207,13 +207,16 @@ versions-unique K sheaf edit (Refused cause) old a b h k = h ∙ sym k
 
 edit-unique : {F : Type 0} (K : Ops) (scripts : List (List Command)) (c : ℕ) (v w : Verdict) (s m n : State F)
     → EditStep K scripts c v s m → EditStep K scripts c w s n → (Edit c v ≡ Edit c w) × (m ≡ n)
-edit-unique {F} K scripts c v w s m n a b = (ap (Edit c) verdicts, state-same m n
-    (versions-unique K a.sheaf a.edit v s.sheaves m.sheaves n.sheaves a.versions
-    (subst (λ d. AreVersionsAfter K d a.edit v s.sheaves n.sheaves) (sym sheaf)
-    (subst (λ e. AreVersionsAfter K b.sheaf e v s.sheaves n.sheaves) (sym edit)
-    (subst (λ u. AreVersionsAfter K b.sheaf b.edit u s.sheaves n.sheaves) (sym verdicts) b.versions))))
-    (a.lanes ∙ ap (λ p. with_lane s.lanes c (free_lane (p + 1))) position ∙ sym b.lanes)
-    (a.pairs ∙ sym b.pairs))
+edit-unique {F} K scripts c v w s m n a b = (
+  ap (Edit c) verdicts,
+  state-same m n
+      (versions-unique K a.sheaf a.edit v s.sheaves m.sheaves n.sheaves a.versions
+      (subst (λ d. AreVersionsAfter K d a.edit v s.sheaves n.sheaves) (sym sheaf)
+      (subst (λ e. AreVersionsAfter K b.sheaf e v s.sheaves n.sheaves) (sym edit)
+      (subst (λ u. AreVersionsAfter K b.sheaf b.edit u s.sheaves n.sheaves) (sym verdicts) b.versions))))
+      (a.lanes ∙ ap (λ p. with_lane s.lanes c (free_lane (p + 1))) position ∙ sym b.lanes)
+      (a.pairs ∙ sym b.pairs),
+)
   where
     position : a.position ≡ b.position
     position = ap lane_position (sym a.is_free ∙ b.is_free)
@@ -257,10 +260,13 @@ edit-ask K scripts c v s m n a b =
 pair-unique : {F : Type 0} (K : Ops) (scripts : List (List Command)) (v x y x' y' : ℕ) (s m n : State F) → IsField K
     → IsSoloState K scripts s → SoloStep K scripts (Pair v x y) s m → SoloStep K scripts (Pair v x' y') s n
     → (Pair v x y ≡ Pair v x' y') × (m ≡ n)
-pair-unique {F} K scripts v x y x' y' s m n field solo a b = (ap₂ (Pair v) from to, state-same m n
-    (a.0.versions ∙ sym b.0.versions) (a.0.lanes ∙ sym b.0.lanes)
-    (a.0.pairs ∙ ap (λ ps. update nat_eq s.pairs v (Some (ps ++ (x, y) ∷ []))) (sym same.pairs)
-    ∙ ap₂ (λ p q. update nat_eq s.pairs v (Some (b.0.reduction.pairs ++ (p, q) ∷ []))) from to ∙ sym b.0.pairs))
+pair-unique {F} K scripts v x y x' y' s m n field solo a b = (
+  ap₂ (Pair v) from to,
+  state-same m n
+      (a.0.versions ∙ sym b.0.versions) (a.0.lanes ∙ sym b.0.lanes)
+      (a.0.pairs ∙ ap (λ ps. update nat_eq s.pairs v (Some (ps ++ (x, y) ∷ []))) (sym same.pairs)
+      ∙ ap₂ (λ p q. update nat_eq s.pairs v (Some (b.0.reduction.pairs ++ (p, q) ∷ []))) from to ∙ sym b.0.pairs),
+)
   where
     same : AreSameReductions a.0.reduction b.0.reduction
     same = one-reduction K s v a.0.reduction b.0.reduction field a.0.asked
@@ -282,10 +288,13 @@ pair-unique {F} K scripts v x y x' y' s m n field solo a b = (ap₂ (Pair v) fro
 reply-unique : {F : Type 0} (K : Ops) (scripts : List (List Command)) (c : ℕ) (x y : Answer) (s m n : State F)
     → IsField K → IsSoloState K scripts s → SoloStep K scripts (Reply c x) s m → SoloStep K scripts (Reply c y) s n
     → (Reply c x ≡ Reply c y) × (m ≡ n)
-reply-unique {F} K scripts c x y s m n field solo a b = (ap (Reply c) replies, state-same m n
-    (a.0.versions ∙ sym b.0.versions)
-    (a.0.lanes ∙ ap (λ p. with_lane s.lanes c (free_lane (p + 1))) position ∙ sym b.0.lanes)
-    (a.0.pairs ∙ sym b.0.pairs))
+reply-unique {F} K scripts c x y s m n field solo a b = (
+  ap (Reply c) replies,
+  state-same m n
+      (a.0.versions ∙ sym b.0.versions)
+      (a.0.lanes ∙ ap (λ p. with_lane s.lanes c (free_lane (p + 1))) position ∙ sym b.0.lanes)
+      (a.0.pairs ∙ sym b.0.pairs),
+)
   where
     lanes : waiting_lane a.0.position a.0.version ≡ waiting_lane b.0.position b.0.version
     lanes = sym a.0.is_waiting ∙ b.0.is_waiting
@@ -502,8 +511,11 @@ next-solo {F} K scripts (Ask c) s t field solo step = record {
     asked : (v : ℕ) (pairs : List (ℕ × ℕ)) → t.pairs v ≡ Some pairs → (b : Bool) → (v == step.0.version) ≡ b
         → v < length t.sheaves
     asked v pairs at true e = omega (arith, eqb-true v step.0.version e, step.0.current, ap length step.0.versions)
-    asked v pairs at false e = omega (arith, solo.asked v pairs (elsewhere v (eqb-false v step.0.version e) ∙ at),
-        ap length step.0.versions)
+    asked v pairs at false e = omega (
+      arith,
+      solo.asked v pairs (elsewhere v (eqb-false v step.0.version e) ∙ at),
+      ap length step.0.versions,
+    )
 
     lane-other : (d : ℕ) → c ≢ d → t.lanes d ≡ s.lanes d
     lane-other d other = ap (λ f. f d) step.0.lanes
@@ -547,8 +559,12 @@ next-solo {F} K scripts (Pair w x y) s t field solo step = record {
         ∙ ap (λ f. f v) (sym step.0.pairs)
 
     asked : (v : ℕ) (pairs : List (ℕ × ℕ)) → t.pairs v ≡ Some pairs → (b : Bool) → (v == w) ≡ b → v < length t.sheaves
-    asked v pairs at true e = omega (arith, eqb-true v w e,
-        solo.asked w step.0.reduction.pairs step.0.asked.removed, ap length step.0.versions)
+    asked v pairs at true e = omega (
+      arith,
+      eqb-true v w e,
+      solo.asked w step.0.reduction.pairs step.0.asked.removed,
+      ap length step.0.versions,
+    )
     asked v pairs at false e =
         omega (arith, solo.asked v pairs (elsewhere v (eqb-false v w e) ∙ at), ap length step.0.versions)
 

@@ -6,7 +6,7 @@ use Rattle.dense_blocks.specs.Field.{Ops}
 use Rattle.block_complexes.specs.BlockComplexes.{BlockComplex}
 use Rattle.block_complexes.proofs.SameLaws.{same-refl, same-sym}
 use Rattle.removals.specs.Removals.{IsRemoval}
-use Rattle.removals.specs.Reductions.{IsAfter, IsInvertibleAt}
+use Rattle.removals.specs.Reductions.{IsAfter}
 use Rattle.removals.proofs.SameRemovals.{removal-same-before}
 use Rattle.sheaf_words.specs.declared.query.Command.{Command}
 use Rattle.sheaf_words.specs.declared.event.Event.{Event}
