@@ -3,3 +3,4 @@ pub mod SheafLaws
 pub mod ReplyLaws
 pub mod SoloLaws
 pub mod StepLaws
+pub mod JoinedLaws
