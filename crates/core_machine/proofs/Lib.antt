@@ -2,3 +2,5 @@ pub mod CountLaws
 pub mod SheafLaws
 pub mod ReplyLaws
 pub mod SoloLaws
+pub mod StepLaws
+pub mod JoinedLaws

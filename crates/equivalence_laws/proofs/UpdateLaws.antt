@@ -64,7 +64,7 @@ size-absent (l ∷ ls) k c h = go (eqb l.1 k) (eqb l.0 c) refl h (size-absent ls
 
 -- rows
 module _ (K : Ops) where
-  value-image_of : (cs : List Cell) (A : List (List ℕ)) (z : List ℕ) (c : ℕ) → value_at cs (image_of K A z) c
+  pub value-image_of : (cs : List Cell) (A : List (List ℕ)) (z : List ℕ) (c : ℕ) → value_at cs (image_of K A z) c
       ≡ image_of K (cell_rows cs A c) z
   value-image_of [] A z c = refl
   value-image_of (t ∷ ts) A z c =
@@ -87,7 +87,7 @@ module _ (K : Ops) where
   drop-matrix (suc m) k n (r ∷ A) h = let g : Matrix K (suc (m + k)) n (r ∷ A) =
       subst (λ l. Matrix K l n (r ∷ A)) (suc-add m k) h in drop-matrix m k n A g.1
 
-  rows-matrix : (cs : List Cell) (n : ℕ) (A : List (List ℕ)) (c : ℕ) → Matrix K (total_size cs) n A
+  pub rows-matrix : (cs : List Cell) (n : ℕ) (A : List (List ℕ)) (c : ℕ) → Matrix K (total_size cs) n A
       → Matrix K (size_at cs c) n (cell_rows cs A c)
   unfolding size_at
   rows-matrix [] n A c h = tt
@@ -121,7 +121,7 @@ module _ (K : Ops) where
     product-rows (suc l) m n (a ∷ A) B e h = (combination-vector K F m n a B h, product-rows l m n A B (omega arith) h)
 
     -- columns
-    columns-matrix : (cs : List Cell) (m : ℕ) (A : List (List ℕ)) (c : ℕ) → Matrix K m (total_size cs) A
+    pub columns-matrix : (cs : List Cell) (m : ℕ) (A : List (List ℕ)) (c : ℕ) → Matrix K m (total_size cs) A
         → Matrix K m (size_at cs c) (map (λ row. value_at cs row c) A)
     columns-matrix cs zero [] c h = tt
     columns-matrix cs zero (a ∷ A) c h = absurd h
@@ -142,7 +142,7 @@ module _ (K : Ops) where
         (split-image_of m n j A z h.1 hz)
 
     -- a matrix at a cochain is the sum, over the live cells, of its columns at the cell at the value there
-    live-sum : (live : List (ℕ × ℕ × ℕ)) → IsRising (cells live) → (k m : ℕ) (A : List (List ℕ)) (z : List ℕ)
+    pub live-sum : (live : List (ℕ × ℕ × ℕ)) → IsRising (cells live) → (k m : ℕ) (A : List (List ℕ)) (z : List ℕ)
         → Matrix K m (total_size (of_degree k live)) A → Vector K (total_size (of_degree k live)) z
         → image_of K A z ≡ sum_over K m (λ c. image_of K (map (λ row. value_at (of_degree k live) row c) A)
         (value_at (of_degree k live) z c)) (cells live)
@@ -216,7 +216,7 @@ module _ (K : Ops) where
     without_columns (suc m) (a ∷ A) z h = ap₂ ◌∷◌ (ap (λ r. dot K r z) (vector-nil K a h.0)) (without_columns m A z h.1)
 
 -- a cell of another degree has no coordinates
-size-other : (live : List (ℕ × ℕ × ℕ)) (k c : ℕ) → IsRising (cells live) → degree_of live c ≢ k → has c (cells live)
+pub size-other : (live : List (ℕ × ℕ × ℕ)) (k c : ℕ) → IsRising (cells live) → degree_of live c ≢ k → has c (cells live)
     ≡ true → size_at (of_degree k live) c ≡ 0
 unfolding size_at
 size-other [] k c r n h = refl
