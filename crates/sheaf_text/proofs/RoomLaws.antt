@@ -7,6 +7,14 @@ use Rattle.std.specs.Prelude.{sum_by}
 use Rattle.std.proofs.lemmas.Bool.{cases_lt, lt-ltb, le-ltb}
 use Rattle.std.proofs.lemmas.List.{take_all}
 use Rattle.std.proofs.lemmas.List.Sums.{sum_by_push}
+use Rattle.sheaf_words.specs.declared.query.Command.{Command}
+use Rattle.sheaf_words.specs.declared.query.Command.TheVariants.{Change}
+use Rattle.sheaf_words.specs.declared.edit.Edit.{Edit}
+use Rattle.sheaf_text.specs.Rooms.{large_replies, set_coordinates, new_coordinates}
+use Rattle.sheaf_text.specs.State.{scripts_at}
+use Rattle.sheaf_text.specs.declared.line.Stage.{Stage}
+use Rattle.sheaf_text.specs.declared.line.Stage.TheVariants as stages
+use Rattle.sheaf_text.specs.declared.scripts.Scripts.{Scripts}
 use Rattle.sheaf_text.specs.declared.room.Needs.{Needs}
 use Rattle.sheaf_text.specs.Needs.{AreNeeds}
 
@@ -41,13 +49,47 @@ needs-same n m k j needs e f h = record {
   coordinates_are = h.coordinates_are ∙ ap (λ x. min x 4096) f;
 }
 
+-- ---- the scripts so far
+
+-- what a reader has of the clients: scripts that have ended, the commands of the last client, and an open edit
+pub client-needs : (stalks : ℕ) (ended : List (List Command)) (commands : List Command) (needs : Needs)
+    → AreNeeds ((0 + sum_by (sum_by large_replies) ended) + sum_by large_replies commands)
+    ((stalks + sum_by (sum_by new_coordinates) ended) + sum_by new_coordinates commands) needs
+    → AreNeeds (sum_by (sum_by large_replies) (ended ++ commands ∷ []))
+    (stalks + sum_by (sum_by new_coordinates) (ended ++ commands ∷ [])) needs
+client-needs stalks ended commands needs h = needs-same _ _ _ _ needs
+    (omega (arith, sum_by_push (sum_by large_replies) ended commands))
+    (omega (arith, sum_by_push (sum_by new_coordinates) ended commands)) h
+
+pub edit-needs : (stalks : ℕ) (ended : List (List Command)) (commands : List Command) (edit : Edit) (needs : Needs)
+    → AreNeeds ((0 + sum_by (sum_by large_replies) ended) + sum_by large_replies commands)
+    (((stalks + sum_by (sum_by new_coordinates) ended) + sum_by new_coordinates commands)
+    + sum_by set_coordinates edit.sets) needs
+    → AreNeeds (sum_by (sum_by large_replies) (ended ++ (commands ++ Change edit ∷ []) ∷ []))
+    (stalks + sum_by (sum_by new_coordinates) (ended ++ (commands ++ Change edit ∷ []) ∷ [])) needs
+edit-needs stalks ended commands edit needs h =
+    let script = commands ++ Change edit ∷ [] in
+    let none : sum_by large_replies script ≡ sum_by large_replies commands + 0 =
+    sum_by_push large_replies commands (Change edit) in
+    let more : sum_by new_coordinates script ≡ sum_by new_coordinates commands + sum_by set_coordinates edit.sets =
+    sum_by_push new_coordinates commands (Change edit) in
+    needs-same _ _ _ _ needs
+    (omega (arith, none, sum_by_push (sum_by large_replies) ended script))
+    (omega (arith, more, sum_by_push (sum_by new_coordinates) ended script)) h
+
+pub other-scripts : (stage : Stage) (s : Scripts) → (stage ≡ stages.InClient → ⊥) → (stage ≡ stages.InEdit → ⊥)
+    → s.ended.items ≡ scripts_at stage s
+other-scripts stages.InClient s not_client not_edit = absurd (not_client refl)
+other-scripts stages.InEdit s not_client not_edit = absurd (not_edit refl)
+other-scripts stage s not_client not_edit = refl
+
 -- ---- too much
 
 -- a product above the bound, where one factor and the product are as large as their types allow at most
 product-bounded : (n e : ℕ) → nat_lt 1073741824 (min (min n 4294967295 * e) 18446744073709551615)
     ≡ nat_lt 1073741824 (n * e)
-product-bounded n zero = ap₂ (λ a b. nat_lt 1073741824 b) refl
-    (ap (λ x. min x 18446744073709551615) (mul-zero (min n 4294967295)) ∙ sym (mul-zero n))
+product-bounded n zero = ap (λ x. nat_lt 1073741824 (min x 18446744073709551615)) (mul-zero (min n 4294967295))
+    ∙ sym (ap (nat_lt 1073741824) (mul-zero n))
 product-bounded n (suc e) = ⊎_elim above below (cases_lt 4294967295 n)
   where
     exact : (x : ℕ) → nat_lt 1073741824 (min x 18446744073709551615) ≡ nat_lt 1073741824 x

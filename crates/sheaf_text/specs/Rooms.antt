@@ -1,16 +1,21 @@
 -- How much room the replies to commands may need.
-use Rattle.std.specs.Prelude.{ℕ, ◌+◌, ◌*◌, min, List, sum, sum_by}
+use Rattle.std.specs.Prelude.{ℕ, ◌+◌, ◌*◌, min, Bool, true, false, if◌then◌else◌, List, sum, sum_by}
 use Rattle.sheaf_words.specs.declared.query.Command.{Command}
 use Rattle.sheaf_words.specs.declared.query.Command.TheVariants.{Change, Ask}
+use Rattle.sheaf_words.specs.declared.query.Query.{Query}
 use Rattle.sheaf_words.specs.declared.query.Query.TheVariants.{Betti}
 use Rattle.sheaf_words.specs.declared.edit.Set.{Set}
 use Rattle.sheaf_words.specs.declared.edit.Set.TheVariants.{Stalk, Restrict}
 
--- how many of its replies may be large: one, but none of an edit and of the question for the Betti numbers
+-- the reply may be large: it is none of Betti numbers
+abbrev pub is_large : Query → Bool
+is_large Betti = false
+is_large query = true
+
+-- how many replies to a command may be large: an edit has none
 abbrev pub large_replies : Command → ℕ
 large_replies (Change e) = 0
-large_replies (Ask Betti) = 0
-large_replies (Ask query) = 1
+large_replies (Ask query) = if is_large query then 1 else 0
 
 -- how many coordinates a change gives a stalk
 abbrev pub set_coordinates : Set → ℕ

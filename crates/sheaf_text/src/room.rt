@@ -1,6 +1,6 @@
-ghost use Rattle.std.specs.Prelude.{◌≡◌, ℕ, ◌+◌, ◌*◌, nat_lt, min, sum, sum_by};
+ghost use Rattle.std.specs.Prelude.{◌≡◌, ℕ, ◌+◌, ◌*◌, nat_lt, min, if◌then◌else◌, sum, sum_by};
 ghost use Rattle.sheaf_text.specs.Parts.{AreDraftParts};
-ghost use Rattle.sheaf_text.specs.Rooms.{large_replies, set_coordinates, new_coordinates, room};
+ghost use Rattle.sheaf_text.specs.Rooms.{is_large, large_replies, set_coordinates, new_coordinates, room};
 ghost use Rattle.sheaf_text.specs.Needs.{AreNeeds};
 ghost use Rattle.sheaf_text.specs.State.{scripts_at};
 
@@ -22,6 +22,21 @@ pub(crate) struct Needs {
     pub(crate) replies: u32,
     /// How many coordinates all stalks together may come to have; at most `MOST_COORDINATES`.
     pub(crate) coordinates: u32,
+}
+
+/// Whether the reply may be large.
+fn is_large(query: &Query) -> bool
+    ensures { result ≡ is_large query.now }
+{
+    match query {
+        Query::Betti => false,
+        Query::Reduce
+        | Query::Equiv
+        | Query::Basis { .. }
+        | Query::Class { .. }
+        | Query::Sections
+        | Query::Extend { .. } => true,
+    }
 }
 
 impl Needs {
@@ -50,12 +65,12 @@ impl Needs {
         needs
     }
 
-    /// After a large reply.
-    fn after_large(self) -> Needs
-        ensures { (n k : ℕ) → AreNeeds n k self → AreNeeds (n + 1) k result }
+    /// After a reply.
+    fn after_reply(self, is_large: bool) -> Needs
+        ensures { (n k : ℕ) → AreNeeds n k self → AreNeeds (n + (if is_large then 1 else 0)) k result }
     {
         Needs {
-            replies: self.replies.saturating_add(1),
+            replies: self.replies.saturating_add(u32::from(is_large)),
             coordinates: self.coordinates,
         }
     }
@@ -67,8 +82,7 @@ impl Needs {
     {
         match command {
             Command::Change(edit) => self.after_sets(edit.sets.as_slice()),
-            Command::Ask(Query::Betti) => self,
-            Command::Ask(_) => self.after_large(),
+            Command::Ask(query) => self.after_reply(is_large(query)),
         }
     }
 
