@@ -100,7 +100,7 @@ fn put_nonzero(
 fn nonzero_count(block: &Block, s: Coordinates, t: Coordinates) -> usize
     ensures { (word : List ℕ) → result ≡ length (nonzero_line word s t (entries_between block.now s t)) }
 {
-    if is_zero_between(block, s, t) { 0 } else { 1 }
+    usize::from(!is_zero_between(block, s, t))
 }
 
 // ---- the blocks of joined matrices

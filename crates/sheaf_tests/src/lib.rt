@@ -6,6 +6,8 @@ mod events;
 #[cfg(test)]
 mod inputs;
 #[cfg(test)]
+mod replies;
+#[cfg(test)]
 mod sheaves;
 #[cfg(test)]
 mod words;

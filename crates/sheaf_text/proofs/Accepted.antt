@@ -10,7 +10,7 @@ use Rattle.field_table.specs.Table.{orders}
 use Rattle.sheaf_text.specs.Lines.{value, may_stand, count_fits, word, face_in}
 use Rattle.sheaf_text.specs.Grammar.{Known, face_refusal, entries_refusal, kind_refusal, placed_refusal}
 use Rattle.sheaf_text.specs.Forms.{are_below, are_numerals, is_sign, is_full, field_refusal, incidence_refusal}
-use Rattle.sheaf_text.specs.Forms.{is_set_kind}
+use Rattle.sheaf_text.specs.Forms.{is_query_kind, is_set_kind}
 use Rattle.sheaf_text.specs.Parts.{TakesFace}
 use Rattle.sheaf_text.specs.State.{known_by, IsAccepted}
 use Rattle.sheaf_text.specs.declared.fault.Refusal.{Refusal}
@@ -77,9 +77,14 @@ face_fits k ws e =
 
 -- ---- where a line stands
 
-betti_stands : (s : Stage) → may_stand s kinds.Betti ≡ true → s ≡ stages.InClient
-betti_stands stages.InClient e = refl
-betti_stands s e = absurd cc
+query_stands : (kind : Kind) (s : Stage) → is_query_kind kind ≡ true → may_stand s kind ≡ true → s ≡ stages.InClient
+query_stands kinds.Betti stages.InClient e h = refl
+query_stands kinds.Betti s e h = absurd cc
+query_stands kinds.Reduce stages.InClient e h = refl
+query_stands kinds.Reduce s e h = absurd cc
+query_stands kinds.Equiv stages.InClient e h = refl
+query_stands kinds.Equiv s e h = absurd cc
+query_stands kind s e h = absurd cc
 
 edit_stands : (s : Stage) → may_stand s kinds.Edit ≡ true → s ≡ stages.InClient
 edit_stands stages.InClient e = refl
@@ -107,8 +112,9 @@ face_accepted s ws a =
       below = fits.below;
     }
 
-pub betti_accepted : (s : State) (ws : List (List ℕ)) → IsAccepted s kinds.Betti ws → s.stage ≡ stages.InClient
-betti_accepted s ws a = betti_stands s.stage (right (known_by s) kinds.Betti ws a.accepted).stands
+pub query_accepted : (s : State) (kind : Kind) (ws : List (List ℕ)) → is_query_kind kind ≡ true
+    → IsAccepted s kind ws → s.stage ≡ stages.InClient
+query_accepted s kind ws e a = query_stands kind s.stage e (right (known_by s) kind ws a.accepted).stands
 
 pub edit_accepted : (s : State) (ws : List (List ℕ)) → IsAccepted s kinds.Edit ws → s.stage ≡ stages.InClient
 edit_accepted s ws a = edit_stands s.stage (right (known_by s) kinds.Edit ws a.accepted).stands

@@ -11,14 +11,14 @@ use Rattle.std.proofs.lemmas.List.Sums.{sum_by-append, sum_by-cons, count_by-le-
 use Rattle.std.proofs.lemmas.List.Splits.{length-slice_split}
 use Rattle.sheaf_words.specs.declared.query.Command.{Command}
 use Rattle.sheaf_words.specs.declared.query.Command.TheVariants.{Change, Ask}
-use Rattle.sheaf_words.specs.declared.query.Query.TheVariants.{Betti}
+use Rattle.sheaf_words.specs.declared.query.Query.TheVariants.{Betti, Reduce, Equiv}
 use Rattle.sheaf_words.specs.declared.edit.Set.{Set}
 use Rattle.sheaf_text.specs.Cut.{words}
 use Rattle.sheaf_text.specs.Lines.{word, is_skipped, kind_of}
 use Rattle.sheaf_text.specs.Grammar.{InputValue, Known, refusal, kind_refusal, is_ended}
 use Rattle.sheaf_text.specs.Readings.{Reading, Good, RefusedLine, input_value, command_with_set, advance}
 use Rattle.sheaf_text.specs.Readings.{nothing_known, run}
-use Rattle.sheaf_text.specs.Forms.{content_refusal, known_after, set_of, onto_last, into_script, into_last}
+use Rattle.sheaf_text.specs.Forms.{command_refusal, content_refusal, known_after, set_of, onto_last, into_script, into_last}
 use Rattle.sheaf_text.specs.Forms.{reading_at_end, go_on, contents}
 use Rattle.sheaf_text.specs.Answers.{Gives, IsServable, AreServable}
 use Rattle.sheaf_text.specs.declared.fault.LineCause.TheVariants as causes
@@ -186,20 +186,25 @@ change_more dims scripts counted line s few = record {
 abbrev AreFewKnown : List ℕ → Known → ℕ → Type 0
 AreFewKnown dims k line = AreFewAt dims k.input.scripts k.commands line
 
+command_keeps : (dims : List ℕ) (k : Known) (line : ℕ) (c : Command) → IsServable dims (line + 1) c
+    → command_refusal k ≡ None → AreFewKnown dims k line
+    → AreFewAt dims (onto_last k.input.scripts c) (k.commands + 1) (line + 1)
+command_keeps dims k line c new e few =
+    command_more dims k.input.scripts k.commands (line + 1) c new
+    (leb-false _ _ (passes (nat_le 4096 k.commands) (Over limits.Commands) None e).0)
+    (line_more dims k.input.scripts k.commands line few)
+
 kind_keeps : (dims : List ℕ) (k : Known) (line : ℕ) (kind : Kind) (ws : List (List ℕ)) → kind_refusal k kind ws ≡ None
     → AreFewKnown dims k line → AreFewKnown dims (advance k (Some kind) ws) (line + 1)
 kind_keeps dims k line kinds.Client ws e few =
     client_more dims k.input.scripts k.commands (line + 1)
     (leb-false _ _ (passes (nat_le 8 (length k.input.scripts)) (Over limits.Clients) None e).0)
     (line_more dims k.input.scripts k.commands line few)
-kind_keeps dims k line kinds.Betti ws e few =
-    command_more dims k.input.scripts k.commands (line + 1) (Ask Betti) tt
-    (leb-false _ _ (passes (nat_le 4096 k.commands) (Over limits.Commands) None e).0)
-    (line_more dims k.input.scripts k.commands line few)
+kind_keeps dims k line kinds.Betti ws e few = command_keeps dims k line (Ask Betti) tt e few
+kind_keeps dims k line kinds.Reduce ws e few = command_keeps dims k line (Ask Reduce) tt e few
+kind_keeps dims k line kinds.Equiv ws e few = command_keeps dims k line (Ask Equiv) tt e few
 kind_keeps dims k line kinds.Edit ws e few =
-    command_more dims k.input.scripts k.commands (line + 1) (Change (record { sets = [] })) (omega arith)
-    (leb-false _ _ (passes (nat_le 4096 k.commands) (Over limits.Commands) None e).0)
-    (line_more dims k.input.scripts k.commands line few)
+    command_keeps dims k line (Change (record { sets = [] })) (omega arith) e few
 kind_keeps dims k line kinds.Stalk ws e few =
     change_more dims k.input.scripts k.commands line (set_of kinds.Stalk ws) few
 kind_keeps dims k line kinds.Restrict ws e few = change_more dims k.input.scripts k.commands line

@@ -7,3 +7,4 @@ pub mod Taken
 pub mod Steps
 pub mod Inputs
 pub mod Few
+pub mod RoomLaws

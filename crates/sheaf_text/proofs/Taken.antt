@@ -1,11 +1,11 @@
 -- What is known after a line of a client.
 use Rattle.std.proofs.Common.{◌≡◌, ℕ, true, List, [], ◌∷◌, ◌++◌, refl, ap, ◌∙◌, Some}
 use Rattle.sheaf_words.specs.declared.query.Command.TheVariants.{Change, Ask}
-use Rattle.sheaf_words.specs.declared.query.Query.TheVariants.{Betti}
+use Rattle.sheaf_words.specs.declared.query.Query.{Query}
 use Rattle.sheaf_words.specs.declared.edit.Set.{Set}
 use Rattle.sheaf_text.specs.Grammar.{Known}
-use Rattle.sheaf_text.specs.Readings.{with_last, command_with_set, advance}
-use Rattle.sheaf_text.specs.Forms.{set_of, is_set_kind, into_last}
+use Rattle.sheaf_text.specs.Readings.{with_last, command_with_set, with_query, advance}
+use Rattle.sheaf_text.specs.Forms.{is_query_kind, query_of, set_of, is_set_kind, into_last}
 use Rattle.sheaf_text.specs.Parts.{IsClosed}
 use Rattle.sheaf_text.specs.Scripts.{AddsQuery, OpensEdit, AddsSet}
 use Rattle.sheaf_text.specs.State.{known_by, IsSoundState, TakesKind}
@@ -20,18 +20,32 @@ with_last-append f [] x = refl
 with_last-append f (y ∷ []) x = refl
 with_last-append f (y ∷ z ∷ xs) x = ap (λ rest. y ∷ rest) (with_last-append f (z ∷ xs) x)
 
-pub takes_betti : (old : State) (scripts : Scripts) (ws : List (List ℕ)) → IsSoundState old
-    → old.stage ≡ stages.InClient → AddsQuery old.scripts scripts Betti
-    → TakesKind old (record { stage = old.stage; parts = old.parts; scripts = scripts }) kinds.Betti ws
-takes_betti old scripts ws sound at a = record {
+with_query-advances : (k : Known) (kind : Kind) (ws : List (List ℕ)) → is_query_kind kind ≡ true
+    → with_query k (query_of kind) ≡ advance k (Some kind) ws
+with_query-advances k kinds.Betti ws e = refl
+with_query-advances k kinds.Reduce ws e = refl
+with_query-advances k kinds.Equiv ws e = refl
+with_query-advances k kind ws e = absurd cc
+
+known-with_query : (old : State) (scripts : Scripts) (q : Query) → old.stage ≡ stages.InClient
+    → AddsQuery old.scripts scripts q
+    → known_by (record { stage = old.stage; parts = old.parts; scripts = scripts }) ≡ with_query (known_by old) q
+known-with_query old scripts q at a =
+    rw (
+      at,
+      a.ended_same,
+      a.commands_more,
+      a.count_more,
+      with_last-append (λ script. script ++ Ask q ∷ []) old.scripts.ended.items old.scripts.commands.items,
+    ) refl
+
+pub takes_query : (old : State) (scripts : Scripts) (kind : Kind) (ws : List (List ℕ)) → IsSoundState old
+    → is_query_kind kind ≡ true → old.stage ≡ stages.InClient → AddsQuery old.scripts scripts (query_of kind)
+    → TakesKind old (record { stage = old.stage; parts = old.parts; scripts = scripts }) kind ws
+takes_query old scripts kind ws sound asks at a = record {
   sound = record { parts = sound.parts; stands = sound.stands };
-  known = rw (
-    at,
-    a.ended_same,
-    a.commands_more,
-    a.count_more,
-    with_last-append (λ script. script ++ Ask Betti ∷ []) old.scripts.ended.items old.scripts.commands.items,
-  ) refl;
+  known =
+      known-with_query old scripts (query_of kind) at a ∙ with_query-advances (known_by old) kind ws asks;
 }
 
 pub takes_edit : (old : State) (scripts : Scripts) (ws : List (List ℕ)) → IsSoundState old → IsClosed old.parts

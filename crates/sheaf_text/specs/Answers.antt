@@ -25,8 +25,8 @@ Gives (Err fault) reading = GivesFault fault reading
 -- what can be asked of a complex whose cells have these dimensions
 abbrev pub CanBeServed : List ℕ → Query → Type 0
 CanBeServed dims Betti = Unit {0}
-CanBeServed dims Reduce = ⊥
-CanBeServed dims Equiv = ⊥
+CanBeServed dims Reduce = Unit {0}
+CanBeServed dims Equiv = Unit {0}
 CanBeServed dims (Basis k) = ⊥
 CanBeServed dims (Class k z) = ⊥
 CanBeServed dims Sections = ⊥

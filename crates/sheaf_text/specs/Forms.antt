@@ -13,9 +13,12 @@ use Rattle.cell_complex.specs.declared.fault.FaceFault.{FaceFault}
 use Rattle.dense_blocks.specs.Blocks.{WrittenMatrix}
 use Rattle.field_table.specs.Table.{orders}
 use Rattle.sheaf_words.specs.declared.query.Command.{Command}
+use Rattle.sheaf_words.specs.declared.query.Query.{Query}
+use Rattle.sheaf_words.specs.declared.query.Query.TheVariants as queries
 use Rattle.sheaf_words.specs.declared.edit.Set.{Set}
 use Rattle.sheaf_words.specs.declared.edit.Set.TheVariants as sets
 use Rattle.sheaf_text.specs.Cut.{words, word_number, value_of}
+use Rattle.sheaf_text.specs.Rooms.{room}
 use Rattle.sheaf_text.specs.Lines.{word, value, kind_of, numerals}
 use Rattle.sheaf_text.specs.Grammar.{Known, cause_of, entries_refusal, placed_refusal, is_ended}
 use Rattle.sheaf_text.specs.Readings.{Reading, Good, RefusedLine, with_last, command_with_set, advance}
@@ -77,6 +80,10 @@ client_refusal k = if nat_le 8 (length k.input.scripts) then Some (Over limits.C
 abbrev pub command_refusal : Known → Option Refusal
 command_refusal k = if nat_le 4096 k.commands then Some (Over limits.Commands) else None
 
+abbrev pub room_refusal : Known → Option Refusal
+room_refusal k =
+    if nat_lt 1073741824 (room k.input.stalks k.input.scripts) then Some (Over limits.Room) else None
+
 -- what is refused of a line that is not skipped
 abbrev pub content_refusal : Known → Option Kind → List (List ℕ) → Option Refusal
 content_refusal k kind ws =
@@ -92,6 +99,18 @@ contents bytes = map words (lines bytes)
 -- what is known after a line
 unfoldable pub known_after : Known → List (List ℕ) → Known
 known_after k ws = advance k (kind_of (word ws 0)) ws
+
+-- the lines of questions, and the question of one
+abbrev pub is_query_kind : Kind → Bool
+is_query_kind kinds.Betti = true
+is_query_kind kinds.Reduce = true
+is_query_kind kinds.Equiv = true
+is_query_kind kind = false
+
+abbrev pub query_of : Kind → Query
+query_of kinds.Reduce = queries.Reduce
+query_of kinds.Equiv = queries.Equiv
+query_of kind = queries.Betti
 
 -- the lines of changes, and the change of one
 abbrev pub is_set_kind : Kind → Bool

@@ -12,6 +12,7 @@ use Rattle.dense_blocks.specs.Blocks.{WrittenMatrix}
 use Rattle.field_table.specs.Table.{orders}
 use Rattle.sheaf_words.specs.declared.query.Command.{Command}
 use Rattle.sheaf_text.specs.Cut.{word_number, value_of}
+use Rattle.sheaf_text.specs.Rooms.{room}
 use Rattle.sheaf_text.specs.Lines.{word, value, is_skipped, kind_of, may_stand, count_fits, numerals, face_in}
 use Rattle.sheaf_text.specs.declared.line.Kind.{Kind}
 use Rattle.sheaf_text.specs.declared.line.Kind.TheVariants as kinds
@@ -71,7 +72,11 @@ kind_refusal k kinds.Cell ws =
 kind_refusal k kinds.Face ws = face_refusal k ws
 kind_refusal k kinds.Client ws = if nat_le 8 (length k.input.scripts) then Some (Over limits.Clients) else None
 kind_refusal k kinds.Betti ws = if nat_le 4096 k.commands then Some (Over limits.Commands) else None
+kind_refusal k kinds.Reduce ws = if nat_le 4096 k.commands then Some (Over limits.Commands) else None
+kind_refusal k kinds.Equiv ws = if nat_le 4096 k.commands then Some (Over limits.Commands) else None
 kind_refusal k kinds.Edit ws = if nat_le 4096 k.commands then Some (Over limits.Commands) else None
+kind_refusal k kinds.Done ws = if nat_lt 1073741824 (room k.input.stalks k.input.scripts) then Some (Over limits.Room)
+    else None
 kind_refusal k kind ws = None
 
 -- ---- any line

@@ -1,5 +1,6 @@
 pub mod Cut
 pub mod Lines
+pub mod Rooms
 pub mod Grammar
 pub mod Readings
 pub mod Forms
@@ -7,3 +8,4 @@ pub mod Answers
 pub mod Parts
 pub mod Scripts
 pub mod State
+pub mod Needs

@@ -7,7 +7,8 @@ use Rattle.dense_blocks.specs.Blocks.{written_matrix}
 use Rattle.field_table.specs.Table.{order_of}
 use Rattle.sheaf_words.specs.declared.query.Command.{Command}
 use Rattle.sheaf_words.specs.declared.query.Command.TheVariants.{Change, Ask}
-use Rattle.sheaf_words.specs.declared.query.Query.TheVariants.{Betti}
+use Rattle.sheaf_words.specs.declared.query.Query.{Query}
+use Rattle.sheaf_words.specs.declared.query.Query.TheVariants.{Betti, Reduce, Equiv}
 use Rattle.sheaf_words.specs.declared.edit.Set.{Set}
 use Rattle.sheaf_words.specs.declared.edit.Set.TheVariants.{Stalk, Restrict}
 use Rattle.sheaf_text.specs.Cut.{words, value_of}
@@ -51,6 +52,14 @@ abbrev pub command_with_set : Set → Command → Command
 command_with_set s (Change e) = Change (record { sets = e.sets ++ s ∷ [] })
 command_with_set s (Ask q) = Ask q
 
+-- what is known after a question more
+abbrev pub with_query : Known → Query → Known
+with_query k q = record k {
+  stage = stages.InClient;
+  commands = k.commands + 1;
+  input = record k.input { scripts = with_last (λ script. script ++ Ask q ∷ []) k.input.scripts };
+}
+
 -- what is known after a line of this kind: a client begins a script, a command ends the last, a change the last edit
 abbrev pub advance : Known → Option Kind → List (List ℕ) → Known
 advance k None ws = k
@@ -72,11 +81,9 @@ advance k (Some kinds.Face) ws = record k {
 }
 advance k (Some kinds.Client) ws =
     record k { stage = stages.InClient; input = record k.input { scripts = k.input.scripts ++ [] ∷ [] } }
-advance k (Some kinds.Betti) ws = record k {
-  stage = stages.InClient;
-  commands = k.commands + 1;
-  input = record k.input { scripts = with_last (λ script. script ++ Ask Betti ∷ []) k.input.scripts };
-}
+advance k (Some kinds.Betti) ws = with_query k Betti
+advance k (Some kinds.Reduce) ws = with_query k Reduce
+advance k (Some kinds.Equiv) ws = with_query k Equiv
 advance k (Some kinds.Edit) ws = record k {
   stage = stages.InEdit;
   commands = k.commands + 1;

@@ -4,11 +4,13 @@ ghost use Rattle.sheaf_text.specs.Parts.{AreDraftParts, IsClosed};
 ghost use Rattle.sheaf_text.specs.Grammar.{is_ended, cause_of, entries_refusal, face_refusal, kind_refusal};
 ghost use Rattle.sheaf_text.specs.Grammar.{kind_refusal, placed_refusal};
 ghost use Rattle.sheaf_text.specs.Forms.{is_full, field_refusal, client_refusal, command_refusal, content_refusal};
+ghost use Rattle.sheaf_text.specs.Forms.{room_refusal};
 ghost use Rattle.sheaf_text.specs.State.{known_by, scripts_at, IsSoundState, IsReadyFor, IsFound};
 
 use crate::fault::{LineCause, Refusal, Which};
 use crate::line::{Kind, Stage, are_numerals, count_fits, face_of, is_sign, may_stand};
 use crate::parts::stalk_of;
+use crate::room::is_too_large;
 use crate::state::State;
 use crate::words::{after_words, are_below, value_at, word_at, word_count};
 use cell_complex::{Face, FaceFault};
@@ -130,6 +132,17 @@ fn command_refusal(state: &State) -> Option<Refusal>
     }
 }
 
+fn room_refusal(state: &State) -> Option<Refusal>
+    requires { AreDraftParts state.now.parts }
+    ensures { result ≡ room_refusal (known_by state.now) }
+{
+    if is_too_large(state) {
+        Some(Refusal::Over(Which::Room))
+    } else {
+        None
+    }
+}
+
 fn kind_refusal(state: &State, kind: Kind, text: &[u8]) -> Option<Refusal>
     requires sound { IsSoundState state.now }
     requires ready { IsReadyFor (Some kind) state.now.parts }
@@ -140,8 +153,9 @@ fn kind_refusal(state: &State, kind: Kind, text: &[u8]) -> Option<Refusal>
         Kind::Cell => cell_refusal(state, text),
         Kind::Face => face_refusal(state, text),
         Kind::Client => client_refusal(state),
-        Kind::Betti | Kind::Edit => command_refusal(state),
-        Kind::Stalk | Kind::Restrict | Kind::Commit | Kind::Done => None,
+        Kind::Betti | Kind::Reduce | Kind::Equiv | Kind::Edit => command_refusal(state),
+        Kind::Stalk | Kind::Restrict | Kind::Commit => None,
+        Kind::Done => room_refusal(state),
     }
 }
 

@@ -17,6 +17,7 @@ mod judgements;
 mod line;
 mod parts;
 mod reader;
+mod room;
 mod scripts;
 mod state;
 mod words;

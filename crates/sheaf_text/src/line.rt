@@ -14,6 +14,8 @@ pub(crate) enum Kind {
     Face,
     Client,
     Betti,
+    Reduce,
+    Equiv,
     Edit,
     Stalk,
     Restrict,
@@ -52,6 +54,10 @@ fn kind_of_word(word: &[u8]) -> Option<Kind>
         Some(Kind::Client)
     } else if word == b"betti".as_slice() {
         Some(Kind::Betti)
+    } else if word == b"reduce".as_slice() {
+        Some(Kind::Reduce)
+    } else if word == b"equiv".as_slice() {
+        Some(Kind::Equiv)
     } else if word == b"edit".as_slice() {
         Some(Kind::Edit)
     } else if word == b"stalk".as_slice() {
@@ -74,6 +80,15 @@ pub(crate) fn kind_of(text: &[u8]) -> Option<Kind>
     kind_of_word(word_at(text, 0))
 }
 
+fn may_stand_in_client(kind: Kind) -> bool
+    ensures { result ≡ may_stand Stage.InClient kind }
+{
+    matches!(
+        kind,
+        Kind::Betti | Kind::Reduce | Kind::Equiv | Kind::Edit | Kind::Client | Kind::Done
+    )
+}
+
 /// Whether a line may stand here.
 pub(crate) fn may_stand(stage: Stage, kind: Kind) -> bool
     ensures { result ≡ may_stand stage kind }
@@ -82,7 +97,7 @@ pub(crate) fn may_stand(stage: Stage, kind: Kind) -> bool
         Stage::Start => matches!(kind, Kind::Field),
         Stage::Cells => matches!(kind, Kind::Cell | Kind::Face | Kind::Client | Kind::Done),
         Stage::Faces => matches!(kind, Kind::Face | Kind::Client | Kind::Done),
-        Stage::InClient => matches!(kind, Kind::Betti | Kind::Edit | Kind::Client | Kind::Done),
+        Stage::InClient => may_stand_in_client(kind),
         Stage::InEdit => matches!(kind, Kind::Stalk | Kind::Restrict | Kind::Commit),
         Stage::Ended => false,
     }

@@ -2,7 +2,7 @@ ghost use Rattle.std.specs.Prelude.{◌≡◌, ◌-◌, ◌^◌, ◌<◌, true, 
 ghost use Rattle.sheaf_text.specs.Cut.{words};
 ghost use Rattle.sheaf_text.specs.Answers.{Gives, GivesFault};
 ghost use Rattle.sheaf_text.specs.Readings.{RefusedLine};
-ghost use Rattle.sheaf_text.specs.Forms.{set_of, is_set_kind, reading_at_end};
+ghost use Rattle.sheaf_text.specs.Forms.{is_query_kind, query_of, set_of, is_set_kind, reading_at_end};
 ghost use Rattle.sheaf_text.specs.State.{known_by, IsSoundState, IsReady, IsAccepted, IsUntouched, TakesKind};
 ghost use Rattle.sheaf_text.specs.State.{TakesLine, RefusesLine};
 
@@ -23,6 +23,17 @@ pub(crate) struct State {
     pub stage: Stage,
     pub parts: Parts,
     pub scripts: Scripts,
+}
+
+/// The question of a line.
+fn query_of(kind: Kind) -> Query
+    ensures { result ≡ query_of kind }
+{
+    match kind {
+        Kind::Reduce => Query::Reduce,
+        Kind::Equiv => Query::Equiv,
+        _ => Query::Betti,
+    }
 }
 
 /// The change of a line.
@@ -106,11 +117,12 @@ impl State {
         Ok(())
     }
 
-    fn take_betti(&mut self, text: &[u8]) -> Result<(), NoMemory>
-        requires { IsAccepted self.old Kind.Betti (words text.now) }
-        ensures { OnOk result (TakesKind self.old self.new Kind.Betti (words text.now)) }
+    fn take_query(&mut self, kind: Kind, text: &[u8]) -> Result<(), NoMemory>
+        requires accepted { IsAccepted self.old kind (words text.now) }
+        requires query { is_query_kind kind ≡ true }
+        ensures { OnOk result (TakesKind self.old self.new kind (words text.now)) }
     {
-        self.scripts.add_query(Query::Betti)?;
+        self.scripts.add_query(query_of(kind))?;
         Ok(())
     }
 
@@ -164,7 +176,9 @@ impl State {
             Kind::Cell => self.take_cell(text),
             Kind::Face => self.take_face(alloc, text),
             Kind::Client => self.take_client(alloc, text),
-            Kind::Betti => self.take_betti(text),
+            Kind::Betti => self.take_query(Kind::Betti, text),
+            Kind::Reduce => self.take_query(Kind::Reduce, text),
+            Kind::Equiv => self.take_query(Kind::Equiv, text),
             Kind::Edit => {
                 self.take_edit(alloc, text);
                 Ok(())
