@@ -109,8 +109,8 @@ counted-pair : {F : Type 0} (K : Ops) (events : List Event) (v x y : ℕ) (s t :
 counted-pair K events v x y s t step h = record {
   current = ap length step.versions ∙ h.current
       ∙ ap (λ n. n + 1) (omega arith ∙ sym (count-more is_accepted events (Pair v x y)));
-  positions = λ d. ap (λ lanes. lane_position (lanes d)) step.lanes ∙ h.positions d ∙ omega arith
-      ∙ sym (count-more (ends_for d) events (Pair v x y));
+  positions = λ d. ap (λ lanes. lane_position (lanes d)) step.lanes ∙ h.positions d
+      ∙ (omega arith ∙ sym (count-more (ends_for d) events (Pair v x y)));
   pendings = λ d w is. h.pendings d w (sym (ap (λ lanes. lane_pending (lanes d)) step.lanes) ∙ is)
       ∙ sym (asked-more d events (Pair v x y));
 }
@@ -140,7 +140,7 @@ counted-step K scripts events (Reply c r) s t step h = counted-reply K scripts e
 -- ---- all steps
 
 counted-from : {F : Type 0} (K : Ops) (scripts : List (List Command)) (earlier events : List Event) (s t : State F)
-    → Leads (Step {F} K scripts) events s t → IsCounted earlier s → IsCounted (earlier ++ events) t
+    → Leads (Step {F = F} K scripts) events s t → IsCounted earlier s → IsCounted (earlier ++ events) t
 counted-from K scripts earlier [] s t leads h =
     subst (λ es. IsCounted es t) (sym (append-nil earlier)) (subst (IsCounted earlier) leads h)
 counted-from K scripts earlier (event ∷ events) s t leads h =
@@ -198,7 +198,7 @@ of-step K scripts events (Reply c r) s t step h =
     (right-answers K step.reduction c step.query r step.right)
 
 of-from : {F : Type 0} (K : Ops) (scripts : List (List Command)) (earlier events : List Event) (s t : State F)
-    → Leads (Step {F} K scripts) events s t → IsCounted earlier s
+    → Leads (Step {F = F} K scripts) events s t → IsCounted earlier s
     → (i : ℕ) (event : Event) → slice_get events i ≡ Some event → IsOf scripts (earlier ++ take i events) event
 of-from K scripts earlier [] s t leads h i event at = absurd (none-some event at)
 of-from K scripts earlier (first ∷ events) s t leads h zero event at =

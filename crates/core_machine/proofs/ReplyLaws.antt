@@ -1,5 +1,5 @@
 -- A version has one reduction up to what counts, and so one reply to a question: where the maps are the composite.
-use Rattle.std.proofs.Common.{◌≡◌, ◌↔◌, ℕ, zero, suc, List, [], ◌∷◌, Some, length, slice_get, refl, sym, ap, ap₂, subst}
+use Rattle.std.proofs.Common.{◌≡◌, ◌↔◌, ℕ, zero, suc, List, [], ◌∷◌, length, refl, sym, ap, ap₂, subst}
 use Rattle.std.proofs.Common.{◌∙◌, arith}
 use Rattle.std.proofs.lemmas.Option.{same_Some}
 use Rattle.dense_blocks.specs.Field.{Ops}
@@ -132,13 +132,15 @@ one-reduction {F} K s v r q field h is k = record {
 -- the same pairs may be removed from the same block complexes
 pub same-invertible : (K : Ops) (v w : BlockComplex) (x y : ℕ) → HaveSameMatrices v w → IsInvertibleAt K v x y
     → IsInvertibleAt K w x y
-same-invertible K v w x y h is = with-live (λ w. IsInvertibleAt K w x y) w v.live h.live
-    (is.0, record {
-      pair = is.1.pair;
-      square = is.1.square;
-      inverse = subst (λ A. IsInverse K (size_of v.live x) A is.0)
-          (sym (h.matrices x y (record { from = is.1.pair.from; to = is.1.pair.to }))) is.1.inverse;
-    })
+same-invertible K v w x y h is = with-live (λ w. IsInvertibleAt K w x y) w v.live h.live (
+  is.0,
+  record {
+    pair = is.1.pair;
+    square = is.1.square;
+    inverse = subst (λ A. IsInverse K (size_of v.live x) A is.0)
+        (sym (h.matrices x y (record { from = is.1.pair.from; to = is.1.pair.to }))) is.1.inverse;
+  },
+)
 
 -- ---- one reply
 

@@ -1,5 +1,5 @@
 -- In each legal state every version is a sheaf over the complex of the first one.
-use Rattle.std.proofs.Common.{◌≡◌, ℕ, List, [], ◌∷◌, ◌++◌, Some, All, slice_get, sym, subst}
+use Rattle.std.proofs.Common.{◌≡◌, ℕ, List, [], ◌∷◌, Some, All, slice_get, sym, subst}
 use Rattle.std.proofs.lemmas.List.Elements.{All-nil, All-cons, All-push, All-get_or}
 use Rattle.std.proofs.lemmas.Option.{slice_get_within, get_or_from_slice_get}
 use Rattle.cell_complex.specs.Invariants.{IsComplex}
@@ -58,15 +58,15 @@ all-step P K scripts (Pair v x y) s t keeps step h = subst (All P) (sym step.ver
 all-step P K scripts (Reply c r) s t keeps step h = subst (All P) (sym step.versions) h
 
 all-from : {F : Type 0} (P : SheafData F → Type 0) (K : Ops) (scripts : List (List Command)) (events : List Event)
-    (s t : State F) → EditsKeep K P → Leads (Step {F} K scripts) events s t → All P s.sheaves → All P t.sheaves
+    (s t : State F) → EditsKeep K P → Leads (Step {F = F} K scripts) events s t → All P s.sheaves → All P t.sheaves
 all-from P K scripts [] s t keeps leads h = subst (λ m. All P m.sheaves) leads h
 all-from P K scripts (event ∷ events) s t keeps leads h =
     all-from P K scripts events leads.0 t keeps leads.2 (all-step P K scripts event s leads.0 keeps leads.1 h)
 
-edits-keep-sheaf : {F : Type 0} (K : Ops) → IsField K → EditsKeep {F} K (IsSheafOver K)
+edits-keep-sheaf : {F : Type 0} (K : Ops) → IsField K → EditsKeep {F = F} K (IsSheafOver K)
 edits-keep-sheaf K field old new edit judged edited is = edited_sheaf K old new edit field is judged edited
 
-pub edits-keep-version : {F : Type 0} (K : Ops) → IsField K → EditsKeep {F} K (IsVersion K)
+pub edits-keep-version : {F : Type 0} (K : Ops) → IsField K → EditsKeep {F = F} K (IsVersion K)
 edits-keep-version K field old new edit judged edited is = record {
   complex = subst IsComplex (sym edited.complex) is.complex;
   sheaf = edits-keep-sheaf K field old new edit judged edited is.sheaf;

@@ -6,7 +6,7 @@ use Rattle.std.proofs.Common.{length-append}
 use Rattle.std.proofs.Math.ListN.{get_or-append}
 use Rattle.std.proofs.lemmas.Bool.{eqb-true, eqb-false, eq-eqb, cases_order}
 use Rattle.std.proofs.lemmas.List.Elements.{All-nil, All-cons}
-use Rattle.std.proofs.lemmas.Map.{update_here, update_apart}
+use Rattle.std.proofs.lemmas.Map.{update_apart}
 use Rattle.std.proofs.lemmas.Option.{slice_get_within, slice_get-get_or, get_or_from_slice_get, same_Some, none-some}
 use Rattle.std.specs.Map.{update}
 use Rattle.std.specs.Prelude.{option_and_then, unwrap_or}
@@ -34,7 +34,7 @@ use Rattle.core_machine.specs.Machine.{EditStep, AskStep, PairStep, ReplyStep, S
 use Rattle.core_machine.specs.Machine.{IsLegalAndWhole}
 use Rattle.core_machine.specs.Legal.{first_state}
 use Rattle.core_machine.specs.Counts.{lane_position, lane_pending}
-use Rattle.core_machine.specs.Solo.{IsFirstInvertible, HasCompositeMaps, SoloStep, IsSoloOrder}
+use Rattle.core_machine.specs.Solo.{SoloStep, IsSoloOrder}
 use Rattle.core_machine.proofs.SheafLaws.{IsSheafOver, IsVersion, version-at, all-step, edits-keep-version}
 use Rattle.core_machine.proofs.ReplyLaws.{AreSameReductions, one-reduction, same-invertible, one-reply}
 
@@ -48,7 +48,7 @@ solo-legal K scripts (Pair v x y) s t step = step.0
 solo-legal K scripts (Reply c r) s t step = step.0
 
 solo-leads : {F : Type 0} (K : Ops) (scripts : List (List Command)) (events : List Event) (s t : State F)
-    → Leads (SoloStep {F} K scripts) events s t → Leads (Step {F} K scripts) events s t
+    → Leads (SoloStep {F = F} K scripts) events s t → Leads (Step {F = F} K scripts) events s t
 solo-leads K scripts [] s t leads = leads
 solo-leads K scripts (event ∷ events) s t leads = (
   leads.0,
@@ -129,21 +129,34 @@ reduced-version : {F : Type 0} (K : Ops) (scripts : List (List Command)) (s : St
     → IsSoloState K scripts s → (h : IsReductionOf K s v r) → IsVersion K h.sheaf
 reduced-version K scripts s v r solo h = version-at (IsVersion K) s.sheaves v h.sheaf h.version solo.versions
 
--- the client whose turn it is at a step
-mover : {F : Type 0} (K : Ops) (scripts : List (List Command)) (event : Event) (s t : State F)
-    → IsSoloState K scripts s → SoloStep K scripts event s t → (c : ℕ) × IsNext scripts s.lanes c
-mover K scripts (Edit c verdict) s t solo step = (c, record {
+-- it is the turn of the client that comes to a command, or waits
+
+edit-turn : {F : Type 0} (K : Ops) (scripts : List (List Command)) (c : ℕ) (verdict : Verdict) (s t : State F)
+    → SoloStep K scripts (Edit c verdict) s t → IsNext scripts s.lanes c
+edit-turn K scripts c verdict s t step = record {
   before = step.1;
   not_done = free-not_done scripts s.lanes c step.0.position (commands.Change step.0.edit) step.0.is_free step.0.command;
-})
-mover K scripts (Ask c) s t solo step = (c, record {
+}
+
+ask-turn : {F : Type 0} (K : Ops) (scripts : List (List Command)) (c : ℕ) (s t : State F)
+    → SoloStep K scripts (Ask c) s t → IsNext scripts s.lanes c
+ask-turn K scripts c s t step = record {
   before = step.1;
   not_done = free-not_done scripts s.lanes c step.0.position (commands.Ask step.0.query) step.0.is_free step.0.command;
-})
+}
+
+reply-turn : {F : Type 0} (K : Ops) (scripts : List (List Command)) (c : ℕ) (r : Answer) (s t : State F)
+    → IsSoloState K scripts s → SoloStep K scripts (Reply c r) s t → IsNext scripts s.lanes c
+reply-turn K scripts c r s t solo step = solo.turn c step.0.position step.0.version step.0.is_waiting
+
+mover : {F : Type 0} (K : Ops) (scripts : List (List Command)) (event : Event) (s t : State F)
+    → IsSoloState K scripts s → SoloStep K scripts event s t → (c : ℕ) × IsNext scripts s.lanes c
+mover K scripts (Edit c verdict) s t solo step = (c, edit-turn K scripts c verdict s t step)
+mover K scripts (Ask c) s t solo step = (c, ask-turn K scripts c s t step)
 mover K scripts (Pair v x y) s t solo step =
     let waits = solo.awaited v step.0.reduction x y step.0.asked step.0.invertible in
     (waits.0, solo.turn waits.0 waits.1 v waits.2)
-mover K scripts (Reply c r) s t solo step = (c, solo.turn c step.0.position step.0.version step.0.is_waiting)
+mover K scripts (Reply c r) s t solo step = (c, reply-turn K scripts c r s t solo step)
 
 -- ---- one step
 
@@ -151,19 +164,19 @@ state-same : {F : Type 0} (m n : State F) → m.sheaves ≡ n.sheaves → m.lane
 state-same m n sheaves lanes pairs =
     λ i. record { sheaves = sheaves i; lanes = lanes i; pairs = pairs i }
 
-ok_or : {X E : Type 0} → X → Result X E → X
+abbrev ok_or : {X E : Type 0} → X → Result X E → X
 ok_or d (Ok x) = x
 ok_or d (Err e) = d
 
-change_or : Change → Command → Change
+abbrev change_or : Change → Command → Change
 change_or d (commands.Change edit) = edit
 change_or d (commands.Ask query) = d
 
-query_or : Query → Command → Query
+abbrev query_or : Query → Command → Query
 query_or d (commands.Change edit) = d
 query_or d (commands.Ask query) = query
 
-is-change : Command → Option ℕ
+abbrev is-change : Command → Option ℕ
 is-change (commands.Change edit) = Some 0
 is-change (commands.Ask query) = None
 
@@ -194,13 +207,16 @@ versions-unique K sheaf edit (Refused cause) old a b h k = h ∙ sym k
 
 edit-unique : {F : Type 0} (K : Ops) (scripts : List (List Command)) (c : ℕ) (v w : Verdict) (s m n : State F)
     → EditStep K scripts c v s m → EditStep K scripts c w s n → (Edit c v ≡ Edit c w) × (m ≡ n)
-edit-unique {F} K scripts c v w s m n a b = (ap (Edit c) verdicts, state-same m n
-    (versions-unique K a.sheaf a.edit v s.sheaves m.sheaves n.sheaves a.versions
-    (subst (λ d. AreVersionsAfter K d a.edit v s.sheaves n.sheaves) (sym sheaf)
-    (subst (λ e. AreVersionsAfter K b.sheaf e v s.sheaves n.sheaves) (sym edit)
-    (subst (λ u. AreVersionsAfter K b.sheaf b.edit u s.sheaves n.sheaves) (sym verdicts) b.versions))))
-    (a.lanes ∙ ap (λ p. with_lane s.lanes c (free_lane (p + 1))) position ∙ sym b.lanes)
-    (a.pairs ∙ sym b.pairs))
+edit-unique {F} K scripts c v w s m n a b = (
+  ap (Edit c) verdicts,
+  state-same m n
+      (versions-unique K a.sheaf a.edit v s.sheaves m.sheaves n.sheaves a.versions
+      (subst (λ d. AreVersionsAfter K d a.edit v s.sheaves n.sheaves) (sym sheaf)
+      (subst (λ e. AreVersionsAfter K b.sheaf e v s.sheaves n.sheaves) (sym edit)
+      (subst (λ u. AreVersionsAfter K b.sheaf b.edit u s.sheaves n.sheaves) (sym verdicts) b.versions))))
+      (a.lanes ∙ ap (λ p. with_lane s.lanes c (free_lane (p + 1))) position ∙ sym b.lanes)
+      (a.pairs ∙ sym b.pairs),
+)
   where
     position : a.position ≡ b.position
     position = ap lane_position (sym a.is_free ∙ b.is_free)
@@ -244,17 +260,14 @@ edit-ask K scripts c v s m n a b =
 pair-unique : {F : Type 0} (K : Ops) (scripts : List (List Command)) (v x y x' y' : ℕ) (s m n : State F) → IsField K
     → IsSoloState K scripts s → SoloStep K scripts (Pair v x y) s m → SoloStep K scripts (Pair v x' y') s n
     → (Pair v x y ≡ Pair v x' y') × (m ≡ n)
-pair-unique {F} K scripts v x y x' y' s m n field solo a b = (ap₂ (Pair v) from to, state-same m n
-    (a.0.versions ∙ sym b.0.versions) (a.0.lanes ∙ sym b.0.lanes)
-    (a.0.pairs ∙ ap (λ ps. update nat_eq s.pairs v (Some (ps ++ (x, y) ∷ []))) (sym same.pairs)
-    ∙ ap₂ (λ p q. update nat_eq s.pairs v (Some (b.0.reduction.pairs ++ (p, q) ∷ []))) from to ∙ sym b.0.pairs))
+pair-unique {F} K scripts v x y x' y' s m n field solo a b = (
+  ap₂ (Pair v) from to,
+  state-same m n
+      (a.0.versions ∙ sym b.0.versions) (a.0.lanes ∙ sym b.0.lanes)
+      (a.0.pairs ∙ ap (λ ps. update nat_eq s.pairs v (Some (ps ++ (x, y) ∷ []))) (sym same.pairs)
+      ∙ ap₂ (λ p q. update nat_eq s.pairs v (Some (b.0.reduction.pairs ++ (p, q) ∷ []))) from to ∙ sym b.0.pairs),
+)
   where
-    r : Reduction
-    r = a.0.reduction
-
-    q : Reduction
-    q = b.0.reduction
-
     same : AreSameReductions a.0.reduction b.0.reduction
     same = one-reduction K s v a.0.reduction b.0.reduction field a.0.asked
         (reduced-version K scripts s v a.0.reduction solo a.0.asked) b.0.asked
@@ -275,10 +288,13 @@ pair-unique {F} K scripts v x y x' y' s m n field solo a b = (ap₂ (Pair v) fro
 reply-unique : {F : Type 0} (K : Ops) (scripts : List (List Command)) (c : ℕ) (x y : Answer) (s m n : State F)
     → IsField K → IsSoloState K scripts s → SoloStep K scripts (Reply c x) s m → SoloStep K scripts (Reply c y) s n
     → (Reply c x ≡ Reply c y) × (m ≡ n)
-reply-unique {F} K scripts c x y s m n field solo a b = (ap (Reply c) replies, state-same m n
-    (a.0.versions ∙ sym b.0.versions)
-    (a.0.lanes ∙ ap (λ p. with_lane s.lanes c (free_lane (p + 1))) position ∙ sym b.0.lanes)
-    (a.0.pairs ∙ sym b.0.pairs))
+reply-unique {F} K scripts c x y s m n field solo a b = (
+  ap (Reply c) replies,
+  state-same m n
+      (a.0.versions ∙ sym b.0.versions)
+      (a.0.lanes ∙ ap (λ p. with_lane s.lanes c (free_lane (p + 1))) position ∙ sym b.0.lanes)
+      (a.0.pairs ∙ sym b.0.pairs),
+)
   where
     lanes : waiting_lane a.0.position a.0.version ≡ waiting_lane b.0.position b.0.version
     lanes = sym a.0.is_waiting ∙ b.0.is_waiting
@@ -325,46 +341,46 @@ none-waits : (scripts : List (List Command)) (lanes : ℕ → Lane) (c p d q v :
 none-waits scripts lanes c p d q v h k is waits =
     free-waiting lanes c d p q v (next-unique scripts lanes c d h k) is waits
 
-pub solo-unique : {F : Type 0} (K : Ops) (scripts : List (List Command)) (e f : Event) (s m n : State F) → IsField K
+solo-unique : {F : Type 0} (K : Ops) (scripts : List (List Command)) (e f : Event) (s m n : State F) → IsField K
     → IsSoloState K scripts s → SoloStep K scripts e s m → SoloStep K scripts f s n → (e ≡ f) × (m ≡ n)
 solo-unique K scripts (Edit c v) (Edit d w) s m n field solo a b =
-    let same : d ≡ c = next-unique scripts s.lanes d c (mover K scripts (Edit d w) s n solo b).1
-    (mover K scripts (Edit c v) s m solo a).1 in
+    let same : d ≡ c = next-unique scripts s.lanes d c (edit-turn K scripts d w s n b)
+    (edit-turn K scripts c v s m a) in
     let here = edit-unique K scripts c v w s m n a.0 (subst (λ k. EditStep K scripts k w s n) same b.0) in
     (here.0 ∙ ap (λ k. Edit k w) (sym same), here.1)
 solo-unique K scripts (Edit c v) (Ask d) s m n field solo a b =
-    let same : d ≡ c = next-unique scripts s.lanes d c (mover K scripts (Ask d) s n solo b).1
-    (mover K scripts (Edit c v) s m solo a).1 in
+    let same : d ≡ c = next-unique scripts s.lanes d c (ask-turn K scripts d s n b)
+    (edit-turn K scripts c v s m a) in
     absurd (edit-ask K scripts c v s m n a.0 (subst (λ k. AskStep scripts k s n) same b.0))
 solo-unique K scripts (Edit c v) (Pair w x y) s m n field solo a b =
     let waits = solo.awaited w b.0.reduction x y b.0.asked b.0.invertible in
-    absurd (none-waits scripts s.lanes c a.0.position waits.0 waits.1 w (mover K scripts (Edit c v) s m solo a).1
+    absurd (none-waits scripts s.lanes c a.0.position waits.0 waits.1 w (edit-turn K scripts c v s m a)
     (solo.turn waits.0 waits.1 w waits.2) a.0.is_free waits.2)
 solo-unique K scripts (Edit c v) (Reply d r) s m n field solo a b =
     absurd (none-waits scripts s.lanes c a.0.position d b.0.position b.0.version
-    (mover K scripts (Edit c v) s m solo a).1 (mover K scripts (Reply d r) s n solo b).1 a.0.is_free b.0.is_waiting)
+    (edit-turn K scripts c v s m a) (reply-turn K scripts d r s n solo b) a.0.is_free b.0.is_waiting)
 solo-unique K scripts (Ask c) (Edit d w) s m n field solo a b =
-    let same : c ≡ d = next-unique scripts s.lanes c d (mover K scripts (Ask c) s m solo a).1
-    (mover K scripts (Edit d w) s n solo b).1 in
+    let same : c ≡ d = next-unique scripts s.lanes c d (ask-turn K scripts c s m a)
+    (edit-turn K scripts d w s n b) in
     absurd (edit-ask K scripts d w s n m b.0 (subst (λ k. AskStep scripts k s m) same a.0))
 solo-unique K scripts (Ask c) (Ask d) s m n field solo a b =
-    let same : d ≡ c = next-unique scripts s.lanes d c (mover K scripts (Ask d) s n solo b).1
-    (mover K scripts (Ask c) s m solo a).1 in
+    let same : d ≡ c = next-unique scripts s.lanes d c (ask-turn K scripts d s n b)
+    (ask-turn K scripts c s m a) in
     (ap Ask (sym same), ask-unique scripts c s m n a.0 (subst (λ k. AskStep scripts k s n) same b.0))
 solo-unique K scripts (Ask c) (Pair w x y) s m n field solo a b =
     let waits = solo.awaited w b.0.reduction x y b.0.asked b.0.invertible in
-    absurd (none-waits scripts s.lanes c a.0.position waits.0 waits.1 w (mover K scripts (Ask c) s m solo a).1
+    absurd (none-waits scripts s.lanes c a.0.position waits.0 waits.1 w (ask-turn K scripts c s m a)
     (solo.turn waits.0 waits.1 w waits.2) a.0.is_free waits.2)
 solo-unique K scripts (Ask c) (Reply d r) s m n field solo a b =
     absurd (none-waits scripts s.lanes c a.0.position d b.0.position b.0.version
-    (mover K scripts (Ask c) s m solo a).1 (mover K scripts (Reply d r) s n solo b).1 a.0.is_free b.0.is_waiting)
+    (ask-turn K scripts c s m a) (reply-turn K scripts d r s n solo b) a.0.is_free b.0.is_waiting)
 solo-unique K scripts (Pair w x y) (Edit c v) s m n field solo a b =
     let waits = solo.awaited w a.0.reduction x y a.0.asked a.0.invertible in
-    absurd (none-waits scripts s.lanes c b.0.position waits.0 waits.1 w (mover K scripts (Edit c v) s n solo b).1
+    absurd (none-waits scripts s.lanes c b.0.position waits.0 waits.1 w (edit-turn K scripts c v s n b)
     (solo.turn waits.0 waits.1 w waits.2) b.0.is_free waits.2)
 solo-unique K scripts (Pair w x y) (Ask c) s m n field solo a b =
     let waits = solo.awaited w a.0.reduction x y a.0.asked a.0.invertible in
-    absurd (none-waits scripts s.lanes c b.0.position waits.0 waits.1 w (mover K scripts (Ask c) s n solo b).1
+    absurd (none-waits scripts s.lanes c b.0.position waits.0 waits.1 w (ask-turn K scripts c s n b)
     (solo.turn waits.0 waits.1 w waits.2) b.0.is_free waits.2)
 solo-unique K scripts (Pair v x y) (Pair w x' y') s m n field solo a b =
     let here = solo.awaited v a.0.reduction x y a.0.asked a.0.invertible in
@@ -380,15 +396,15 @@ solo-unique K scripts (Pair v x y) (Reply d r) s m n field solo a b =
     absurd (pair-reply K scripts v x y d r s m n field solo a.0 b.0)
 solo-unique K scripts (Reply d r) (Edit c v) s m n field solo a b =
     absurd (none-waits scripts s.lanes c b.0.position d a.0.position a.0.version
-    (mover K scripts (Edit c v) s n solo b).1 (mover K scripts (Reply d r) s m solo a).1 b.0.is_free a.0.is_waiting)
+    (edit-turn K scripts c v s n b) (reply-turn K scripts d r s m solo a) b.0.is_free a.0.is_waiting)
 solo-unique K scripts (Reply d r) (Ask c) s m n field solo a b =
     absurd (none-waits scripts s.lanes c b.0.position d a.0.position a.0.version
-    (mover K scripts (Ask c) s n solo b).1 (mover K scripts (Reply d r) s m solo a).1 b.0.is_free a.0.is_waiting)
+    (ask-turn K scripts c s n b) (reply-turn K scripts d r s m solo a) b.0.is_free a.0.is_waiting)
 solo-unique K scripts (Reply d r) (Pair v x y) s m n field solo a b =
     absurd (pair-reply K scripts v x y d r s n m field solo b.0 a.0)
 solo-unique K scripts (Reply c x) (Reply d y) s m n field solo a b =
-    let same : d ≡ c = next-unique scripts s.lanes d c (mover K scripts (Reply d y) s n solo b).1
-    (mover K scripts (Reply c x) s m solo a).1 in
+    let same : d ≡ c = next-unique scripts s.lanes d c (reply-turn K scripts d y s n solo b)
+    (reply-turn K scripts c x s m solo a) in
     let one = reply-unique K scripts c x y s m n field solo a (subst (λ k. SoloStep K scripts (Reply k y) s n) same b) in
     (one.0 ∙ ap (λ k. Reply k y) (sym same), one.1)
 
@@ -402,6 +418,14 @@ none-left lanes c p only d q v is = go (c == d) refl is
     go : (b : Bool) → (c == d) ≡ b → (if b then free_lane p else lanes d) ≡ waiting_lane q v → ⊥
     go true e h = none-some v (ap lane_pending h)
     go false e h = eqb-false c d e (only d q v h)
+
+-- the lanes of other clients stay
+other-lane : (lanes : ℕ → Lane) (c d : ℕ) (lane : Lane) → c ≢ d → with_lane lanes c lane d ≡ lanes d
+other-lane lanes c d lane other = go (c == d) refl
+  where
+    go : (b : Bool) → (c == d) ≡ b → (if b then lane else lanes d) ≡ lanes d
+    go true e = absurd (other (eqb-true c d e))
+    go false e = refl
 
 -- a reduction after a step is one before it where the version was there and had these pairs
 reduction-before : {F : Type 0} (K : Ops) (s t : State F) (v : ℕ) (r : Reduction)
@@ -463,20 +487,20 @@ next-solo {F} K scripts (Edit c verdict) s t field solo step = record {
 
     nobody : (d q v : ℕ) → s.lanes d ≡ waiting_lane q v → ⊥
     nobody d q v is = none-waits scripts s.lanes c step.0.position d q v
-        (mover K scripts (Edit c verdict) s t solo step).1 (solo.turn d q v is) step.0.is_free is
+        (edit-turn K scripts c verdict s t step) (solo.turn d q v is) step.0.is_free is
 
     none : (d q v : ℕ) → t.lanes d ≡ waiting_lane q v → ⊥
     none d q v is = none-left s.lanes c (step.0.position + 1) (λ e p w there. absurd (nobody e p w there)) d q v
         (ap (λ f. f d) (sym step.0.lanes) ∙ is)
 next-solo {F} K scripts (Ask c) s t field solo step = record {
   versions = all-step (IsVersion K) K scripts (Ask c) s t (edits-keep-version K field) step.0 solo.versions;
-  asked = asked;
-  turn = turn;
+  asked = λ v pairs at. asked v pairs at (v == step.0.version) refl;
+  turn = λ d q v is. turn d q v is (c == d) refl;
   awaited = λ v r x y h i. by v r x y h i (v == step.0.version) refl;
 }
   where
     nobody : (d q v : ℕ) → s.lanes d ≡ waiting_lane q v → ⊥
-    nobody d q v is = none-waits scripts s.lanes c step.0.position d q v (mover K scripts (Ask c) s t solo step).1
+    nobody d q v is = none-waits scripts s.lanes c step.0.position d q v (ask-turn K scripts c s t step)
         (solo.turn d q v is) step.0.is_free is
 
     elsewhere : (v : ℕ) → v ≢ step.0.version → s.pairs v ≡ t.pairs v
@@ -484,40 +508,33 @@ next-solo {F} K scripts (Ask c) s t field solo step = record {
         sym (update_apart s.pairs step.0.version (Some (unwrap_or (s.pairs step.0.version) [])) v other)
         ∙ ap (λ f. f v) (sym step.0.pairs)
 
-    asked : (v : ℕ) (pairs : List (ℕ × ℕ)) → t.pairs v ≡ Some pairs → v < length t.sheaves
-    asked v pairs at = go (v == step.0.version) refl
-      where
-        go : (b : Bool) → (v == step.0.version) ≡ b → v < length t.sheaves
-        go true e = omega (arith, eqb-true v step.0.version e, step.0.current, ap length step.0.versions)
-        go false e = omega (arith, solo.asked v pairs (elsewhere v (eqb-false v step.0.version e) ∙ at),
-            ap length step.0.versions)
+    asked : (v : ℕ) (pairs : List (ℕ × ℕ)) → t.pairs v ≡ Some pairs → (b : Bool) → (v == step.0.version) ≡ b
+        → v < length t.sheaves
+    asked v pairs at true e = omega (arith, eqb-true v step.0.version e, step.0.current, ap length step.0.versions)
+    asked v pairs at false e = omega (
+      arith,
+      solo.asked v pairs (elsewhere v (eqb-false v step.0.version e) ∙ at),
+      ap length step.0.versions,
+    )
 
     lane-other : (d : ℕ) → c ≢ d → t.lanes d ≡ s.lanes d
-    lane-other d other = ap (λ f. f d) step.0.lanes ∙ go (c == d) refl
-      where
-        go : (b : Bool) → (c == d) ≡ b
-            → (if b then waiting_lane step.0.position step.0.version else s.lanes d) ≡ s.lanes d
-        go true e = absurd (other (eqb-true c d e))
-        go false e = refl
+    lane-other d other = ap (λ f. f d) step.0.lanes
+        ∙ other-lane s.lanes c d (waiting_lane step.0.position step.0.version) other
 
     lane-own : t.lanes c ≡ waiting_lane step.0.position step.0.version
     lane-own = ap (λ f. f c) step.0.lanes
         ∙ ap (λ b. if b then waiting_lane step.0.position step.0.version else s.lanes c) (eq-eqb c c refl)
 
-    turn : (d q v : ℕ) → t.lanes d ≡ waiting_lane q v → IsNext scripts t.lanes d
-    turn d q v is = go (c == d) refl
-      where
-        own : IsNext scripts t.lanes c
-        own = record {
-          before = λ k l script there.
-              lane-other k (λ e. omega (arith, e, l)) ∙ step.1 k l script there;
-          not_done = waiting-not_done scripts t.lanes c step.0.position step.0.version (commands.Ask step.0.query)
-              lane-own step.0.command;
-        }
+    own : IsNext scripts t.lanes c
+    own = record {
+      before = λ k l script there. lane-other k (λ e. omega (arith, e, l)) ∙ step.1 k l script there;
+      not_done = waiting-not_done scripts t.lanes c step.0.position step.0.version (commands.Ask step.0.query)
+          lane-own step.0.command;
+    }
 
-        go : (b : Bool) → (c == d) ≡ b → IsNext scripts t.lanes d
-        go true e = subst (IsNext scripts t.lanes) (eqb-true c d e) own
-        go false e = absurd (nobody d q v (sym (lane-other d (eqb-false c d e)) ∙ is))
+    turn : (d q v : ℕ) → t.lanes d ≡ waiting_lane q v → (b : Bool) → (c == d) ≡ b → IsNext scripts t.lanes d
+    turn d q v is true e = subst (IsNext scripts t.lanes) (eqb-true c d e) own
+    turn d q v is false e = absurd (nobody d q v (sym (lane-other d (eqb-false c d e)) ∙ is))
 
     by : (v : ℕ) (r : Reduction) (x y : ℕ) → IsReductionOf K t v r → IsInvertibleAt K r.rest x y → (b : Bool)
         → (v == step.0.version) ≡ b → (d : ℕ) × (p : ℕ) × (t.lanes d ≡ waiting_lane p v)
@@ -530,7 +547,7 @@ next-solo {F} K scripts (Ask c) s t field solo step = record {
         absurd (nobody waits.0 waits.1 v waits.2)
 next-solo {F} K scripts (Pair w x y) s t field solo step = record {
   versions = all-step (IsVersion K) K scripts (Pair w x y) s t (edits-keep-version K field) step.0 solo.versions;
-  asked = asked;
+  asked = λ v pairs at. asked v pairs at (v == w) refl;
   turn = λ d q v is. subst (λ lanes. IsNext scripts lanes d) (sym step.0.lanes)
       (solo.turn d q v (ap (λ f. f d) (sym step.0.lanes) ∙ is));
   awaited = λ v r p q h i. waits v (by v r p q h i (v == w) refl);
@@ -541,13 +558,15 @@ next-solo {F} K scripts (Pair w x y) s t field solo step = record {
         sym (update_apart s.pairs w (Some (step.0.reduction.pairs ++ (x, y) ∷ [])) v other)
         ∙ ap (λ f. f v) (sym step.0.pairs)
 
-    asked : (v : ℕ) (pairs : List (ℕ × ℕ)) → t.pairs v ≡ Some pairs → v < length t.sheaves
-    asked v pairs at = go (v == w) refl
-      where
-        go : (b : Bool) → (v == w) ≡ b → v < length t.sheaves
-        go true e = omega (arith, eqb-true v w e, solo.asked w step.0.reduction.pairs step.0.asked.removed,
-            ap length step.0.versions)
-        go false e = omega (arith, solo.asked v pairs (elsewhere v (eqb-false v w e) ∙ at), ap length step.0.versions)
+    asked : (v : ℕ) (pairs : List (ℕ × ℕ)) → t.pairs v ≡ Some pairs → (b : Bool) → (v == w) ≡ b → v < length t.sheaves
+    asked v pairs at true e = omega (
+      arith,
+      eqb-true v w e,
+      solo.asked w step.0.reduction.pairs step.0.asked.removed,
+      ap length step.0.versions,
+    )
+    asked v pairs at false e =
+        omega (arith, solo.asked v pairs (elsewhere v (eqb-false v w e) ∙ at), ap length step.0.versions)
 
     by : (v : ℕ) (r : Reduction) (p q : ℕ) → IsReductionOf K t v r → IsInvertibleAt K r.rest p q → (b : Bool)
         → (v == w) ≡ b → (d : ℕ) × (k : ℕ) × (s.lanes d ≡ waiting_lane k v)
@@ -569,7 +588,7 @@ next-solo {F} K scripts (Reply c r) s t field solo step = record {
 }
   where
     only : (d q v : ℕ) → s.lanes d ≡ waiting_lane q v → c ≡ d
-    only d q v is = next-unique scripts s.lanes c d (mover K scripts (Reply c r) s t solo step).1 (solo.turn d q v is)
+    only d q v is = next-unique scripts s.lanes c d (reply-turn K scripts c r s t solo step) (solo.turn d q v is)
 
     none : (d q v : ℕ) → t.lanes d ≡ waiting_lane q v → ⊥
     none d q v is = none-left s.lanes c (step.0.position + 1) only d q v (ap (λ f. f d) (sym step.0.lanes) ∙ is)
@@ -596,8 +615,8 @@ stuck K scripts event s t solo done step =
     let turn = mover K scripts event s t solo step in turn.1.not_done (done turn.0)
 
 solo-same : {F : Type 0} (K : Ops) (scripts : List (List Command)) (events others : List Event) (s m n : State F)
-    → IsField K → IsSoloState K scripts s → Leads (SoloStep {F} K scripts) events s m
-    → Leads (SoloStep {F} K scripts) others s n → ((c : ℕ) → IsDone scripts m.lanes c)
+    → IsField K → IsSoloState K scripts s → Leads (SoloStep {F = F} K scripts) events s m
+    → Leads (SoloStep {F = F} K scripts) others s n → ((c : ℕ) → IsDone scripts m.lanes c)
     → ((c : ℕ) → IsDone scripts n.lanes c) → events ≡ others
 solo-same K scripts [] [] s m n field solo a b done end = refl
 solo-same K scripts [] (f ∷ fs) s m n field solo a b done end =
@@ -608,7 +627,7 @@ solo-same {F} K scripts (e ∷ es) (f ∷ fs) s m n field solo a b done end =
     let one = solo-unique K scripts e f s a.0 b.0 field solo a.1 b.1 in
     ap₂ (λ x xs. x ∷ xs) one.0
     (solo-same K scripts es fs a.0 m n field (next-solo K scripts e s a.0 field solo a.1) a.2
-    (subst (λ u. Leads (SoloStep {F} K scripts) fs u n) (sym one.1) b.2) done end)
+    (subst (λ u. Leads (SoloStep {F = F} K scripts) fs u n) (sym one.1) b.2) done end)
 
 pub solo_orders_are_equal : {F : Type 0} (K : Ops) (scripts : List (List Command)) (sheaf : SheafData F)
     (first second : List Event) → IsField K → IsComplex sheaf.complex → IsSheafOver K sheaf

@@ -12,4 +12,4 @@ first_state sheaf = record { sheaves = sheaf ∷ []; lanes = λ c. free_lane 0; 
 
 -- legal: the events lead from the first state to this one
 abbrev pub IsLegal : {F : Type 0} → Ops → List (List Command) → SheafData F → List Event → State F → Type 0
-IsLegal {F} K scripts sheaf events t = Leads (Step {F} K scripts) events (first_state sheaf) t
+IsLegal {F} K scripts sheaf events t = Leads (Step {F = F} K scripts) events (first_state sheaf) t

@@ -145,4 +145,4 @@ pub record IsWholeOrder {F : Type 0} (IsStep : Event → State F → State F →
 
 -- the events are one legal order of all commands of these scripts on this sheaf, whole
 abbrev pub IsLegalAndWhole : {F : Type 0} → Ops → List (List Command) → SheafData F → List Event → Type 0
-IsLegalAndWhole {F} K scripts sheaf events = IsWholeOrder (Step {F} K scripts) scripts sheaf events
+IsLegalAndWhole {F} K scripts sheaf events = IsWholeOrder (Step {F = F} K scripts) scripts sheaf events

@@ -1,10 +1,10 @@
 -- A reply that is right for the start complex is right for the sheaf.
-use Rattle.std.specs.Prelude.{ℕ, List}
+use Rattle.std.specs.Prelude.{ℕ}
 use Rattle.dense_blocks.specs.Field.{Ops}
 use Rattle.dense_blocks.specs.FieldLaws.{IsField}
 use Rattle.cell_complex.specs.Invariants.{IsComplex}
 use Rattle.block_complexes.specs.Cochains.{complex_of}
-use Rattle.sheaf_data.specs.Sheaves.{SheafData, IsSheaf}
+use Rattle.sheaf_data.specs.Sheaves.{IsSheaf}
 use Rattle.sheaf_words.specs.declared.query.Query.{Query}
 use Rattle.sheaf_words.specs.declared.reply.Reply.{Reply}
 use Rattle.core_machine.specs.Replies.{Reduction, IsRightReply}

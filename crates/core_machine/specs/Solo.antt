@@ -38,4 +38,4 @@ SoloStep K scripts (Reply c reply) s t =
 -- served one after the other, and between a question on a version that was not asked before and its answer come the
 -- pairs of that version
 abbrev pub IsSoloOrder : {F : Type 0} → Ops → List (List Command) → SheafData F → List Event → Type 0
-IsSoloOrder {F} K scripts sheaf events = IsWholeOrder (SoloStep {F} K scripts) scripts sheaf events
+IsSoloOrder {F} K scripts sheaf events = IsWholeOrder (SoloStep {F = F} K scripts) scripts sheaf events
