@@ -17,7 +17,7 @@ use Rattle.cochain_vec.proofs.PathLaws.{sum_over}
 use Rattle.rising_lists.specs.Rising.{IsRising, has, keys}
 use Rattle.rising_lists.proofs.Keyed.{rising_tail, rising_head, rising_cons, head-absent, has-at}
 use Rattle.block_complexes.specs.BlockComplexes.{cells, size_of}
-use Rattle.block_complexes.specs.Cochains.{of_degree}
+use Rattle.block_complexes.specs.Cochains.{cell_of, of_degree}
 use Rattle.block_complexes.proofs.LiveLaws.{cell-at, length-cells}
 use Rattle.block_complexes.proofs.ComplexLaws.{of_degree-are}
 use Rattle.block_complexes.proofs.Sums.{sum_over-equal}
@@ -26,8 +26,11 @@ use Rattle.query_answers.specs.Degrees.{sized_of_degree}
 
 -- ---- cells with their sizes
 
+abbrev sized_cell : Cell → ℕ × ℕ
+sized_cell c = (c.cell, c.size)
+
 abbrev pub sized_cells : List Cell → List (ℕ × ℕ)
-sized_cells cs = map (λ (c : Cell). (c.cell, c.size)) cs
+sized_cells cs = map sized_cell cs
 
 pub width-sized : (cs : List Cell) → width (sized_cells cs) ≡ total_size cs
 width-sized [] = refl
@@ -51,25 +54,31 @@ value-none (c ∷ cs) z s h = go (eqb c.cell s) h (value-none cs (drop c.size z)
 pub cell-listed : (cs : List Cell) → All (λ (c : Cell). has c.cell (keys (sized_cells cs)) ≡ true) cs
 cell-listed cs i d l =
     let ls = sized_cells cs in
-    let inside : i < length ls = omega (arith, l, length-map cs (λ (c : Cell). (c.cell, c.size))) in
+    let inside : i < length ls = omega (arith, l, length-map cs sized_cell) in
     subst (λ c. has c (keys ls) ≡ true)
     (get_or-map (λ s. s.0) ls i (0, 0) 0 inside
-    ∙ ap (λ s. s.0) (get_or-map (λ (c : Cell). (c.cell, c.size)) cs i d (0, 0) l))
+    ∙ ap (λ (s : ℕ × ℕ). s.0) (get_or-map sized_cell cs i d (0, 0) l))
     (has-at (keys ls) i (omega (arith, inside, length-map ls (λ s. s.0))))
 
 -- ---- the live cells of one degree, by both lists
+
+abbrev with_size : ℕ × ℕ × ℕ → ℕ × ℕ
+with_size l = (l.0, l.2)
+
+abbrev of_that_degree : ℕ → List (ℕ × ℕ × ℕ) → List (ℕ × ℕ × ℕ)
+of_that_degree k live = filter (λ l. eqb l.1 k) live
 
 pub sized-same : (k : ℕ) (live : List (ℕ × ℕ × ℕ)) → sized_of_degree k live ≡ sized_cells (of_degree k live)
 sized-same k [] = refl
 sized-same k (l ∷ ls) = go (eqb l.1 k) (sized-same k ls)
   where
     go : (b : Bool) → sized_of_degree k ls ≡ sized_cells (of_degree k ls)
-        → map (λ l. (l.0, l.2)) (cond b (l ∷ filter (λ l. eqb l.1 k) ls) (filter (λ l. eqb l.1 k) ls))
-        ≡ sized_cells (cond b (record { cell = l.0; degree = l.1; size = l.2 } ∷ of_degree k ls) (of_degree k ls))
-    go true e = ap (λ xs. (l.0, l.2) ∷ xs) e
+        → map with_size (cond b (l ∷ of_that_degree k ls) (of_that_degree k ls))
+        ≡ sized_cells (cond b (cell_of l ∷ of_degree k ls) (of_degree k ls))
+    go true e = ap (λ xs. with_size l ∷ xs) e
     go false e = e
 
-keys-cells : (xs : List (ℕ × ℕ × ℕ)) → keys (map (λ l. (l.0, l.2)) xs) ≡ cells xs
+keys-cells : (xs : List (ℕ × ℕ × ℕ)) → keys (map with_size xs) ≡ cells xs
 keys-cells [] = refl
 keys-cells (x ∷ xs) = ap (λ ks. x.0 ∷ ks) (keys-cells xs)
 
@@ -82,8 +91,11 @@ filter-rises p (x ∷ xs) r =
       | false ↦ filter-rises p xs (rising_tail x.0 (cells xs) r)
     ]
   where
-    above : All (λ m. x.0 < m.0) xs
-    above = All-from_get_or (λ m. x.0 < m.0) xs (0, 0, 0)
+    IsAbove : ℕ × ℕ × ℕ → Type 0
+    IsAbove m = x.0 < m.0
+
+    above : All IsAbove xs
+    above = All-from_get_or IsAbove xs (0, 0, 0)
         (λ i inside. omega (
           arith,
           rising_head x.0 (cells xs) r i (omega (arith, length-cells xs)),
@@ -93,16 +105,12 @@ filter-rises p (x ∷ xs) r =
     later : (i : ℕ) → i < length (cells (filter p xs)) → x.0 < get_or (cells (filter p xs)) i 0
     later i m =
         let inside : i < length (filter p xs) = omega (arith, m, length-cells (filter p xs)) in
-        omega (
-          arith,
-          All-filter p (λ m. x.0 < m.0) xs above i (0, 0, 0) inside,
-          cell-at (filter p xs) i inside,
-        )
+        let less : x.0 < (get_or (filter p xs) i (0, 0, 0)).0 = All-filter p IsAbove xs above i (0, 0, 0) inside in
+        omega (arith, less, cell-at (filter p xs) i inside)
 
 module _ (live : List (ℕ × ℕ × ℕ)) (rises : IsRising (cells live)) (k : ℕ) where
   pub degree-rises : IsRising (keys (sized_of_degree k live))
-  degree-rises = subst IsRising (sym (keys-cells (filter (λ l. eqb l.1 k) live)))
-      (filter-rises (λ l. eqb l.1 k) live rises)
+  degree-rises = subst IsRising (sym (keys-cells (of_that_degree k live))) (filter-rises (λ l. eqb l.1 k) live rises)
 
   pub cells-rise : IsRising (keys (sized_cells (of_degree k live)))
   cells-rise = subst (λ ls. IsRising (keys ls)) (sized-same k live) degree-rises
@@ -110,7 +118,7 @@ module _ (live : List (ℕ × ℕ × ℕ)) (rises : IsRising (cells live)) (k : 
   pub cells-sized : AreSized live (sized_cells (of_degree k live))
   cells-sized =
       All-map (λ (l : ℕ × ℕ). (has l.0 (cells live) ≡ true) × (size_of live l.0 ≡ l.1))
-      (λ (c : Cell). (c.cell, c.size)) (of_degree k live)
+      sized_cell (of_degree k live)
       (λ i d l. let is = of_degree-are live rises k i d l in (is.is_live, is.size))
 
   pub degree-sized : AreSized live (sized_of_degree k live)
@@ -124,9 +132,6 @@ pub value-image : (K : Ops) (cs : List Cell) (A : List (List ℕ)) (z : List ℕ
 value-image K [] A z c = refl
 value-image K (t ∷ ts) A z c = go (eqb t.cell c) (value-image K ts (drop t.size A) z c)
   where
-    row : List ℕ → ℕ
-    row r = dot K r z
-
     go : (b : Bool)
         → value_at ts (image_of K (drop t.size A) z) c ≡ image_of K (segment (sized_cells ts) (drop t.size A) c) z
         → cond b (take t.size (image_of K A z)) (value_at ts (drop t.size (image_of K A z)) c)

@@ -56,6 +56,11 @@ degree-next v n blocks longer b h e is = record {
   ];
 }
 
+pub degree-all : (v : StoredBlocks) (n degrees : ℕ) (blocks all : List Block) → AreDegreeBlocks v n blocks → n ≡ degrees
+    → all ≡ blocks → AreDegreeBlocks v degrees all
+degree-all v n degrees blocks all h e f =
+    subst (AreDegreeBlocks v degrees) (sym f) (subst (λ n. AreDegreeBlocks v n blocks) e h)
+
 at-cells : (v : StoredBlocks) (k : ℕ) (b : Block) → IsDegreeBlock v k b
     → IsJoinedBlock v (sized_cells (of_degree k v.live)) (sized_cells (of_degree (suc k) v.live)) b
 at-cells v k b h =

@@ -1,10 +1,8 @@
 -- What the steps of a slot keep of its cells; and the reply for what they leave.
-use Rattle.std.proofs.Common.{◌≡◌, ℕ, suc, List, [], ◌∷◌, All, sym, ◌∙◌, subst}
+use Rattle.std.proofs.Common.{◌≡◌, ℕ, List, [], ◌∷◌, All, sym, ◌∙◌, subst}
 use Rattle.std.specs.Prelude.{◌==◌, ◌||◌, not}
 use Rattle.std.proofs.lemmas.List.Elements.{All-filter}
 use Rattle.dense_blocks.specs.Field.{Ops}
-use Rattle.dense_blocks.specs.LinearMaps.{IsMatrixOf}
-use Rattle.cochain_vec.specs.Complexes.{CellularComplex, coordinates, coboundary}
 use Rattle.block_complexes.specs.BlockComplexes.{BlockComplex}
 use Rattle.block_complexes.specs.Cochains.{complex_of}
 use Rattle.block_complexes.proofs.SameLaws.{same-complex}
@@ -13,7 +11,7 @@ use Rattle.reduce_step.specs.declared.record.Step.{Step}
 use Rattle.reduce_step.specs.Logs.{AreStepsFrom, pairs_of}
 use Rattle.pair_commit.specs.Slots.{SlotValue}
 use Rattle.sheaf_words.specs.declared.reply.Reduced.{Reduced}
-use Rattle.core_machine.specs.Replies.{Reduction, IsRightReduced, graded_matrix}
+use Rattle.core_machine.specs.Replies.{Reduction, IsRightReduced}
 use Rattle.query_answers.specs.Degrees.{AreCoboundaryMatrices, HaveCoboundaryShapes}
 use Rattle.query_answers.specs.SlotReductions.{IsReductionIn}
 

@@ -2,7 +2,7 @@
 #![tactic(auto)]
 
 mod degrees;
-mod reduced;
+mod reduction;
 
 pub use degrees::coboundary_matrices;
-pub use reduced::reduced;
+pub use reduction::reduced;
