@@ -164,7 +164,8 @@ blocks-same d m n (b ∷ bs) [] h k e = absurd (omega (arith, h.one_each, k.one_
 blocks-same d m n (b ∷ bs) (c ∷ cs) h k e =
     let sizes : length cs ≡ length bs = omega (arith, h.one_each, k.one_each) in
     ap₂ (λ x xs. x ∷ xs)
-    (block-same b c (h.rows zero b refl ∙ sym (k.rows zero c refl)) (h.columns zero b refl ∙ sym (k.columns zero c refl))
+    (block-same b c (h.rows zero b refl ∙ sym (k.rows zero c refl))
+    (h.columns zero b refl ∙ sym (k.columns zero c refl))
     (e zero))
     (blocks-same (length bs) (λ j. m (suc j)) (λ j. n (suc j)) bs cs (graded-tail d m n b bs h)
     (subst (λ l. AreGradedBlocks l (λ j. m (suc j)) (λ j. n (suc j)) cs) sizes (graded-tail d m n c cs k))

@@ -74,7 +74,8 @@ record IsNext (scripts : List (List Command)) (lanes : ℕ → Lane) (c : ℕ) :
 next-unique : (scripts : List (List Command)) (lanes : ℕ → Lane) (c d : ℕ) → IsNext scripts lanes c
     → IsNext scripts lanes d → c ≡ d
 next-unique scripts lanes c d h k = ⊎_elim (λ (e : c ≡ d). e)
-    (λ o. ⊎_elim (λ (l : c < d). absurd (h.not_done (k.before c l))) (λ (l : d < c). absurd (k.not_done (h.before d l))) o)
+    (λ o. ⊎_elim (λ (l : c < d). absurd (h.not_done (k.before c l)))
+    (λ (l : d < c). absurd (k.not_done (h.before d l))) o)
     (cases_order c d)
 
 -- a client that has a command before it has a script that is longer
@@ -135,7 +136,8 @@ edit-turn : {F : Type 0} (K : Ops) (scripts : List (List Command)) (c : ℕ) (ve
     → SoloStep K scripts (Edit c verdict) s t → IsNext scripts s.lanes c
 edit-turn K scripts c verdict s t step = record {
   before = step.1;
-  not_done = free-not_done scripts s.lanes c step.0.position (commands.Change step.0.edit) step.0.is_free step.0.command;
+  not_done = free-not_done scripts s.lanes c step.0.position (commands.Change step.0.edit) step.0.is_free
+      step.0.command;
 }
 
 ask-turn : {F : Type 0} (K : Ops) (scripts : List (List Command)) (c : ℕ) (s t : State F)
@@ -317,7 +319,8 @@ reply-unique {F} K scripts c x y s m n field solo a b = (
         (subst (λ v. IsReductionOf K s v b.0.reduction) version b.0.asked)
 
     replies : x ≡ y
-    replies = one-reply K s a.0.version a.0.reduction b.0.reduction a.0.query x y field a.0.asked asked same a.0.right a.1
+    replies = one-reply K s a.0.version a.0.reduction b.0.reduction a.0.query x y field a.0.asked asked same
+        a.0.right a.1
         (subst (λ q. IsRightReply K b.0.reduction q y) query b.0.right) b.1
 
 -- no pair can be removed where a reply comes
@@ -330,8 +333,10 @@ pair-reply {F} K scripts v x y c r s m n field solo a b =
     next-unique scripts s.lanes waits.0 c (solo.turn waits.0 waits.1 v waits.2) turn in
     let version : v ≡ b.version = same_Some v b.version
     (ap lane_pending (sym (subst (λ d. s.lanes d ≡ waiting_lane waits.1 v) same_client waits.2) ∙ b.is_waiting)) in
-    let asked : IsReductionOf K s b.version a.reduction = subst (λ w. IsReductionOf K s w a.reduction) version a.asked in
-    let same : AreSameReductions a.reduction b.reduction = one-reduction K s b.version a.reduction b.reduction field asked
+    let asked : IsReductionOf K s b.version a.reduction =
+    subst (λ w. IsReductionOf K s w a.reduction) version a.asked in
+    let same : AreSameReductions a.reduction b.reduction =
+    one-reduction K s b.version a.reduction b.reduction field asked
     (reduced-version K scripts s b.version a.reduction solo asked) b.asked in
     b.irreducible x y (same-invertible K a.reduction.rest b.reduction.rest x y same.rest a.invertible)
 
@@ -405,7 +410,8 @@ solo-unique K scripts (Reply d r) (Pair v x y) s m n field solo a b =
 solo-unique K scripts (Reply c x) (Reply d y) s m n field solo a b =
     let same : d ≡ c = next-unique scripts s.lanes d c (reply-turn K scripts d y s n solo b)
     (reply-turn K scripts c x s m solo a) in
-    let one = reply-unique K scripts c x y s m n field solo a (subst (λ k. SoloStep K scripts (Reply k y) s n) same b) in
+    let one = reply-unique K scripts c x y s m n field solo a
+    (subst (λ k. SoloStep K scripts (Reply k y) s n) same b) in
     (one.0 ∙ ap (λ k. Reply k y) (sym same), one.1)
 
 -- ---- a step more

@@ -98,7 +98,7 @@ pub record PairStep {F : Type 0} (K : Ops) (v x y : ℕ) (s t : State F) : Type 
   pub lanes : t.lanes ≡ s.lanes
   pub pairs : t.pairs ≡ update nat_eq s.pairs v (Some (reduction.pairs ++ (x, y) ∷ []))
 
--- client c waits for an answer on a version; of its start complex is left what no pair can be removed from, and the
+-- client c waits for an answer on a version; from what is left of its start complex no pair can be removed, and the
 -- reply is right
 pub record ReplyStep {F : Type 0} (K : Ops) (scripts : List (List Command)) (c : ℕ) (reply : Answer) (s t : State F) :
     Type 0 where

@@ -17,8 +17,8 @@ use Rattle.sheaf_words.specs.declared.reply.Maps.{Maps}
 use Rattle.sheaf_words.specs.declared.reply.Reply.{Reply}
 use Rattle.sheaf_words.specs.declared.reply.Reply.TheVariants as replies
 
--- the whole complex of a version, with cells of so many degrees; its start complex, the pairs of cells that were removed
--- from it, in order, and what is left
+-- the whole complex of a version, with cells of so many degrees; its start complex, the pairs of cells that were
+-- removed from it, in order, and what is left
 pub record Reduction : Type 0 where
   pub whole : CellularComplex
   pub degrees : ℕ
@@ -40,8 +40,8 @@ pub record AreGradedBlocks (degrees : ℕ) (m n : ℕ → ℕ) (blocks : List Bl
 pub record IsRightReduced (K : Ops) (r : Reduction) (reply : Reduced) : Type 0 where
   pub pairs : reply.pairs ≡ r.pairs
   pub live : reply.live ≡ r.rest.live
-  pub shapes : AreGradedBlocks r.degrees (λ k. coordinates (complex_of r.rest) (suc k)) (coordinates (complex_of r.rest))
-      reply.d
+  pub shapes : AreGradedBlocks r.degrees
+      (λ k. coordinates (complex_of r.rest) (suc k)) (coordinates (complex_of r.rest)) reply.d
   pub matrices : (k : ℕ) → IsMatrixOf K (coordinates (complex_of r.rest) (suc k)) (coordinates (complex_of r.rest) k)
       (coboundary K (complex_of r.rest) k) (graded_matrix reply.d k)
 

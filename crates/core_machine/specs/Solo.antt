@@ -23,8 +23,8 @@ HasCompositeMaps K r (replies.Equiv reply maps) = IsCompositeOfPairs K r.start r
     (graded_matrix maps.pi) (graded_matrix maps.iota) (graded_matrix maps.h)
 HasCompositeMaps K r reply = Unit {0}
 
--- a client comes to a command only once the clients before it are done; the pair that is removed is the first that can
--- be; and the maps of a reply are the composite of the removals
+-- a step of a solo order: a client comes to a command only once the clients before it are done; the pair that is
+-- removed is the first that can be; and the maps of a reply are the composite of the removals
 abbrev pub SoloStep : {F : Type 0} → Ops → List (List Command) → Event → State F → State F → Type 0
 SoloStep K scripts (Edit c verdict) s t =
     EditStep K scripts c verdict s t × ((d : ℕ) → d < c → IsDone scripts s.lanes d)
