@@ -1,5 +1,6 @@
 -- Blocks of joined matrices, row by row, and their lines, one by one.
-use Rattle.std.proofs.Common.{◌≡◌, ℕ, zero, suc, ◌+◌, ◌≤◌, min, Bool, true, false, Option, Some, None, List, [], ◌∷◌, ◌++◌}
+use Rattle.std.proofs.Common.{◌≡◌, ℕ, zero, suc, ◌+◌, ◌≤◌, min, Bool, true, false, Option, Some, None, List, [], ◌∷◌}
+use Rattle.std.proofs.Common.{◌++◌}
 use Rattle.std.proofs.Common.{if◌then◌else◌, map, length, take, drop, get_or, add-one, refl, sym, ap, ap₂, ◌∙◌, arith}
 use Rattle.std.proofs.Common.{append_assoc, append-nil, ◌<◌, ◌⊎◌, ⊎_elim, ◌&&◌, eqb}
 use Rattle.std.proofs.lemmas.Bool.{cases_lt}
@@ -16,7 +17,8 @@ use Rattle.dense_blocks.specs.Blocks.{matrix_of}
 use Rattle.dense_blocks.specs.declared.block.Block.{Block}
 use Rattle.dense_blocks.proofs.Cutting.{cut-size}
 use Rattle.reply_text.specs.declared.coordinates.Coordinates.{Coordinates}
-use Rattle.reply_text.specs.JoinedMatrices.{JoinedMatrices, coordinates_after, all_coordinates, submatrix, entries_between}
+use Rattle.reply_text.specs.JoinedMatrices.{JoinedMatrices, coordinates_after, all_coordinates, submatrix}
+use Rattle.reply_text.specs.JoinedMatrices.{entries_between}
 use Rattle.reply_text.specs.JoinedMatrices.{matrix_between, nonzero_line, block_line, block_lines}
 use Rattle.reply_text.specs.Lines.{line_text}
 use Rattle.reply_text.proofs.Writing.{one_line}
@@ -194,7 +196,8 @@ same-rows F G zero n entries same = refl
 same-rows F G (suc m) n entries same =
     ap₂ ◌∷◌ (same (take n entries) (omega (arith, length-take n entries))) (same-rows F G m n (drop n entries) same)
 
-some-rows : (F : List ℕ → List ℕ) (h row : ℕ) (A : List (List ℕ)) → map F (take h (drop row A)) ≡ take h (drop row (map F A))
+some-rows : (F : List ℕ → List ℕ) (h row : ℕ) (A : List (List ℕ)) → map F (take h (drop row A))
+    ≡ take h (drop row (map F A))
 some-rows F h row A = sym (take-map F h (drop row A)) ∙ ap (take h) (sym (drop-map F row A))
 
 entries-capped : (b : Block) (s t : Coordinates) → entries_between b (capped s) (capped t) ≡ entries_between b s t

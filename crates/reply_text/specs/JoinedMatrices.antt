@@ -1,6 +1,6 @@
 -- Joined matrices, and the blocks from cell to cell that they are cut into.
-use Rattle.std.specs.Prelude.{ℕ, ◌+◌, ◌==◌, min, Bool, List, [], ◌∷◌, ◌++◌, Option, None, if◌then◌else◌, map, take, drop}
-use Rattle.std.specs.Prelude.{slice_get, sum_by, codes}
+use Rattle.std.specs.Prelude.{ℕ, ◌+◌, ◌==◌, min, Bool, List, [], ◌∷◌, ◌++◌, Option, None, if◌then◌else◌, map, take}
+use Rattle.std.specs.Prelude.{drop, slice_get, sum_by}
 use Rattle.std.specs.List.{flat_map, list_all, concat}
 use Rattle.std.specs.Option.{option_map_or}
 use Rattle.std.specs.Fmt.{decimal}
@@ -10,8 +10,9 @@ use Rattle.reply_text.specs.declared.coordinates.Coordinates.{Coordinates}
 use Rattle.reply_text.specs.declared.joined.Direction.{Direction}
 use Rattle.reply_text.specs.declared.joined.Direction.TheVariants.{Up, Level, Down}
 
--- matrices joined per degree; the cells that they go from, to whose coordinates the columns belong, and those that they
--- go to, to whose coordinates the rows belong, each with its degree and its size; and from which degree they go to which
+-- matrices joined per degree; the cells that they go from, to whose coordinates the columns belong, and those that
+-- they go to, to whose coordinates the rows belong, each with its degree and its size; and from which degree they go
+-- to which
 pub record JoinedMatrices : Type 0 where
   pub matrices : List Block
   pub from : List (ℕ × ℕ × ℕ)

@@ -113,7 +113,8 @@ fn put_block(
     s: Coordinates,
     t: Coordinates,
 ) -> Result<(), NoMemory>
-    ensures { OnOk result (out.new.items ≡ out.old.items ++ lines_text (block_line word.now (joined_value m.entry) s t)) }
+    ensures { OnOk result (out.new.items ≡ out.old.items
+        ++ lines_text (block_line word.now (joined_value m.entry) s t)) }
 {
     match m.matrix_between(s, t) {
         Some(block) => put_nonzero(out, word, block, s, t),
@@ -156,7 +157,8 @@ fn sum(a: usize, b: usize) -> Result<usize, NoMemory>
 
 /// How many lines those are.
 fn count_from(m: Joined<'_>, s: Coordinates, to: &[Coordinates]) -> Result<usize, NoMemory>
-    ensures { (word : List ℕ) → IfOk result (λ n. n ≡ length (flat_map (λ t. block_line word (joined_value m.entry) s t) to.now)) }
+    ensures { (word : List ℕ) → IfOk result (λ n. n ≡ length
+        (flat_map (λ t. block_line word (joined_value m.entry) s t) to.now)) }
 {
     let mut count = 0usize;
     for t in to {
@@ -174,7 +176,8 @@ fn put_blocks_between(
     to: &[Coordinates],
 ) -> Result<(), NoMemory>
     ensures { OnOk result (out.new.items ≡ out.old.items
-        ++ lines_text (flat_map (λ s. flat_map (λ t. block_line word.now (joined_value m.entry) s t) to.now) from.now)) }
+        ++ lines_text (flat_map (λ s. flat_map (λ t. block_line word.now (joined_value m.entry) s t) to.now)
+        from.now)) }
 {
     for s in from {
         put_blocks_from(out, word, m, *s, to)?;

@@ -37,8 +37,8 @@ fn degree_size(cells: &[Cell], degree: u8) -> u32
     size
 }
 
-/// The coordinates of a cell that comes after these. Those that would come after as many as a block has rows begin right
-/// there, where a block has none.
+/// The coordinates of a cell that comes after these. Those that would come after as many as a block has rows begin
+/// right there, where a block has none.
 fn coordinates_after(earlier: &[Cell], cell: Cell) -> Coordinates
     ensures { result ≡ capped (coordinates_after earlier.now cell) }
 {

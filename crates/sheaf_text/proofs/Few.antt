@@ -18,7 +18,8 @@ use Rattle.sheaf_text.specs.Lines.{word, is_skipped, kind_of}
 use Rattle.sheaf_text.specs.Grammar.{InputValue, Known, refusal, kind_refusal, is_ended}
 use Rattle.sheaf_text.specs.Readings.{Reading, Good, RefusedLine, input_value, command_with_set, advance}
 use Rattle.sheaf_text.specs.Readings.{nothing_known, run}
-use Rattle.sheaf_text.specs.Forms.{command_refusal, content_refusal, known_after, set_of, onto_last, into_script, into_last}
+use Rattle.sheaf_text.specs.Forms.{command_refusal, content_refusal, known_after, set_of, onto_last, into_script}
+use Rattle.sheaf_text.specs.Forms.{into_last}
 use Rattle.sheaf_text.specs.Forms.{reading_at_end, go_on, contents}
 use Rattle.sheaf_text.specs.Answers.{Gives, IsServable, AreServable}
 use Rattle.sheaf_text.specs.declared.fault.LineCause.TheVariants as causes

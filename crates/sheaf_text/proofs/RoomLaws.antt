@@ -1,10 +1,8 @@
--- What is counted of the room that replies may need, one member more at a time, and when it is too much.
+-- What is counted of the room that replies may need, one member more at a time.
 use Rattle.std.proofs.Common.{◌≡◌, ℕ, zero, suc, ◌+◌, ◌*◌, ◌<◌, ◌≤◌, ⊎_elim, min, nat_lt, List, [], ◌∷◌}
 use Rattle.std.proofs.Common.{◌++◌, length, take, get_or, add-one, refl, sym, ap, ap₂, subst, ◌∙◌, arith}
 use Rattle.std.proofs.Math.Seq.{take-suc}
-use Rattle.std.proofs.Math.Nat.{mul-zero, mul-suc}
 use Rattle.std.specs.Prelude.{sum_by}
-use Rattle.std.proofs.lemmas.Bool.{cases_lt, lt-ltb, le-ltb}
 use Rattle.std.proofs.lemmas.List.Sums.{sum_by_push}
 use Rattle.sheaf_words.specs.declared.query.Command.{Command}
 use Rattle.sheaf_words.specs.declared.query.Command.TheVariants.{Change}
@@ -81,44 +79,3 @@ pub other-scripts : (stage : Stage) (s : Scripts) → (stage ≡ stages.InClient
 other-scripts stages.InClient s not_client not_edit = absurd (not_client refl)
 other-scripts stages.InEdit s not_client not_edit = absurd (not_edit refl)
 other-scripts stage s not_client not_edit = refl
-
--- ---- too much
-
--- a product above the bound, where one factor and the product are as large as their types allow at most
-product-bounded : (n e : ℕ) → nat_lt 1073741824 (min (min n 4294967295 * e) 18446744073709551615)
-    ≡ nat_lt 1073741824 (n * e)
-product-bounded n zero = ap (λ x. nat_lt 1073741824 (min x 18446744073709551615)) (mul-zero (min n 4294967295))
-    ∙ sym (ap (nat_lt 1073741824) (mul-zero n))
-product-bounded n (suc e) = ⊎_elim above below (cases_lt 4294967295 n)
-  where
-    exact : (x : ℕ) → nat_lt 1073741824 (min x 18446744073709551615) ≡ nat_lt 1073741824 x
-    exact x = ⊎_elim
-        (λ (l : 1073741824 < x). lt-ltb 1073741824 (min x 18446744073709551615) (omega (arith, l))
-        ∙ sym (lt-ltb 1073741824 x l))
-        (λ (l : x ≤ 1073741824). le-ltb 1073741824 (min x 18446744073709551615) (omega (arith, l))
-        ∙ sym (le-ltb 1073741824 x l))
-        (cases_lt 1073741824 x)
-
-    below : n ≤ 4294967295 → nat_lt 1073741824 (min (min n 4294967295 * suc e) 18446744073709551615)
-        ≡ nat_lt 1073741824 (n * suc e)
-    below l =
-        let same : min n 4294967295 ≡ n = omega (arith, l) in
-        ap (λ m. nat_lt 1073741824 (min (m * suc e) 18446744073709551615)) same ∙ exact (n * suc e)
-
-    above : 4294967295 < n → nat_lt 1073741824 (min (min n 4294967295 * suc e) 18446744073709551615)
-        ≡ nat_lt 1073741824 (n * suc e)
-    above l =
-        let same : min n 4294967295 ≡ 4294967295 = omega (arith, l) in
-        ap (λ m. nat_lt 1073741824 (min (m * suc e) 18446744073709551615)) same
-        ∙ exact (4294967295 * suc e) ∙ lt-ltb 1073741824 (4294967295 * suc e) (omega arith)
-        ∙ sym (lt-ltb 1073741824 (n * suc e) (many-above n e l))
-      where
-        many-above : (n e : ℕ) → 4294967295 < n → 1073741824 < n * suc e
-        many-above n e l = omega (arith, l, mul-suc n e)
-
-pub too-many : (n k : ℕ) (needs : Needs) → AreNeeds n k needs
-    → nat_lt 1073741824 (min (needs.replies * (needs.coordinates * needs.coordinates)) 18446744073709551615)
-    ≡ nat_lt 1073741824 (n * (min k 4096 * min k 4096))
-too-many n k needs h =
-    ap₂ (λ r c. nat_lt 1073741824 (min (r * (c * c)) 18446744073709551615)) h.replies_are h.coordinates_are
-    ∙ product-bounded n (min k 4096 * min k 4096)
