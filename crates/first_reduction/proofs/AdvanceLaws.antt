@@ -1,14 +1,13 @@
 -- One pair more: what a commit and a flag make of a slot, at the first pair to be tried.
-use Rattle.std.proofs.Common.{◌≡◌, ◌<◌, ℕ, List, [], ◌∷◌, ◌++◌, Result, Ok, Err, refl, sym, ap, ap₂, ◌∙◌, subst, append-nil}
-use Rattle.std.proofs.Common.{append_assoc, map, Option, None, inl, inr, true}
+use Rattle.std.proofs.Common.{◌≡◌, ◌<◌, ℕ, List, [], ◌∷◌, ◌++◌, Result}
+use Rattle.std.proofs.Common.{Ok, Err, sym, ap, ap₂, ◌∙◌, subst, append-nil}
+use Rattle.std.proofs.Common.{append_assoc, Option, None, inl, inr, true}
 use Rattle.std.specs.Prelude.{OnOk, IfOk, MatchOption}
 use Rattle.std.proofs.lemmas.List.{map-append}
 use Rattle.dense_blocks.specs.Field.{Ops}
 use Rattle.dense_blocks.specs.FieldLaws.{IsField}
 use Rattle.dense_blocks.specs.Blocks.{matrix_of}
 use Rattle.dense_blocks.specs.declared.block.Block.{Block}
-use Rattle.block_complexes.specs.BlockComplexes.{IsBlockComplex}
-use Rattle.removals.specs.Removals.{IsRemoval}
 use Rattle.block_sparse.specs.StoredBlocks.{StoredBlocks, StandsAt, complex_in}
 use Rattle.block_sparse.specs.Candidates.{is_candidate}
 use Rattle.block_sparse.specs.Invariants.{IsSound}
@@ -31,7 +30,8 @@ use Rattle.pair_commit.specs.declared.kept.Kept.{Kept}
 use Rattle.pair_commit.proofs.FlagLaws.{flagged-same, tried-irreducible}
 use Rattle.first_reduction.specs.Advances.{IsFirstFootprint, IsBeginning, IsOnTheWay, IsAdvance, IsReduced, work_left}
 use Rattle.first_reduction.proofs.WorkLaws.{removed-less, flagged-less}
-use Rattle.first_reduction.proofs.FirstLaws.{beginning-none, beginning-same, beginning-one, beginning-then, beginning-end}
+use Rattle.first_reduction.proofs.FirstLaws.{beginning-none, beginning-same}
+use Rattle.first_reduction.proofs.FirstLaws.{beginning-one, beginning-then, beginning-end}
 use Rattle.first_reduction.proofs.FirstLaws.{first-invertible}
 use Rattle.first_reduction.proofs.StandingLaws.{footprint-fits, pivot-stands}
 

@@ -1,17 +1,18 @@
 -- How far a reduction by first pairs has come: its beginning, one pair more, and its end.
-use Rattle.std.proofs.Common.{◌≡◌, ◌<◌, ◌≤◌, ◌⊎◌, inl, inr, ℕ, zero, suc, Bool, true, false, cond, ◌&&◌, List, [], ◌∷◌}
-use Rattle.std.proofs.Common.{◌++◌, map, Option, Some, None, refl, sym, ap, ap₂, ◌∙◌, subst, arith, append-nil, append_assoc}
+use Rattle.std.proofs.Common.{◌≡◌, ◌≤◌, inl, inr, ℕ, zero, suc, Bool, true, false, ◌&&◌, List, [], ◌∷◌}
+use Rattle.std.proofs.Common.{◌++◌, Option, Some, None, refl, sym}
+use Rattle.std.proofs.Common.{ap, ap₂, ◌∙◌, subst, arith, append-nil, append_assoc}
 use Rattle.std.specs.Prelude.{◌==◌, not}
-use Rattle.std.proofs.lemmas.Bool.{cases_Bool, eq-eqb}
+use Rattle.std.proofs.lemmas.Bool.{eq-eqb}
 use Rattle.dense_blocks.specs.Field.{Ops}
 use Rattle.dense_blocks.specs.FieldLaws.{IsField}
 use Rattle.dense_blocks.specs.MatrixFacts.{IsInverse, zero_matrix}
 use Rattle.block_complexes.specs.BlockComplexes.{BlockComplex, AreConsecutive, HaveSameMatrices, size_of}
 use Rattle.block_complexes.proofs.SameLaws.{same-refl, same-sym, same-trans}
 use Rattle.removals.specs.Removals.{IsRemoval}
-use Rattle.removals.specs.Reductions.{IsAfter, IsInverseAt, IsInvertibleAt, IsIrreducible}
+use Rattle.removals.specs.Reductions.{IsAfter, IsInvertibleAt, IsIrreducible}
 use Rattle.removals.proofs.SameRemovals.{removal-same-before}
-use Rattle.block_sparse.specs.StoredBlocks.{StoredBlocks, StoredBlock, complex_in, block_at, matrix, flag_of}
+use Rattle.block_sparse.specs.StoredBlocks.{StoredBlocks, StoredBlock, complex_in, block_at, flag_of}
 use Rattle.block_sparse.specs.Candidates.{is_candidate, is_unflagged}
 use Rattle.block_sparse.specs.Invariants.{IsSound}
 use Rattle.block_sparse.proofs.ScalarBlocks.{matrix-none}

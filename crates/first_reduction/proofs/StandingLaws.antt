@@ -1,19 +1,17 @@
 -- The footprint of a candidate fits, and its pivot stands.
-use Rattle.std.proofs.Common.{◌≡◌, ℕ, Bool, true, false, ◌&&◌, ◌||◌, cond, List, length, refl, sym, ap, ap₂, ◌∙◌, subst}
+use Rattle.std.proofs.Common.{◌≡◌, ℕ, Bool, true, false, ◌&&◌, ◌||◌, List, length, refl, sym, ap, ap₂, ◌∙◌, subst}
 use Rattle.std.proofs.Common.{inl, inr, ◌⊎◌, Option, Some, None, [], ◌∷◌}
 use Rattle.std.specs.Prelude.{◌==◌, not, is_some}
-use Rattle.std.proofs.lemmas.Bool.{cases_eq, cases_Bool, eq-eqb, eqb-true, ne_eqb, and_parts, or_parts}
+use Rattle.std.proofs.lemmas.Bool.{eq-eqb, eqb-true, ne_eqb, and_parts, or_parts}
 use Rattle.dense_blocks.specs.Field.{Ops}
 use Rattle.dense_blocks.specs.FieldLaws.{IsField}
 use Rattle.dense_blocks.specs.Blocks.{matrix_of}
-use Rattle.dense_blocks.specs.declared.block.Block.{Block}
 use Rattle.dense_blocks.proofs.Shapes.{matrix-size}
 use Rattle.dense_blocks.proofs.BlockLaws.{block-size}
 use Rattle.rising_lists.specs.Rising.{has, keys, entry_of}
-use Rattle.block_complexes.specs.BlockComplexes.{AreConsecutive, IsBlockComplex, cells, size_of}
-use Rattle.block_complexes.proofs.FullLaws.{IsFull}
+use Rattle.block_complexes.specs.BlockComplexes.{AreConsecutive, IsBlockComplex, size_of}
 use Rattle.block_sparse.specs.StoredBlocks.{StoredBlocks, StoredBlock, StandsAt, complex_in, block_at, matrix, is_zero}
-use Rattle.block_sparse.specs.Grids.{segment, part, columns_of, AreSized}
+use Rattle.block_sparse.specs.Grids.{part, AreSized}
 use Rattle.block_sparse.specs.Invariants.{IsSound}
 use Rattle.block_sparse.specs.Candidates.{is_candidate, is_unflagged}
 use Rattle.block_sparse.proofs.ScalarBlocks.{block_at-between, row-between}
@@ -21,7 +19,7 @@ use Rattle.block_sparse.proofs.StoredLaws.{block_complex-full}
 use Rattle.reduce_step.specs.declared.footprint.Footprint.{Footprint}
 use Rattle.reduce_step.specs.Footprints.{IsFootprint}
 use Rattle.reduce_step.specs.Differences.{sources, targets, is_copied, copied_matrix, listed_size, IsSized, IsLiveAs}
-use Rattle.reduce_step.specs.Differences.{IsAsCopied, IsBeside, IsSameAt, Fits}
+use Rattle.reduce_step.specs.Differences.{IsAsCopied, IsBeside, Fits}
 use Rattle.reduce_step.proofs.ApplyLaws.{block-block_at}
 use Rattle.reduce_step.proofs.PartLaws.{row-part, column-part}
 use Rattle.reduce_step.proofs.JoinedParts.{listed_size-live}

@@ -82,13 +82,13 @@ fn try_pair<F: Scalars>(alloc: Global, slot: &mut Slot<F>, foot: Footprint) -> R
 }
 
 /// Removes the pair of a record that fits.
-fn remove<F: Scalars>(slot: &mut Slot<F>, record: Record<F>) -> Result<(), NoMemory>
-    requires fits { Fits slot.old.present «record».foot }
-    requires field { «record».f ≡ slot.old.f }
-    ensures committed { OnOk result (IsCommitted (F.ops slot.old.f) slot.old «record» slot.new) }
+fn remove<F: Scalars>(slot: &mut Slot<F>, r: Record<F>) -> Result<(), NoMemory>
+    requires fits { Fits slot.old.present r.foot }
+    requires field { r.f ≡ slot.old.f }
+    ensures committed { OnOk result (IsCommitted (F.ops slot.old.f) slot.old r slot.new) }
     ensures err { OnErr result (slot.new ≡ slot.old) }
 {
-    match slot.commit(record) {
+    match slot.commit(r) {
         Ok(()) => Ok(()),
         Err(CommitFault::NoMemory) => Err(NoMemory),
         Err(CommitFault::Stale { .. }) => unreachable!(),
