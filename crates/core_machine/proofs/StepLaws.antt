@@ -13,7 +13,8 @@ use Rattle.sheaf_words.specs.declared.event.Event.{Event}
 use Rattle.sheaf_words.specs.declared.event.Event.TheVariants.{Pair}
 use Rattle.core_machine.specs.Replies.{Reduction}
 use Rattle.core_machine.specs.Machine.{State, IsReductionOf, PairStep, Leads}
-use Rattle.core_machine.specs.Solo.{IsFirstInvertible, SoloStep}
+use Rattle.core_machine.specs.Solo.{SoloStep}
+use Rattle.first_reduction.specs.FirstPairs.{IsFirstInvertible}
 use Rattle.core_machine.proofs.CountLaws.{leads-more}
 
 pub leads-append : {F : Type 0} (IsStep : Event → State F → State F → Type 0) (events others : List Event)

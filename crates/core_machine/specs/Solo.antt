@@ -1,8 +1,7 @@
 -- Solo orders: one client after the other, and each choice fixed.
-use Rattle.std.specs.Prelude.{◌≡◌, ℕ, ◌≤◌, ◌<◌, List}
+use Rattle.std.specs.Prelude.{ℕ, ◌<◌, List}
 use Rattle.dense_blocks.specs.Field.{Ops}
-use Rattle.block_complexes.specs.BlockComplexes.{BlockComplex}
-use Rattle.removals.specs.Reductions.{IsInvertibleAt}
+use Rattle.first_reduction.specs.FirstPairs.{IsFirstInvertible}
 use Rattle.equivalence_laws.specs.Composites.{IsCompositeOfPairs}
 use Rattle.sheaf_data.specs.Sheaves.{SheafData}
 use Rattle.sheaf_words.specs.declared.query.Command.{Command}
@@ -12,10 +11,6 @@ use Rattle.sheaf_words.specs.declared.event.Event.{Event}
 use Rattle.sheaf_words.specs.declared.event.Event.TheVariants.{Edit, Ask, Pair, Reply}
 use Rattle.core_machine.specs.Replies.{Reduction, graded_matrix}
 use Rattle.core_machine.specs.Machine.{State, EditStep, AskStep, PairStep, ReplyStep, IsDone, IsWholeOrder}
-
--- no pair of cells with an invertible matrix comes before (x, y), in order of the first cell and then of the second
-abbrev pub IsFirstInvertible : Ops → BlockComplex → ℕ → ℕ → Type 0
-IsFirstInvertible K v x y = (s t : ℕ) → IsInvertibleAt K v s t → (x ≤ s) × (s ≡ x → y ≤ t)
 
 -- the maps in a reply, if it has some, are the composite of the removals
 abbrev pub HasCompositeMaps : Ops → Reduction → Answer → Type 0
