@@ -67,28 +67,6 @@ abbrev pub IsSessionCommand : Command → Type 0
 IsSessionCommand (Change edit) = length edit.sets ≤ 1000000000
 IsSessionCommand (Ask query) = IsSoloQuery query
 
--- the slot has reduced the start complex of the sheaf by the first pair each time, until no pair can be removed
-pub record IsSheafReduction (sheaf : SheafData Field) (slot : SlotValue Field) : Type 0 where
-  pub field : slot.f ≡ sheaf.field
-  pub start : HaveSameMatrices (start_complex (ops_of sheaf.field) sheaf.complex sheaf.stalks sheaf.blocks)
-      (complex_in slot.base)
-  pub reduction : IsFirstReduction (ops_of sheaf.field) (complex_in slot.base) (pairs_of slot.log)
-      (complex_in slot.present)
-
--- the pairs that were removed from the current version, if it was asked
-abbrev pub removed_pairs : Option (SlotValue Field) → Option (List (ℕ × ℕ))
-removed_pairs None = None
-removed_pairs (Some slot) = Some (pairs_of slot.log)
-
--- an event for each pair that was removed from a version
-abbrev pub pair_events : ℕ → List (ℕ × ℕ) → List Event
-pair_events version pairs = map (λ p. Pair version p.0 p.1) pairs
-
--- a command that a session serves: an edit of at most 1,000,000,000 changes, or a question for the Betti numbers
-abbrev pub IsSessionCommand : Command → Type 0
-IsSessionCommand (Change edit) = length edit.sets ≤ 1000000000
-IsSessionCommand (Ask query) = query ≡ Betti
-
 -- after an edit that was accepted: the edited sheaf is one version more, which was not asked
 pub record IsNextVersion (old : Progress) (edit : Edit) (new : Progress) : Type 0 where
   pub sheaf : IsEdited (ops_of old.sheaf.field) old.sheaf edit new.sheaf
