@@ -2,9 +2,8 @@
 use Rattle.std.proofs.Common.{◌≡◌, ℕ, zero, suc, ◌+◌, ◌≤◌, min, Bool, true, false, Option, Some, None, List, [], ◌∷◌}
 use Rattle.std.proofs.Common.{◌++◌}
 use Rattle.std.proofs.Common.{if◌then◌else◌, map, length, take, drop, get_or, add-one, refl, sym, ap, ap₂, ◌∙◌, arith}
-use Rattle.std.proofs.Common.{append_assoc, append-nil, ◌<◌, ◌⊎◌, ⊎_elim, ◌&&◌, eqb}
+use Rattle.std.proofs.Common.{append_assoc, append-nil, ◌<◌, ⊎_elim, ◌&&◌, eqb}
 use Rattle.std.proofs.lemmas.Bool.{cases_lt}
-use Rattle.std.specs.Prelude.{sum_by, slice_get}
 use Rattle.std.specs.List.{flat_map, concat, list_all}
 use Rattle.std.specs.Option.{option_map_or}
 use Rattle.std.specs.Fmt.{decimal}

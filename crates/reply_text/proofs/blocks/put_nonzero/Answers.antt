@@ -1,5 +1,4 @@
-use Rattle.std.proofs.Common.{◌≡◌, ◌++◌, ◌∷◌, [], eqb, false, sym, ◌∙◌, rules}
-use Rattle.std.specs.List.{list_all}
+use Rattle.std.proofs.Common.{◌≡◌, ◌++◌, ◌∷◌, [], false, sym, ◌∙◌, rules}
 use Rattle.std.specs.Fmt.{decimal}
 use Rattle.reply_text.specs.JoinedMatrices.{entries_between}
 use Rattle.reply_text.specs.Parts.{entries_words}

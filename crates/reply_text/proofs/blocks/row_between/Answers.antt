@@ -1,4 +1,4 @@
-use Rattle.std.proofs.Common.{◌≤◌, ◌+◌, sym, arith}
+use Rattle.std.proofs.Common.{sym, arith}
 use Rattle.reply_text.proofs.BlockLines.{row-beyond}
 use Rattle.reply_text.proofs.blocks.row_between.Goals as goal
 

@@ -1,4 +1,4 @@
-use Rattle.std.proofs.Common.{◌≡◌, ◌+◌, ◌++◌, ◌∷◌, [], get_or, take, rules}
+use Rattle.std.proofs.Common.{◌≡◌, ◌++◌, ◌∷◌, [], get_or, take, rules}
 use Rattle.reply_text.specs.JoinedMatrices.{coordinates_after}
 use Rattle.reply_text.specs.Parts.{capped}
 use Rattle.reply_text.proofs.Counting.{take_at}
