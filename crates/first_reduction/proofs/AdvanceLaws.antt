@@ -119,13 +119,6 @@ module _ (K : Ops) (F : IsField K) {T : Type 0} (old : SlotValue T)
 
 -- ---- the way
 
-pub way-start : (K : Ops) {T : Type 0} (s : SlotValue T) → IsOnTheWay K s s
-way-start K s = record {
-  steps = [];
-  log = sym (append-nil s.log);
-  beginning = beginning-none K (complex_in s.present);
-}
-
 pub way-then : (K : Ops) {T : Type 0} (a b c : SlotValue T) → IsOnTheWay K a b → IsOnTheWay K b c → IsOnTheWay K a c
 way-then K a b c h g = record {
   steps = h.steps ++ g.steps;
@@ -142,10 +135,6 @@ pub way-step : {T : Type 0} (ops : T → Ops) (start now here next : SlotValue T
 way-step {T} ops start now here next e f a h =
     way-then (ops start.f) start now next h
     (subst {A = T} (λ x. IsOnTheWay (ops x) now next) f (subst (λ s. IsAdvance (ops s.f) s next) e a).0)
-
-pub less-step : {T : Type 0} (K : Ops) (now here next : SlotValue T) → here ≡ now → IsAdvance K here next
-    → work_left next.present < work_left now.present
-less-step K now here next e a = subst (λ s. work_left next.present < work_left s.present) e a.1
 
 pub way-over : {T : Type 0} (ops : T → Ops) (start now here : SlotValue T) → IsField (ops start.f) → here ≡ now
     → now.f ≡ start.f → IsSound here.present.live here.present.rows here.present.columns

@@ -137,18 +137,6 @@ nonzero-written word s t entries old new nonzero written =
 flat_map-more : {X A : Type 0} (f : X → List A) (xs : List X) (x : X) → flat_map f (xs ++ x ∷ []) ≡ flat_map f xs ++ f x
 flat_map-more f xs x = flat_map-append f xs (x ∷ []) ∙ ap (λ rest. flat_map f xs ++ rest) (append-nil (f x))
 
--- what is written, after the lines of one member more
-pub lines-more : {X : Type 0} (f : X → List (List (List ℕ))) (xs : List X) (i : ℕ) (x : X) (start old new : List ℕ)
-    → old ≡ start ++ lines_text (flat_map f (take i xs))
-    → new ≡ old ++ lines_text (f x)
-    → take (i + 1) xs ≡ take i xs ++ x ∷ []
-    → new ≡ start ++ lines_text (flat_map f (take (i + 1) xs))
-lines-more f xs i x start old new h more next =
-    let first = flat_map f (take i xs) in
-    more ∙ ap (λ text. text ++ lines_text (f x)) h ∙ append_assoc start (lines_text first) (lines_text (f x))
-    ∙ ap (λ text. start ++ text) (sym (flat_map-append line_text first (f x))
-    ∙ ap lines_text (sym (flat_map-more f (take i xs) x)) ∙ ap (λ ys. lines_text (flat_map f ys)) (sym next))
-
 -- how many lines, after those of one member more
 pub lines-count : {X : Type 0} (f : X → List (List (List ℕ))) (xs : List X) (i : ℕ) (x : X) (old new n : ℕ)
     → old ≡ length (flat_map f (take i xs)) → n ≡ length (f x) → new ≡ old + n
