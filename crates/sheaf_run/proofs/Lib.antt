@@ -1,3 +1,4 @@
+mod AnswerLaws
 mod DegreeLaws
 pub mod DueLaws
 pub mod Lines

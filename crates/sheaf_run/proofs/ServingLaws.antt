@@ -1,7 +1,7 @@
 -- Clients that are served one after the other make a solo order.
 use Rattle.std.proofs.Common.{◌≡◌, ℕ, ◌+◌, ◌<◌, Bool, true, false, ◌==◌, if◌then◌else◌, nat_lt, List, [], ◌∷◌, ◌++◌}
 use Rattle.std.proofs.Common.{length, slice_get, slice_index_or, Option, Some, None, refl, sym, ap, ap₂, subst}
-use Rattle.std.proofs.Common.{inl, inr, ◌∙◌, arith, length-append, append_nil, append_assoc, All}
+use Rattle.std.proofs.Common.{inl, inr, ◌∙◌, arith, length-append, append-nil, append_assoc, All}
 use Rattle.std.specs.Prelude.{unwrap_or, nat_eq}
 use Rattle.std.specs.Map.{update}
 use Rattle.std.proofs.lemmas.List.Elements.{All-weaker}
@@ -40,8 +40,9 @@ use Rattle.core_machine.specs.Solo.{SoloStep, IsSoloOrder, HasCompositeMaps}
 use Rattle.core_machine.proofs.CountLaws.{leads-more}
 use Rattle.sheaf_text.specs.Answers.{IsServable, AreServable}
 use Rattle.sheaf_run.specs.Sessions.{Progress, IsSessionCommand, IsProgressAfter, IsJudged, position_of, IsProgress}
-use Rattle.sheaf_run.specs.Sessions.{IsWaiting, IsSheafReduction, IsSoloReply, IsSoloAnswer, IsFirstAsked, IsReducedFrom}
-use Rattle.sheaf_run.specs.Sessions.{removed_pairs, pair_events, version_reduction, IsKnownReduction}
+use Rattle.sheaf_run.specs.Sessions.{IsWaiting, IsSheafReduction, IsSoloReply, IsSoloAnswer, IsReducedFrom}
+use Rattle.sheaf_run.specs.Sessions.{HasReduction}
+use Rattle.sheaf_run.specs.Sessions.{removed_pairs, pair_events, version_reduction}
 
 slice_get-last : {X : Type 0} (xs : List X) (x : X) → slice_get (xs ++ x ∷ []) (length xs) ≡ Some x
 slice_get-last [] x = refl
@@ -279,7 +280,7 @@ module _ (K : Ops) (scripts : List (List Command)) (d : SheafData Field) (v : �
     record {
       sheaves = refl;
       lanes = refl;
-      there = removed ∙ ap Some (sym (append_nil ps));
+      there = removed ∙ ap Some (sym (append-nil ps));
       later = λ u l. refl;
     },
   )
@@ -431,35 +432,42 @@ last-progress scripts start p h = record {
 
 -- ---- what the calls made of the progress
 
+judged-events : (p new : Progress) (e : Change) (v : Verdict) → IsProgressAfter p e v new → new.events ≡ p.events
+judged-events p new e Accepted next = next.events
+judged-events p new e (Refused cause) same = ap (λ (q : Progress). q.events) same
+
 -- the edit was judged
 pub edit-progress : (scripts : List (List Command)) (start : SheafData Field) (c i : ℕ) (e : Change) (v : Verdict)
-    (old middle : Progress) (before after : List Event) → IsJudged old e v middle → before ≡ old.events
-    → after ≡ before ++ Edit c v ∷ [] → command_at scripts c i ≡ Some (commands.Change e)
+    (old middle new : Progress) (after : List Event) → IsJudged old e v middle → middle ≡ new
+    → after ≡ new.events ++ Edit c v ∷ [] → command_at scripts c i ≡ Some (commands.Change e)
     → IsProgress scripts start c i old
-    → IsProgress scripts start c (i + 1) (record middle { events = after })
-edit-progress scripts start c i e v old middle before after judged same f comes h =
-    subst (λ es. IsProgress scripts start c (i + 1) (record middle { events = es }))
-    (sym (f ∙ ap (λ es. es ++ Edit c v ∷ []) same)) (judge-step scripts start c i old e v middle comes judged h)
+    → IsProgress scripts start c (i + 1) (record new { events = after })
+edit-progress scripts start c i e v old middle new after judged same f comes h =
+    let own : IsJudged old e v new = subst (IsJudged old e v) same judged in
+    subst (λ es. IsProgress scripts start c (i + 1) (record new { events = es }))
+    (sym (f ∙ ap (λ es. es ++ Edit c v ∷ []) (judged-events old new e v own.after)))
+    (judge-step scripts start c i old e v new comes own h)
 
 -- the question was asked, the version reduced, and the question answered
 pub answer-progress : (scripts : List (List Command)) (start : SheafData Field) (c i : ℕ) (q : Query) (r : Answer)
-    (old middle : Progress) (asked after : List Event)
-    → asked ≡ old.events ++ Ask c ∷ [] → IsReducedFrom (record old { events = asked }) middle
-    → IsSoloAnswer middle q r → after ≡ middle.events ++ Reply c r ∷ []
+    (old asked reduced middle new : Progress) (after : List Event)
+    → asked ≡ record old { events = old.events ++ Ask c ∷ [] } → IsReducedFrom asked reduced → HasReduction reduced
+    → IsSoloAnswer reduced q r → middle ≡ reduced → middle ≡ new → after ≡ new.events ++ Reply c r ∷ []
     → command_at scripts c i ≡ Some (commands.Ask q) → IsProgress scripts start c i old
-    → IsProgress scripts start c (i + 1) (record middle { events = after })
-answer-progress scripts start c i q r old middle asked after e reduced right f comes h =
-    subst (λ es. IsProgress scripts start c (i + 1) (record middle { events = es })) (sym f)
-    (reply-step scripts start c i middle right.slot q r comes right.there right.reduction right.right (go reduced))
+    → IsProgress scripts start c (i + 1) (record new { events = after })
+answer-progress scripts start c i q r old asked reduced middle new after e step known right same is f comes h =
+    subst (λ es. IsProgress scripts start c (i + 1) (record new { events = es })) (sym f)
+    (subst (λ p. IsProgress scripts start c (i + 1) (record p { events = p.events ++ Reply c r ∷ [] })) (sym same ∙ is)
+    (reply-step scripts start c i reduced known.slot q r comes known.there known.reduction
+    (right known.slot known.there known.reduction.field) (go step)))
   where
-    waits : IsWaiting scripts start c i (record old { events = asked })
-    waits = subst (λ es. IsWaiting scripts start c i (record old { events = es })) (sym e)
-        (ask-step scripts start c i old q comes h)
+    waits : IsWaiting scripts start c i asked
+    waits = subst (IsWaiting scripts start c i) (sym e) (ask-step scripts start c i old q comes h)
 
-    go : IsReducedFrom (record old { events = asked }) middle → IsWaiting scripts start c i middle
-    go (inl same) = subst (IsWaiting scripts start c i) (sym same.1) waits
+    go : IsReducedFrom asked reduced → IsWaiting scripts start c i reduced
+    go (inl stays) = subst (IsWaiting scripts start c i) (sym stays.1) waits
     go (inr first) = subst (IsWaiting scripts start c i) (sym first.new_is)
-        (reduce-step scripts start c i (record old { events = asked }) first.slot first.none first.reduction waits)
+        (reduce-step scripts start c i asked first.slot first.none first.reduction waits)
 
 -- ---- what a session serves
 

@@ -127,12 +127,16 @@ pub record IsSoloReply (sheaf : SheafData Field) (slot : SlotValue Field) (query
   pub right : IsRightReply (ops_of sheaf.field) (version_reduction sheaf slot) query reply
   pub composite : HasCompositeMaps (ops_of sheaf.field) (version_reduction sheaf slot) reply
 
--- and the version has been reduced
-pub record IsSoloAnswer (p : Progress) (query : Query) (reply : Reply) : Type 0 where
+-- the version has been reduced
+pub record HasReduction (p : Progress) : Type 0 where
   pub slot : SlotValue Field
   pub there : p.slot ≡ Some slot
   pub reduction : IsSheafReduction p.sheaf slot
-  pub right : IsSoloReply p.sheaf slot query reply
+
+-- the reply is one to the question on the version that stands, however it has been reduced
+abbrev pub IsSoloAnswer : Progress → Query → Reply → Type 0
+IsSoloAnswer p query reply = (slot : SlotValue Field) → p.slot ≡ Some slot → slot.f ≡ p.sheaf.field
+    → IsSoloReply p.sheaf slot query reply
 
 -- the reduction, if there is one, is that of the sheaf
 abbrev pub IsKnownReduction : SheafData Field → Option (SlotValue Field) → Type 0

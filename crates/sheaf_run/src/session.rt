@@ -1,5 +1,5 @@
 ghost use Rattle.std.specs.Prelude.{◌≡◌, ℕ, ◌+◌, ◌≤◌, ◌<◌, List, Some, None, [], length, slice_get, sum_by};
-ghost use Rattle.std.specs.Prelude.{IfOk, OnOk, All, true, is_some};
+ghost use Rattle.std.specs.Prelude.{IfOk, OnOk, All};
 ghost use Rattle.field_table.specs.Table.{ops_of};
 ghost use Rattle.field_table.specs.declared.field.Field.{Field as FieldValue};
 ghost use Rattle.sheaf_data.specs.Sheaves.{SheafData};
@@ -9,7 +9,7 @@ ghost use Rattle.sheaf_words.specs.declared.query.Command.TheVariants.{Change, A
 ghost use Rattle.sheaf_words.specs.declared.query.Query.TheVariants.{Reduce};
 ghost use Rattle.core_machine.specs.Machine.{command_at, IsLegalAndWhole};
 ghost use Rattle.core_machine.specs.Solo.{IsSoloOrder};
-ghost use Rattle.sheaf_run.specs.Sessions.{IsSessionCommand, IsSoloQuery, IsSoloAnswer, IsJudged, IsProgress};
+ghost use Rattle.sheaf_run.specs.Sessions.{IsSessionCommand, IsSoloQuery, IsSoloAnswer, IsJudged, HasReduction, IsProgress};
 ghost use Rattle.sheaf_run.specs.Sessions.{IsReducedFrom};
 
 use crate::reduction::{push_pairs, reduction};
@@ -112,6 +112,7 @@ impl Session {
     /// Reduces the version that stands, unless it was done before; each pair is an event.
     fn reduce(&mut self, alloc: Global) -> Result<(), NoMemory>
         ensures reduced { OnOk result (IsReducedFrom self.old self.new) }
+        ensures known { OnOk result (HasReduction self.new) }
         ensures version { self.new.version ≡ self.old.version }
     {
         if self.slot.is_some() {
@@ -126,7 +127,7 @@ impl Session {
     /// The answer to a question on the version that stands, which was reduced.
     fn reply(&mut self, alloc: Global, query: &Query) -> Result<Reply, NoMemory>
         requires query { IsSoloQuery query.now }
-        requires reduced { is_some self.old.slot ≡ true }
+        requires reduced { HasReduction self.old }
         ensures same { self.new ≡ self.old }
         ensures right { IfOk result (IsSoloAnswer self.old query.now) }
     {
@@ -138,7 +139,7 @@ impl Session {
 
     /// The pairs that were removed from the version that stands, and what they leave.
     fn reduced_reply(&self, alloc: Global) -> Result<Reply, NoMemory>
-        requires { is_some self.now.slot ≡ true }
+        requires { HasReduction self.now }
         ensures { IfOk result (IsSoloAnswer self.now Reduce) }
     {
         let degrees = degree_count(self.sheaf.draft().complex.dims()) as u8;

@@ -7,7 +7,7 @@ use Rattle.sheaf_run.proofs.answers.solution.Goals as goal
 
 pub transcript-requires-clause-of : goal.transcript-requires-clause-of
 transcript-requires-clause-of c =
-    let order = c.in_ok-events.ensures in
+    let order = c.in_ok-events.ensures.legal in
     subst (AreOf c.args.scripts.now) (sym c.deref.ensures.value)
     (events_are_answers (ops_of c.args.sheaf.field) c.args.scripts.now c.args.sheaf c.in_ok-events.events.items
     order.last order.legal)
