@@ -2,7 +2,7 @@
 use Rattle.std.proofs.Common.{◌≡◌, ℕ, ◌+◌, ◌<◌, Bool, true, false, ◌==◌, if◌then◌else◌, nat_lt, List, [], ◌∷◌, ◌++◌}
 use Rattle.std.proofs.Common.{length, slice_get, slice_index_or, Option, Some, None, refl, sym, ap, ap₂, subst}
 use Rattle.std.proofs.Common.{inl, inr, ◌∙◌, arith, length-append, append-nil, append_assoc, All}
-use Rattle.std.specs.Prelude.{unwrap_or, nat_eq}
+use Rattle.std.specs.Prelude.{unwrap_or, nat_eq, is_some}
 use Rattle.std.specs.Map.{update}
 use Rattle.std.proofs.lemmas.List.Elements.{All-weaker}
 use Rattle.std.proofs.lemmas.Option.{slice_get_within, get_or_from_slice_get}
@@ -42,7 +42,7 @@ use Rattle.sheaf_text.specs.Answers.{IsServable, AreServable}
 use Rattle.sheaf_run.specs.Sessions.{Progress, IsSessionCommand, IsProgressAfter, IsJudged, position_of, IsProgress}
 use Rattle.sheaf_run.specs.Sessions.{IsWaiting, IsSheafReduction, IsSoloReply, IsSoloAnswer, IsReducedFrom}
 use Rattle.sheaf_run.specs.Sessions.{HasReduction}
-use Rattle.sheaf_run.specs.Sessions.{removed_pairs, pair_events, version_reduction}
+use Rattle.sheaf_run.specs.Sessions.{removed_pairs, pair_events, version_reduction, IsKnownReduction}
 
 slice_get-last : {X : Type 0} (xs : List X) (x : X) → slice_get (xs ++ x ∷ []) (length xs) ≡ Some x
 slice_get-last [] x = refl
@@ -262,7 +262,7 @@ module _ (K : Ops) (scripts : List (List Command)) (d : SheafData Field) (v : �
     there : t.pairs v ≡ Some pairs
     later : (u : ℕ) → v < u → t.pairs u ≡ s.pairs u
 
-  reduction_at : List (ℕ × ℕ) → BlockComplex → Reduction
+  abbrev reduction_at : List (ℕ × ℕ) → BlockComplex → Reduction
   reduction_at pairs rest = record {
     whole = cochain_complex_of K d.complex d.stalks d.blocks;
     degrees = degree_count d.complex.dims;
@@ -436,6 +436,14 @@ judged-events : (p new : Progress) (e : Change) (v : Verdict) → IsProgressAfte
 judged-events p new e Accepted next = next.events
 judged-events p new e (Refused cause) same = ap (λ (q : Progress). q.events) same
 
+-- the reduction of a version that was asked
+pub known-reduction : (p : Progress) → is_some p.slot ≡ true → IsKnownReduction p.sheaf p.slot → HasReduction p
+known-reduction p is known = go p.slot refl is known
+  where
+    go : (o : Option (SlotValue Field)) → p.slot ≡ o → is_some o ≡ true → IsKnownReduction p.sheaf o → HasReduction p
+    go None e there known = cc
+    go (Some slot) e there known = record { slot = slot; there = e; reduction = known }
+
 -- the edit was judged
 pub edit-progress : (scripts : List (List Command)) (start : SheafData Field) (c i : ℕ) (e : Change) (v : Verdict)
     (old middle new : Progress) (after : List Event) → IsJudged old e v middle → middle ≡ new
@@ -450,24 +458,27 @@ edit-progress scripts start c i e v old middle new after judged same f comes h =
 
 -- the question was asked, the version reduced, and the question answered
 pub answer-progress : (scripts : List (List Command)) (start : SheafData Field) (c i : ℕ) (q : Query) (r : Answer)
-    (old asked reduced middle new : Progress) (after : List Event)
-    → asked ≡ record old { events = old.events ++ Ask c ∷ [] } → IsReducedFrom asked reduced → HasReduction reduced
-    → IsSoloAnswer reduced q r → middle ≡ reduced → middle ≡ new → after ≡ new.events ++ Reply c r ∷ []
-    → command_at scripts c i ≡ Some (commands.Ask q) → IsProgress scripts start c i old
+    (old before reduced middle new : Progress) (asked after : List Event) → before ≡ old
+    → asked ≡ before.events ++ Ask c ∷ [] → IsReducedFrom (record before { events = asked }) reduced
+    → HasReduction reduced → IsSoloAnswer reduced q r → middle ≡ reduced → new ≡ middle
+    → after ≡ new.events ++ Reply c r ∷ [] → command_at scripts c i ≡ Some (commands.Ask q)
+    → IsProgress scripts start c i old
     → IsProgress scripts start c (i + 1) (record new { events = after })
-answer-progress scripts start c i q r old asked reduced middle new after e step known right same is f comes h =
+answer-progress scripts start c i q r old before reduced middle new asked after was e step known right same is f comes h =
     subst (λ es. IsProgress scripts start c (i + 1) (record new { events = es })) (sym f)
-    (subst (λ p. IsProgress scripts start c (i + 1) (record p { events = p.events ++ Reply c r ∷ [] })) (sym same ∙ is)
+    (subst (λ p. IsProgress scripts start c (i + 1) (record p { events = p.events ++ Reply c r ∷ [] }))
+    (sym (is ∙ same))
     (reply-step scripts start c i reduced known.slot q r comes known.there known.reduction
     (right known.slot known.there known.reduction.field) (go step)))
   where
-    waits : IsWaiting scripts start c i asked
-    waits = subst (IsWaiting scripts start c i) (sym e) (ask-step scripts start c i old q comes h)
+    waits : IsWaiting scripts start c i (record before { events = asked })
+    waits = subst (λ es. IsWaiting scripts start c i (record before { events = es })) (sym e)
+        (ask-step scripts start c i before q comes (subst (IsProgress scripts start c i) (sym was) h))
 
-    go : IsReducedFrom asked reduced → IsWaiting scripts start c i reduced
+    go : IsReducedFrom (record before { events = asked }) reduced → IsWaiting scripts start c i reduced
     go (inl stays) = subst (IsWaiting scripts start c i) (sym stays.1) waits
     go (inr first) = subst (IsWaiting scripts start c i) (sym first.new_is)
-        (reduce-step scripts start c i asked first.slot first.none first.reduction waits)
+        (reduce-step scripts start c i (record before { events = asked }) first.slot first.none first.reduction waits)
 
 -- ---- what a session serves
 

@@ -143,7 +143,7 @@ impl Session {
         ensures { IfOk result (IsSoloAnswer self.now Reduce) }
     {
         let degrees = degree_count(self.sheaf.draft().complex.dims()) as u8;
-        let slot = self.slot.as_ref().unwrap();
+        let Some(slot) = &self.slot else { unreachable!() };
         Ok(Reply::Reduce(reduced(alloc, slot, degrees)?))
     }
 
