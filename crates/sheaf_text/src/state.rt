@@ -31,7 +31,6 @@ fn query_of(kind: Kind) -> Query
 {
     match kind {
         Kind::Reduce => Query::Reduce,
-        Kind::Equiv => Query::Equiv,
         _ => Query::Betti,
     }
 }
@@ -178,7 +177,6 @@ impl State {
             Kind::Client => self.take_client(alloc, text),
             Kind::Betti => self.take_query(Kind::Betti, text),
             Kind::Reduce => self.take_query(Kind::Reduce, text),
-            Kind::Equiv => self.take_query(Kind::Equiv, text),
             Kind::Edit => {
                 self.take_edit(alloc, text);
                 Ok(())
