@@ -1,5 +1,5 @@
 -- One pair more: what a commit and a flag make of a slot, at the first pair to be tried.
-use Rattle.std.proofs.Common.{◌≡◌, ◌<◌, ℕ, List, [], ◌∷◌, ◌++◌, Result}
+use Rattle.std.proofs.Common.{◌≡◌, ℕ, List, [], ◌∷◌, ◌++◌, Result}
 use Rattle.std.proofs.Common.{Ok, Err, sym, ap, ap₂, ◌∙◌, subst, append-nil}
 use Rattle.std.proofs.Common.{append_assoc, Option, None, inl, inr, true}
 use Rattle.std.specs.Prelude.{OnOk, IfOk, MatchOption}
@@ -28,9 +28,9 @@ use Rattle.pair_commit.specs.declared.work.Work.{Work}
 use Rattle.pair_commit.specs.declared.work.Work.TheVariants.{Try}
 use Rattle.pair_commit.specs.declared.kept.Kept.{Kept}
 use Rattle.pair_commit.proofs.FlagLaws.{flagged-same, tried-irreducible}
-use Rattle.first_reduction.specs.Advances.{IsFirstFootprint, IsBeginning, IsOnTheWay, IsAdvance, IsReduced, work_left}
+use Rattle.first_reduction.specs.Advances.{IsFirstFootprint, IsBeginning, IsOnTheWay, IsAdvance, IsReduced}
 use Rattle.first_reduction.proofs.WorkLaws.{removed-less, flagged-less}
-use Rattle.first_reduction.proofs.FirstLaws.{beginning-none, beginning-same}
+use Rattle.first_reduction.proofs.FirstLaws.{beginning-same}
 use Rattle.first_reduction.proofs.FirstLaws.{beginning-one, beginning-then, beginning-end}
 use Rattle.first_reduction.proofs.FirstLaws.{first-invertible}
 use Rattle.first_reduction.proofs.StandingLaws.{footprint-fits, pivot-stands}
@@ -107,7 +107,8 @@ module _ (K : Ops) (F : IsField K) {T : Type 0} (old : SlotValue T)
           (flagged-same old.present new.present x y (record { live = m.live; blocks = m.blocks }));
     },
     flagged-less old.present new.present x y m.live m.blocks
-        (subst {A = ℕ × ℕ} (λ p. is_candidate old.present p.0 p.1 ≡ true) (ap₂ (λ a b. (a, b)) (sym ex) (sym ey)) first.0.candidate)
+        (subst {A = ℕ × ℕ} (λ p. is_candidate old.present p.0 p.1 ≡ true)
+        (ap₂ (λ a b. (a, b)) (sym ex) (sym ey)) first.0.candidate)
         m.stands.fits.between.from m.stands.fits.between.to,
   )
 

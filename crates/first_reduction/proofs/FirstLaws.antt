@@ -76,9 +76,6 @@ reduction-irreducible K v w (p ∷ pairs) r = reduction-irreducible K r.0 w pair
 
 -- ---- beginnings
 
-pub beginning-none : (K : Ops) (v : BlockComplex) → IsBeginning K v [] v
-beginning-none K v = λ rest u r. r
-
 pub beginning-same : (K : Ops) (v w : BlockComplex) → HaveSameMatrices v w → IsBeginning K v [] w
 beginning-same K v w h = λ rest u r. reduction-same K v w rest u h r
 

@@ -81,7 +81,8 @@ module _ (K : Ops) (F : IsField K) (v : StoredBlocks) (sound : IsSound v.live v.
   source-live s (inl e) = subst (IsLiveAs v.live (sources foot)) (eqb-true foot.x s e)
       (live-one v.live foot.x foot.pivot.cols foot.left foot.parts.left_rises foot.parts.without_x
       (between.from, sym cols))
-  source-live s (inr m) = live-too v.live foot.x foot.pivot.cols foot.left foot.parts.left_rises foot.parts.without_x s m
+  source-live s (inr m) =
+      live-too v.live foot.x foot.pivot.cols foot.left foot.parts.left_rises foot.parts.without_x s m
       (listed-live foot.left h.left_sized s m)
 
   target-live : (t : ℕ) → (foot.y == t) ≡ true ⊎ (has t (keys foot.below) ≡ true) → IsLiveAs v.live (targets foot) t

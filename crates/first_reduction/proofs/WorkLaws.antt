@@ -150,6 +150,7 @@ module _ (v w : StoredBlocks) (s t : ℕ) (live : w.live ≡ v.live)
   pub flagged-less : is_candidate v s t ≡ true → has s (cells v.live) ≡ true → has t (cells v.live) ≡ true
       → work_left w < work_left v
   flagged-less was from to =
-      subst (λ l. length l * length l * length l + sum_by (λ p. sum_by (λ q. bit (is_candidate w p q)) (cells l)) (cells l)
+      subst (λ l. length l * length l * length l
+      + sum_by (λ p. sum_by (λ q. bit (is_candidate w p q)) (cells l)) (cells l)
       < work_left v) (sym live)
       (omega (arith, sum-less (row w) (row v) s row-le (row-less was to) (cells v.live) from))

@@ -37,9 +37,6 @@ pub record AreDegreeBlocks (v : StoredBlocks) (degrees : ℕ) (blocks : List Blo
   pub one_each : length blocks ≡ degrees
   pub each : (k : ℕ) (b : Block) → k < degrees → IsDegreeBlock v k (get_or blocks k b)
 
-pub degree-first : (v : StoredBlocks) → AreDegreeBlocks v 0 []
-degree-first v = record { one_each = refl; each = λ k b l. absurd (omega arith) }
-
 pub degree-next : (v : StoredBlocks) (n : ℕ) (blocks longer : List Block) (b : Block) → AreDegreeBlocks v n blocks
     → longer ≡ blocks ++ b ∷ [] → IsDegreeBlock v n b → AreDegreeBlocks v (n + 1) longer
 degree-next v n blocks longer b h e is = record {

@@ -10,8 +10,8 @@ use Rattle.core_machine.specs.Replies.{AreGradedBlocks, graded_matrix}
 abbrev pub sized_of_degree : ℕ → List (ℕ × ℕ × ℕ) → List (ℕ × ℕ)
 sized_of_degree k live = map (λ l. (l.0, l.2)) (filter (λ l. l.1 == k) live)
 
--- a block for each of so many degrees: that of degree k has a row for each coordinate of C in degree k + 1, and a column
--- for each in degree k
+-- a block for each of so many degrees: that of degree k has a row for each coordinate of C in degree k + 1, and a
+-- column for each in degree k
 abbrev pub HaveCoboundaryShapes : ℕ → CellularComplex → List Block → Type 0
 HaveCoboundaryShapes degrees C blocks =
     AreGradedBlocks degrees (λ k. coordinates C (suc k)) (coordinates C) blocks

@@ -1,8 +1,8 @@
 -- The live cells of a start complex have degrees below the number of degrees.
-use Rattle.std.proofs.Common.{◌≡◌, ℕ, ◌+◌, ◌<◌, ◌≤◌, Bool, true, false, cond, ◌==◌, List, [], ◌∷◌, All, arith, subst, sym}
+use Rattle.std.proofs.Common.{ℕ, ◌+◌, ◌<◌, ◌≤◌, Bool, true, false, cond, ◌==◌, List, [], ◌∷◌, All, arith}
 use Rattle.std.specs.Prelude.{max, not, map, filter}
 use Rattle.std.proofs.Math.Nat.{le-max_left, le-max_right, max-le}
-use Rattle.std.proofs.lemmas.List.Elements.{All-weaker, All-nil, All-cons, All-head, All-tail}
+use Rattle.std.proofs.lemmas.List.Elements.{All-weaker, All-cons, All-head, All-tail}
 use Rattle.cochain_vec.specs.declared.cell.Cell.{Cell}
 use Rattle.sheaf_data.specs.Arrows.{numbered_cells}
 use Rattle.sheaf_data.specs.Betti.{degree_count}

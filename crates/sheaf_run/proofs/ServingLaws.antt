@@ -30,13 +30,13 @@ use Rattle.sheaf_words.specs.declared.edit.Verdict.{Verdict}
 use Rattle.sheaf_words.specs.declared.edit.Verdict.TheVariants.{Accepted, Refused}
 use Rattle.sheaf_words.specs.declared.reply.Reply.{Reply as Answer}
 use Rattle.sheaf_words.specs.declared.event.Event.{Event}
-use Rattle.sheaf_words.specs.declared.event.Event.TheVariants.{Edit, Ask, Pair, Reply}
+use Rattle.sheaf_words.specs.declared.event.Event.TheVariants.{Edit, Ask, Reply}
 use Rattle.edit_versions.specs.Verdicts.{IsVerdict, IsEdited}
-use Rattle.core_machine.specs.Replies.{Reduction, IsRightReply}
+use Rattle.core_machine.specs.Replies.{Reduction}
 use Rattle.core_machine.specs.Machine.{Lane, State, free_lane, waiting_lane, command_at, with_lane, EditStep, AskStep}
 use Rattle.core_machine.specs.Machine.{PairStep, ReplyStep, Leads, IsDone}
 use Rattle.core_machine.specs.Legal.{first_state}
-use Rattle.core_machine.specs.Solo.{SoloStep, IsSoloOrder, HasCompositeMaps}
+use Rattle.core_machine.specs.Solo.{SoloStep, IsSoloOrder}
 use Rattle.core_machine.proofs.CountLaws.{leads-more}
 use Rattle.sheaf_text.specs.Answers.{IsServable, AreServable}
 use Rattle.sheaf_run.specs.Sessions.{Progress, IsSessionCommand, IsProgressAfter, IsJudged, position_of, IsProgress}
@@ -98,7 +98,8 @@ position-next scripts c d script there = go (nat_lt d c) (c == d) refl refl
 -- ---- lanes
 
 -- the clients before c have all of theirs done
-done-before : (scripts : List (List Command)) (c i d : ℕ) (lane : Lane) → d < c → lane ≡ free_lane (position_of scripts c i d)
+done-before : (scripts : List (List Command)) (c i d : ℕ) (lane : Lane) → d < c
+    → lane ≡ free_lane (position_of scripts c i d)
     → (script : List Command) → slice_get scripts d ≡ Some script → lane ≡ free_lane (length script)
 done-before scripts c i d lane l is script there =
     is ∙ ap free_lane (
@@ -393,7 +394,8 @@ reply-step scripts start c i p slot q r comes there is right h =
       current_sheaf = h.current_sheaf;
       field = h.field;
       lanes_are = λ d.
-          lane-same h.state.lanes (with_lane (λ d. free_lane (position_of scripts c i d)) c (waiting_lane i p.version)) c d
+          lane-same h.state.lanes
+          (with_lane (λ d. free_lane (position_of scripts c i d)) c (waiting_lane i p.version)) c d
           (free_lane (i + 1)) h.lanes_are
           ∙ lane-over (λ d. free_lane (position_of scripts c i d)) c (waiting_lane i p.version) (free_lane (i + 1)) d
           ∙ position-more scripts (λ d. free_lane (position_of scripts c i d)) c i (i + 1) d refl;
@@ -464,7 +466,8 @@ pub answer-progress : (scripts : List (List Command)) (start : SheafData Field) 
     → after ≡ new.events ++ Reply c r ∷ [] → command_at scripts c i ≡ Some (commands.Ask q)
     → IsProgress scripts start c i old
     → IsProgress scripts start c (i + 1) (record new { events = after })
-answer-progress scripts start c i q r old before reduced middle new asked after was e step known right same is f comes h =
+answer-progress scripts start c i q r old before reduced middle new asked after was e step known right same is f comes
+    h =
     subst (λ es. IsProgress scripts start c (i + 1) (record new { events = es })) (sym f)
     (subst (λ p. IsProgress scripts start c (i + 1) (record p { events = p.events ++ Reply c r ∷ [] }))
     (sym (is ∙ same))

@@ -71,11 +71,12 @@ bad_draft (Noncommuting s u) =
     record { status = BadSheaf; text = line_text (codes "bad sheaf square" ∷ map decimal (s ∷ u ∷ [])) }
 
 -- what is written of a sheaf and the scripts of its clients: under `solve` the transcript of one legal order of all
--- commands, whole, and of the solo order, so that the text is the only one; under `check` how many cells and faces there are, how many clients, and how many commands
+-- commands, whole, and of the solo order, so that the text is the only one; under `check` how many cells and faces
+-- there are, how many clients, and how many commands
 abbrev pub IsTextOf : Job → SheafData Field → List (List Command) → List ℕ → Type 0
 IsTextOf Solve d scripts text =
-    (events : List Event) × IsLegalAndWhole (ops_of d.field) scripts d events × IsSoloOrder (ops_of d.field) scripts d events
-    × (text ≡ transcript scripts events)
+    (events : List Event) × IsLegalAndWhole (ops_of d.field) scripts d events
+    × IsSoloOrder (ops_of d.field) scripts d events × (text ≡ transcript scripts events)
 IsTextOf Check d scripts text =
     text ≡ line_text (codes "good" ∷ map decimal (length d.complex.dims ∷ length d.complex.faces ∷ length scripts
     ∷ sum_by length scripts ∷ []))

@@ -1,5 +1,5 @@
 -- Clients that are served one after the other, on one sheaf that their edits change.
-use Rattle.std.specs.Prelude.{◌≡◌, ◌⊎◌, ℕ, ◌+◌, ◌≤◌, ◌<◌, ◌==◌, true, List, [], ◌∷◌, ◌++◌, Option, Some, None, IfSome, map}
+use Rattle.std.specs.Prelude.{◌≡◌, ◌⊎◌, ℕ, ◌+◌, ◌≤◌, ◌<◌, ◌==◌, true, List, [], ◌++◌, Option, Some, None, IfSome, map}
 use Rattle.std.specs.Prelude.{length, nat_lt, slice_get, slice_index_or, is_some, unwrap_or, if◌then◌else◌}
 use Rattle.field_table.specs.declared.field.Field.{Field}
 use Rattle.field_table.specs.Table.{ops_of}

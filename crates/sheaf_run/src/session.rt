@@ -9,8 +9,8 @@ ghost use Rattle.sheaf_words.specs.declared.query.Command.TheVariants.{Change, A
 ghost use Rattle.sheaf_words.specs.declared.query.Query.TheVariants.{Reduce};
 ghost use Rattle.core_machine.specs.Machine.{command_at, IsLegalAndWhole};
 ghost use Rattle.core_machine.specs.Solo.{IsSoloOrder};
-ghost use Rattle.sheaf_run.specs.Sessions.{IsSessionCommand, IsSoloQuery, IsSoloAnswer, IsJudged, HasReduction, IsProgress};
-ghost use Rattle.sheaf_run.specs.Sessions.{IsReducedFrom};
+ghost use Rattle.sheaf_run.specs.Sessions.{IsSessionCommand, IsSoloQuery, IsSoloAnswer, IsJudged, HasReduction};
+ghost use Rattle.sheaf_run.specs.Sessions.{IsProgress, IsReducedFrom};
 
 use crate::reduction::{push_pairs, reduction};
 use dense_blocks::Listed;
@@ -143,7 +143,9 @@ impl Session {
         ensures { IfOk result (IsSoloAnswer self.now Reduce) }
     {
         let degrees = degree_count(self.sheaf.draft().complex.dims()) as u8;
-        let Some(slot) = &self.slot else { unreachable!() };
+        let Some(slot) = &self.slot else {
+            unreachable!()
+        };
         Ok(Reply::Reduce(reduced(alloc, slot, degrees)?))
     }
 

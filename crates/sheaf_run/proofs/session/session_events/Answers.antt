@@ -1,5 +1,4 @@
-use Rattle.std.proofs.Common.{◌≡◌, ◌+◌, ◌≤◌, length, slice_get, Some, refl, sym, ap, subst, ◌∙◌, arith, rules}
-use Rattle.std.specs.Prelude.{sum_by}
+use Rattle.std.proofs.Common.{◌+◌, length, slice_get, Some, refl, sym, ap, subst, ◌∙◌, arith, rules}
 use Rattle.std.proofs.lemmas.List.Sums.{sum_by_more, sum_by_more_le}
 use Rattle.std.proofs.lemmas.Option.{slice_get_read}
 use Rattle.field_table.specs.Table.{ops_of}
@@ -23,8 +22,14 @@ serve_all-requires-clause-room c =
     let scripts = c.args.scripts.now in
     let i = c.loop-script.script-index in
     let script = c.script-item.result in
-    omega (arith, c.loop-script.invariant.2, c.requires.commands, ap length c.as_slice.ensures, ap length c.script-item.is,
-    sum_by_more_le length scripts i script c.loop-script-test.true)
+    omega (
+      arith,
+      c.loop-script.invariant.2,
+      c.requires.commands,
+      ap length c.as_slice.ensures,
+      ap length c.script-item.is,
+      sum_by_more_le length scripts i script c.loop-script-test.true,
+    )
 
 pub loop-script-preserved : goal.loop-script-preserved
 loop-script-preserved c =
@@ -38,8 +43,14 @@ loop-script-preserved c =
           (c.in_ok-serve_all.ensures.progress scripts c.args.sheaf (ap (slice_get scripts) here.0 ∙ there
           ∙ ap Some (sym c.as_slice.ensures))
           (subst (λ k. IsProgress scripts c.args.sheaf k 0 c.loop-script.session) (sym here.0) here.1)),
-      omega (arith, here.2, c.in_ok-serve_all.ensures.version, ap length c.as_slice.ensures, ap length c.script-item.is,
-          sum_by_more length scripts i script c.loop-script-test.true),
+      omega (
+        arith,
+        here.2,
+        c.in_ok-serve_all.ensures.version,
+        ap length c.as_slice.ensures,
+        ap length c.script-item.is,
+        sum_by_more length scripts i script c.loop-script-test.true,
+      ),
     )
 
 pub returns-clause-legal : goal.returns-clause-legal

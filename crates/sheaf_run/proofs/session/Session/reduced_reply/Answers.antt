@@ -1,4 +1,4 @@
-use Rattle.std.proofs.Common.{◌∙◌, sym, ap, subst, arith}
+use Rattle.std.proofs.Common.{◌∙◌, sym, ap, arith}
 use Rattle.std.proofs.lemmas.Option.{same_Some}
 use Rattle.cell_complex.specs.Invariants.{IsComplex}
 use Rattle.sheaf_data.specs.Sheaves.{SheafData}
@@ -10,8 +10,12 @@ use Rattle.sheaf_run.proofs.session.Session.reduced_reply.Goals as goal
 
 pub overflow_cast-degrees : goal.overflow_cast-degrees
 overflow_cast-degrees c =
-    omega (arith, c.degree_count-degrees.ensures, ap degree_count c.dims.ensures.dims,
-    degrees-few _ c.dims.ensures.complex.small.low)
+    omega (
+      arith,
+      c.degree_count-degrees.ensures,
+      ap degree_count c.dims.ensures.dims,
+      degrees-few _ c.dims.ensures.complex.small.low,
+    )
 
 pub reduced-requires : goal.reduced-requires
 reduced-requires c =
@@ -20,7 +24,8 @@ reduced-requires c =
     ∙ ap (λ (x : SheafData _). x.complex.dims) (c.behind-self.view_is ∙ c.draft.ensures.draft)
     ∙ ap (λ (q : Progress). q.sheaf.complex.dims) c.self.view_is in
     live-degrees p.sheaf c.requires.slot c.in-Some.slot c.degree_count-degrees.result
-    (same_Some _ _ (sym c.in-Some.is ∙ ap (λ (q : Progress). q.slot) c.self.view_is ∙ c.requires.there)) c.requires.reduction
+    (same_Some _ _ (sym c.in-Some.is ∙ ap (λ (q : Progress). q.slot) c.self.view_is ∙ c.requires.there))
+    c.requires.reduction
     (c.degree_count-degrees.ensures ∙ ap degree_count dims)
 
 pub returns : goal.returns

@@ -1,4 +1,4 @@
-use Rattle.std.proofs.Common.{◌+◌, arith, sym, ap, subst, ◌∙◌, refl, length, slice_get, Some}
+use Rattle.std.proofs.Common.{arith}
 use Rattle.sheaf_run.proofs.session.Session.serve_all.Goals as goal
 
 pub serve-requires-clause-room : goal.serve-requires-clause-room
