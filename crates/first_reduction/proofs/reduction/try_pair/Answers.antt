@@ -10,7 +10,8 @@ pub remove-requires-clause-fits : goal.remove-requires-clause-fits
 remove-requires-clause-fits g c =
     let s = c.args.slot.now in
     let sound = subst (λ b. IsSound b.live b.rows b.columns) c.now.ensures.present c.live-cells.ensures.sound in
-    let made = made-record _ _ c.args.foot c.finish.result c.in-Ok-Made.field-0 c.in-Ok-Made.record c.finish.ensures.finish
+    let made = made-record _ _ c.args.foot c.finish.result c.in-Ok-Made.field-0 c.in-Ok-Made.record
+    c.finish.ensures.finish
     c.in-Ok-Made.is c.in-Ok-Made.field-0-is in
     subst (Fits s.present) (sym made.footprint)
     (first-fits (g.F.Scalars.ops s.f) (g.met.F.Scalars.is_field s.f) s sound c.now.ensures.slot c.args.foot
@@ -20,7 +21,8 @@ pub returns-in-Ok-Made-clause-advance : goal.returns-in-Ok-Made-clause-advance
 returns-in-Ok-Made-clause-advance g c =
     let s = c.args.slot.now in
     let sound = subst (λ b. IsSound b.live b.rows b.columns) c.now.ensures.present c.live-cells.ensures.sound in
-    let made = made-record _ _ c.args.foot c.finish.result c.in-Ok-Made.field-0 c.in-Ok-Made.record c.finish.ensures.finish
+    let made = made-record _ _ c.args.foot c.finish.result c.in-Ok-Made.field-0 c.in-Ok-Made.record
+    c.finish.ensures.finish
     c.in-Ok-Made.is c.in-Ok-Made.field-0-is in
     weaker c.remove.result _ _
     (committed-advance (g.F.Scalars.ops s.f) (g.met.F.Scalars.is_field s.f) s sound c.now.ensures.slot c.args.foot
