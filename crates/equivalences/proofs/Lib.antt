@@ -1,0 +1,4 @@
+pub mod TransposeLaws
+pub mod StepLaws
+pub mod MapsLaws
+pub mod StartLaws

@@ -1,0 +1,5 @@
+//! Equivalences of block complexes: from the log of a reduction.
+#![tactic(auto)]
+
+/// Nothing.
+fn nothing() {}
