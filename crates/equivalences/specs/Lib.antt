@@ -1,0 +1,2 @@
+pub mod GradedBlocks
+pub mod Between
