@@ -33,7 +33,7 @@ use Rattle.equivalence_laws.proofs.SameMaps as same_maps
 use Rattle.equivalence_laws.proofs.RemovalEquations as on_cochains
 use Rattle.equivalence_laws.proofs.CellEquations as at_cells
 use Rattle.equivalences.specs.Transposes.{transpose}
-use Rattle.equivalences.specs.CellMaps.{CellMaps, AreRowsAt, AreMapsBetween, AreMapsOf}
+use Rattle.equivalences.specs.CellMaps.{CellMaps, AreRowsAt, AreCellMapsBetween, AreCellMapsOf}
 use Rattle.equivalences.proofs.TransposeLaws.{transpose-matrix, image_of-transpose}
 use Rattle.equivalences.proofs.StepLaws as steps
 
@@ -78,7 +78,7 @@ module _ (K : Ops) (F : IsField K) (v : BlockComplex) (rs : List Removal) (g : I
   u_is = after_all K F v rs g are
 
   -- the maps of one removal more
-  module _ (r : Removal) (removal : IsRemovalFrom K u r) (m m' : CellMaps) (maps : AreMapsOf K v rs m)
+  module _ (r : Removal) (removal : IsRemovalFrom K u r) (m m' : CellMaps) (maps : AreCellMapsOf K v rs m)
       (next : AreNextMaps K C u r m m') where
     abbrev q : Removal
     q = composite_laws.filled_removal r
@@ -206,9 +206,9 @@ module _ (K : Ops) (F : IsField K) (v : BlockComplex) (rs : List Removal) (g : I
               ∙ sym whole
         ]
 
-    pub next_maps : AreMapsOf K v (rs ++ r ∷ []) m'
+    pub next_maps : AreCellMapsOf K v (rs ++ r ∷ []) m'
     next_maps =
-        subst (λ w. AreMapsBetween K v w (removals_pi K v more) (removals_iota K v more) (removals_h K v more) m')
+        subst (λ w. AreCellMapsBetween K v w (removals_pi K v more) (removals_iota K v more) (removals_h K v more) m')
         (sym (rest-more v rs r))
         (record {
           live_is = next.live_is;
@@ -223,7 +223,7 @@ module _ (K : Ops) (F : IsField K) (v : BlockComplex) (rs : List Removal) (g : I
         })
 
   -- the matrices of the maps: the rows at the cells that are left, one after another
-  module _ (m : CellMaps) (maps : AreMapsOf K v rs m) where
+  module _ (m : CellMaps) (maps : AreCellMapsOf K v rs m) where
     shapes : (rows : ℕ → List (List ℕ)) → AreRowsAt K C u rows → (k : ℕ)
         → All (λ (t : Cell). Matrix K t.size (coordinates C k) (rows t.cell)) (cells_of B k)
     shapes rows h k =

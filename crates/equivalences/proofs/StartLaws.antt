@@ -25,7 +25,7 @@ use Rattle.block_complexes.proofs.ComplexLaws.{size-of_degree}
 use Rattle.equivalence_laws.specs.Updates.{cell_rows}
 use Rattle.equivalence_laws.proofs.UpdateLaws.{rows-matrix, value-image_of, drop-matrix}
 use Rattle.equivalence_laws.proofs.CochainValues.{rising-cells, each-of_degree}
-use Rattle.equivalences.specs.CellMaps.{CellMaps, AreRowsAt, AreMapsOf}
+use Rattle.equivalences.specs.CellMaps.{CellMaps, AreRowsAt, AreCellMapsOf}
 use Rattle.cochain_vec.specs.Stalkless as stalkless
 use Rattle.cochain_vec.proofs.StalklessLaws as stalkless_laws
 
@@ -113,7 +113,7 @@ module _ (K : Ops) (F : IsField K) (v : BlockComplex) (rises : IsRising (cells v
       → (k c : ℕ) → has c (cells v.live) ≡ true → degree_of v.live c ≡ k → rows c ≡ unit_rows k c
   by-degree rows is k c h e = is c h ∙ ap (λ d. unit_rows d c) e
 
-  pub first_maps : AreMapsOf K v [] m
+  pub first_maps : AreCellMapsOf K v [] m
   unfolding unit_rows
   first_maps = record {
     live_is = first.live_is;

@@ -29,7 +29,7 @@ AreRowsAt K C u rows = (c : ℕ) → has c (cells u.live) ≡ true
 
 -- they are those of the maps p, i and l, from v to w: at each cell c of w, the rows of pi send z to the value of p z
 -- at c; and i z is the combination of the columns by z
-pub record AreMapsBetween (K : Ops) (v w : BlockComplex) (p i l : GradedMap) (m : CellMaps) : Type 0 where
+pub record AreCellMapsBetween (K : Ops) (v w : BlockComplex) (p i l : GradedMap) (m : CellMaps) : Type 0 where
   pub live_is : m.live ≡ w.live
   pub pi_rows : AreRowsAt K (complex_of v) w m.pi
   pub pi_is : (k : ℕ) (z : List ℕ) → IsCochain K (complex_of v) k z → (c : ℕ) → has c (cells w.live) ≡ true
@@ -42,5 +42,5 @@ pub record AreMapsBetween (K : Ops) (v w : BlockComplex) (p i l : GradedMap) (m 
       → IsMatrixOf K (coordinates (complex_of v) k) (coordinates (complex_of v) (suc k)) (l k) (m.h k)
 
 -- they are those of pi, iota and h of the composite of removals from v
-abbrev pub AreMapsOf : Ops → BlockComplex → List Removal → CellMaps → Type 0
-AreMapsOf K v rs m = AreMapsBetween K v (rest_of v rs) (removals_pi K v rs) (removals_iota K v rs) (removals_h K v rs) m
+abbrev pub AreCellMapsOf : Ops → BlockComplex → List Removal → CellMaps → Type 0
+AreCellMapsOf K v rs m = AreCellMapsBetween K v (rest_of v rs) (removals_pi K v rs) (removals_iota K v rs) (removals_h K v rs) m

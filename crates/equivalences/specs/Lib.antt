@@ -1,2 +1,4 @@
+pub mod GradedBlocks
+pub mod Between
 pub mod Transposes
 pub mod CellMaps

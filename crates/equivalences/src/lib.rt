@@ -1,5 +1,6 @@
-//! Equivalences of block complexes: from the log of a reduction.
+//! Equivalences of block complexes in memory: their three maps, as joined matrices for each degree, and how two compose.
 #![tactic(auto)]
 
-/// Nothing.
-fn nothing() {}
+mod equivalence;
+
+pub use equivalence::Equivalence;
