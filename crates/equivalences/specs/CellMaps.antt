@@ -6,13 +6,17 @@ use Rattle.dense_blocks.specs.Vectors.{combination}
 use Rattle.dense_blocks.specs.Matrices.{image_of}
 use Rattle.dense_blocks.specs.MatrixFacts.{IsMatrix}
 use Rattle.dense_blocks.specs.LinearMaps.{IsMatrixOf}
+use Rattle.dense_blocks.specs.Blocks.{matrix_of}
 use Rattle.rising_lists.specs.Rising.{has}
+use Rattle.cochain_vec.specs.CochainComplexes.{IsCochainComplex}
+use Rattle.reduce_step.specs.declared.record.Step.{Step}
+use Rattle.reduce_step.specs.Logs.{IsStepFrom}
 use Rattle.cochain_vec.specs.Complexes.{CellularComplex, IsCochain, cells_of, coordinates}
-use Rattle.block_complexes.specs.BlockComplexes.{BlockComplex, cells, degree_of, size_of}
+use Rattle.block_complexes.specs.BlockComplexes.{BlockComplex, IsBlockComplex, cells, degree_of, size_of}
 use Rattle.block_complexes.specs.Cochains.{complex_of}
 use Rattle.equivalence_laws.specs.Equivalences.{GradedMap}
-use Rattle.equivalence_laws.specs.RemovalMaps.{Removal, cochain_value}
-use Rattle.equivalence_laws.specs.Composites.{rest_of, removals_pi, removals_iota, removals_h}
+use Rattle.equivalence_laws.specs.RemovalMaps.{Removal, IsRemovalFrom, cochain_value}
+use Rattle.equivalence_laws.specs.Composites.{AreRemovals, rest_of, removals_pi, removals_iota, removals_h}
 
 -- the cells that are left; at each of them the rows of pi, and the columns of iota, each as a row; and for each degree
 -- the matrix of h
@@ -44,3 +48,17 @@ pub record AreCellMapsBetween (K : Ops) (v w : BlockComplex) (p i l : GradedMap)
 -- they are those of pi, iota and h of the composite of removals from v
 abbrev pub AreCellMapsOf : Ops → BlockComplex → List Removal → CellMaps → Type 0
 AreCellMapsOf K v rs m = AreCellMapsBetween K v (rest_of v rs) (removals_pi K v rs) (removals_iota K v rs) (removals_h K v rs) m
+
+-- the removal of a step that leaves w
+abbrev pub step_removal : Step → BlockComplex → Removal
+step_removal step w = record { x = step.x; y = step.y; inverse = matrix_of step.inverse; rest = w }
+
+-- the maps are those of removals from v, and the step is one from what these leave, and leaves w
+pub record IsNextStep (K : Ops) (v : BlockComplex) (rs : List Removal) (m : CellMaps) (step : Step) (w : BlockComplex) :
+    Type 0 where
+  pub block_complex : IsBlockComplex K v
+  pub cochain_complex : IsCochainComplex K (complex_of v)
+  pub removals : AreRemovals K v rs
+  pub maps : AreCellMapsOf K v rs m
+  pub step_from : IsStepFrom K (rest_of v rs) step
+  pub removal : IsRemovalFrom K (rest_of v rs) (step_removal step w)
