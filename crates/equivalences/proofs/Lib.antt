@@ -4,3 +4,6 @@ pub mod MapsLaws
 pub mod StartLaws
 pub mod ProductLaws
 pub mod NextLaws
+pub mod RowLaws
+pub mod LogLaws
+pub mod EndLaws

@@ -25,7 +25,7 @@ use Rattle.block_complexes.proofs.ComplexLaws.{size-of_degree}
 use Rattle.equivalence_laws.specs.Updates.{cell_rows}
 use Rattle.equivalence_laws.proofs.UpdateLaws.{rows-matrix, value-image_of, drop-matrix}
 use Rattle.equivalence_laws.proofs.CochainValues.{rising-cells, each-of_degree}
-use Rattle.equivalences.specs.CellMaps.{CellMaps, AreRowsAt, AreCellMapsOf}
+use Rattle.equivalences.specs.CellMaps.{CellMaps, AreRowsAt, AreCellMapsOf, AreFirstMaps}
 use Rattle.cochain_vec.specs.Stalkless as stalkless
 use Rattle.cochain_vec.proofs.StalklessLaws as stalkless_laws
 
@@ -74,17 +74,6 @@ rows-joined K n (c ∷ cs) A r h =
     (λ i d l. let t = get_or cs i d in
     sym (ap (λ b. cond b (take c.size A) (cell_rows cs (drop c.size A) t.cell))
     (ne_eqb c.cell t.cell (λ e. let less = r.0 i d l in absurd (omega arith))))))
-
--- rows of the identity at each cell, and a zero matrix for each degree
-pub record AreFirstMaps (v : BlockComplex) (m : CellMaps) : Type 0 where
-  pub live_is : m.live ≡ v.live
-  pub pi_is : (c : ℕ) → has c (cells v.live) ≡ true
-      → m.pi c ≡ cell_rows (of_degree (degree_of v.live c) v.live)
-      (identity (coordinates (complex_of v) (degree_of v.live c))) c
-  pub iota_is : (c : ℕ) → has c (cells v.live) ≡ true
-      → m.iota c ≡ cell_rows (of_degree (degree_of v.live c) v.live)
-      (identity (coordinates (complex_of v) (degree_of v.live c))) c
-  pub h_is : (k : ℕ) → m.h k ≡ zero_matrix (coordinates (complex_of v) k) (coordinates (complex_of v) (suc k))
 
 module _ (K : Ops) (F : IsField K) (v : BlockComplex) (rises : IsRising (cells v.live)) (m : CellMaps)
     (first : AreFirstMaps v m) where

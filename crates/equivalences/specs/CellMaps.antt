@@ -1,22 +1,28 @@
 -- The maps of a composite of removals, cell by cell.
-use Rattle.std.specs.Prelude.{◌≡◌, ℕ, suc, true, List, ◌++◌, []}
+use Rattle.std.specs.Prelude.{◌≡◌, ℕ, suc, true, List, ◌++◌, ◌∷◌, [], Some, slice_get}
 use Rattle.std.specs.List.{flat_map}
 use Rattle.dense_blocks.specs.Field.{Ops}
 use Rattle.dense_blocks.specs.Vectors.{combination}
 use Rattle.dense_blocks.specs.Matrices.{image_of}
-use Rattle.dense_blocks.specs.MatrixFacts.{IsMatrix}
+use Rattle.dense_blocks.specs.MatrixFacts.{IsMatrix, identity, zero_matrix}
+use Rattle.dense_blocks.specs.BlockFacts.{IsBlock}
+use Rattle.dense_blocks.specs.declared.block.Block.{Block}
 use Rattle.dense_blocks.specs.LinearMaps.{IsMatrixOf}
 use Rattle.dense_blocks.specs.Blocks.{matrix_of}
 use Rattle.rising_lists.specs.Rising.{has}
 use Rattle.cochain_vec.specs.CochainComplexes.{IsCochainComplex}
 use Rattle.reduce_step.specs.declared.record.Step.{Step}
 use Rattle.reduce_step.specs.Logs.{IsStepFrom}
-use Rattle.cochain_vec.specs.Complexes.{CellularComplex, IsCochain, cells_of, coordinates}
+use Rattle.cochain_vec.specs.Complexes.{CellularComplex, IsCochain, cells_of, coordinates, total_size}
 use Rattle.block_complexes.specs.BlockComplexes.{BlockComplex, IsBlockComplex, cells, degree_of, size_of}
-use Rattle.block_complexes.specs.Cochains.{complex_of}
-use Rattle.equivalence_laws.specs.Equivalences.{GradedMap}
+use Rattle.block_complexes.specs.Cochains.{complex_of, of_degree}
+use Rattle.equivalence_laws.specs.Equivalences.{GradedMap, GradedMatrix}
 use Rattle.equivalence_laws.specs.RemovalMaps.{Removal, IsRemovalFrom, cochain_value}
+use Rattle.equivalence_laws.specs.Updates.{cell_rows}
 use Rattle.equivalence_laws.specs.Composites.{AreRemovals, rest_of, removals_pi, removals_iota, removals_h}
+use Rattle.equivalences.specs.Rows.{HasShape}
+use Rattle.equivalences.specs.Transposes.{transpose}
+use Rattle.equivalences.specs.declared.equivalence.Equivalence.{Equivalence}
 
 -- the cells that are left; at each of them the rows of pi, and the columns of iota, each as a row; and for each degree
 -- the matrix of h
@@ -62,3 +68,45 @@ pub record IsNextStep (K : Ops) (v : BlockComplex) (rs : List Removal) (m : Cell
   pub maps : AreCellMapsOf K v rs m
   pub step_from : IsStepFrom K (rest_of v rs) step
   pub removal : IsRemovalFrom K (rest_of v rs) (step_removal step w)
+
+-- rows of the identity at each cell, and a zero matrix for each degree
+pub record AreFirstMaps (v : BlockComplex) (m : CellMaps) : Type 0 where
+  pub live_is : m.live ≡ v.live
+  pub pi_is : (c : ℕ) → has c (cells v.live) ≡ true
+      → m.pi c ≡ cell_rows (of_degree (degree_of v.live c) v.live)
+      (identity (coordinates (complex_of v) (degree_of v.live c))) c
+  pub iota_is : (c : ℕ) → has c (cells v.live) ≡ true
+      → m.iota c ≡ cell_rows (of_degree (degree_of v.live c) v.live)
+      (identity (coordinates (complex_of v) (degree_of v.live c))) c
+  pub h_is : (k : ℕ) → m.h k ≡ zero_matrix (coordinates (complex_of v) k) (coordinates (complex_of v) (suc k))
+
+-- the step is the next for the maps, of some removals
+abbrev pub HasNextStep : Ops → CellMaps → Step → Type 0
+HasNextStep K m step = (v : BlockComplex) × (rs : List Removal) × (w : BlockComplex) × IsNextStep K v rs m step w
+
+-- maps of removals become, where the step is the next, those with its removal at the end
+abbrev pub TakesStep : Ops → CellMaps → Step → CellMaps → Type 0
+TakesStep K m step m' = (v : BlockComplex) (rs : List Removal) (w : BlockComplex) → IsNextStep K v rs m step w
+    → AreCellMapsOf K v (rs ++ step_removal step w ∷ []) m'
+
+-- at each cell that is left a row for each coordinate, of as many entries as cochains of C of its degree have; and h
+-- from each degree to the one below
+pub record HaveShapes (C : CellularComplex) (m : CellMaps) : Type 0 where
+  pub pi : (c : ℕ) → has c (cells m.live) ≡ true
+      → HasShape (size_of m.live c) (coordinates C (degree_of m.live c)) (m.pi c)
+  pub iota : (c : ℕ) → has c (cells m.live) ≡ true
+      → HasShape (size_of m.live c) (coordinates C (degree_of m.live c)) (m.iota c)
+  pub h : (k : ℕ) → HasShape (coordinates C k) (coordinates C (suc k)) (m.h k)
+
+-- block k has so many rows and columns, and this matrix
+abbrev pub AreBlocksOf : (rows columns : ℕ → ℕ) → GradedMatrix → List Block → Type 0
+AreBlocksOf rows columns A blocks = (k : ℕ) (b : Block) → slice_get blocks k ≡ Some b
+    → IsBlock b (rows k) (columns k) (A k)
+
+-- the rows at the cells that are left, one after another; the columns at them; and h
+pub record AreJoined (C : CellularComplex) (m : CellMaps) (e : Equivalence) : Type 0 where
+  pub pi : AreBlocksOf (λ k. total_size (of_degree k m.live)) (coordinates C)
+      (λ k. flat_map (λ t. m.pi t.cell) (of_degree k m.live)) e.pi
+  pub iota : AreBlocksOf (coordinates C) (λ k. total_size (of_degree k m.live))
+      (λ k. transpose (coordinates C k) (flat_map (λ t. m.iota t.cell) (of_degree k m.live))) e.iota
+  pub h : AreBlocksOf (coordinates C) (λ k. coordinates C (suc k)) m.h e.h

@@ -1,9 +1,18 @@
-ghost use Rattle.std.specs.Prelude.{◌≡◌, ◌==◌, ◌<◌, ◌≤◌, ◌∷◌, [], ◌++◌, ℕ, List, IfOk, OnOk, true, filter, not};
+ghost use Rattle.std.specs.Prelude.{◌≡◌, ◌==◌, ◌+◌, ℕ, IfOk, OnOk, [], true, filter, length, not, slice_index_or};
+ghost use Rattle.std.specs.List.{flat_map};
+ghost use Rattle.dense_blocks.specs.Vectors.{AllScalars};
+ghost use Rattle.dense_blocks.specs.Matrices.{product};
+ghost use Rattle.dense_blocks.specs.MatrixFacts.{matrix_negative};
+ghost use Rattle.dense_blocks.specs.Blocks.{matrix_of};
+ghost use Rattle.dense_blocks.specs.BlockFacts.{IsBlock};
 ghost use Rattle.rising_lists.specs.Rising.{has};
-ghost use Rattle.block_complexes.specs.BlockComplexes.{BlockComplex, cells, degree_of};
-ghost use Rattle.block_sparse.specs.StoredBlocks.{complex_in};
-ghost use Rattle.equivalence_laws.specs.RemovalMaps.{Removal};
-ghost use Rattle.equivalences.specs.CellMaps.{AreCellMapsOf, IsNextStep, step_removal};
+ghost use Rattle.cochain_vec.specs.Complexes.{coordinates, total_size};
+ghost use Rattle.block_complexes.specs.BlockComplexes.{cells, degree_of, size_of};
+ghost use Rattle.block_complexes.specs.Cochains.{complex_of, of_degree};
+ghost use Rattle.block_sparse.specs.StoredBlocks.{complex_in, AreLive};
+ghost use Rattle.equivalences.specs.Transposes.{transpose};
+ghost use Rattle.equivalences.specs.Rows.{HasShape, cell_rows_of};
+ghost use Rattle.equivalences.specs.CellMaps.{AreFirstMaps, HasNextStep, TakesStep, HaveShapes, AreJoined, AreBlocksOf};
 ghost use Rattle.equivalences.specs.Stored.{AreStored, maps_of};
 
 use crate::cell_rows::CellRows;
@@ -34,6 +43,7 @@ impl Maps {
     /// The maps of no removal.
     pub(crate) fn first(alloc: Global, base: &Blocks) -> Result<Maps, NoMemory>
         ensures stored { IfOk result AreStored }
+        ensures first { IfOk result (λ m. AreFirstMaps (complex_in base.now) (maps_of m)) }
     {
         let mut h = Vec::with_capacity(alloc, Equivalence::DEGREES)?;
         for k in 0..Equivalence::DEGREES {
@@ -53,7 +63,12 @@ impl Maps {
         alloc: Global,
         f: &F,
         step: &Step,
-    ) -> Result<(), NoMemory> {
+    ) -> Result<(), NoMemory>
+        requires stored { AreStored self.old }
+        requires next { HasNextStep (F.ops f.now) (maps_of self.old) step.now }
+        ensures stored { OnOk result (AreStored self.new) }
+        ensures step { OnOk result (TakesStep (F.ops f.now) (maps_of self.old) step.now (maps_of self.new)) }
+    {
         let k = usize::from(degree_in(&self.live, step.x));
         let rows = self.pi.take(alloc, step.y)?;
         let columns = self.iota.take(alloc, step.x)?;
@@ -73,7 +88,11 @@ impl Maps {
     }
 
     /// The maps as joined matrices.
-    pub(crate) fn join(self, alloc: Global, base: &Blocks) -> Result<Equivalence, NoMemory> {
+    pub(crate) fn join(self, alloc: Global, base: &Blocks) -> Result<Equivalence, NoMemory>
+        requires stored { AreStored self }
+        requires shapes { HaveShapes (complex_of (complex_in base.now)) (maps_of self) }
+        ensures { IfOk result (AreJoined (complex_of (complex_in base.now)) (maps_of self)) }
+    {
         let Maps { live, pi, iota, h } = self;
         let joined_pi = joined_rows(alloc, base, &live, &pi)?;
         let joined_iota = joined_columns(alloc, base, &live, &iota)?;
@@ -92,7 +111,15 @@ fn moved_columns<F: Scalars>(
     f: &F,
     step: &Step,
     columns: &Block,
-) -> Result<Block, NoMemory> {
+) -> Result<Block, NoMemory>
+    requires columns { columns.now.rows ≡ step.now.inverse.rows }
+    requires inverse_scalars { AllScalars (F.ops f.now) step.now.inverse.entries }
+    requires scalars { AllScalars (F.ops f.now) columns.now.entries }
+    ensures block { IfOk result (λ b. IsBlock b step.now.inverse.cols columns.now.cols
+        (matrix_negative (F.ops f.now) (product (F.ops f.now) columns.now.cols
+        (transpose step.now.inverse.cols (matrix_of step.now.inverse)) (matrix_of columns.now)))) }
+    ensures scalars { IfOk result (λ b. AllScalars (F.ops f.now) b.entries) }
+{
     let inverse = transposed(alloc, &step.inverse)?;
     let through = product(alloc, f, &inverse, columns)?;
     minus(alloc, f, &through)
@@ -124,7 +151,16 @@ fn joined_rows(
     base: &Blocks,
     live: &[(u32, u8, u8)],
     rows: &CellRows,
-) -> Result<Vec<Block>, NoMemory> {
+) -> Result<Vec<Block>, NoMemory>
+    requires live { AreLive live.now }
+    requires cells { (c : ℕ) → has c (cells live.now) ≡ true → has c rows.now.cells ≡ true }
+    requires shapes { (c : ℕ) → has c (cells live.now) ≡ true → HasShape (size_of live.now c)
+        (coordinates (complex_of (complex_in base.now)) (degree_of live.now c)) (cell_rows_of rows.now c) }
+    ensures blocks { IfOk result (λ bs. AreBlocksOf (λ k. total_size (of_degree k live.now))
+        (coordinates (complex_of (complex_in base.now)))
+        (λ k. flat_map (λ t. cell_rows_of rows.now t.cell) (of_degree k live.now)) bs.items) }
+    ensures count { IfOk result (λ bs. length bs.items ≡ 16) }
+{
     let mut joined = Vec::with_capacity(alloc, Equivalence::DEGREES)?;
     for k in 0..Equivalence::DEGREES {
         let width = base.coordinates(k as u8) as u32;
@@ -139,7 +175,16 @@ fn joined_columns(
     base: &Blocks,
     live: &[(u32, u8, u8)],
     columns: &CellRows,
-) -> Result<Vec<Block>, NoMemory> {
+) -> Result<Vec<Block>, NoMemory>
+    requires live { AreLive live.now }
+    requires cells { (c : ℕ) → has c (cells live.now) ≡ true → has c columns.now.cells ≡ true }
+    requires shapes { (c : ℕ) → has c (cells live.now) ≡ true → HasShape (size_of live.now c)
+        (coordinates (complex_of (complex_in base.now)) (degree_of live.now c)) (cell_rows_of columns.now c) }
+    ensures blocks { IfOk result (λ bs. AreBlocksOf (coordinates (complex_of (complex_in base.now)))
+        (λ k. total_size (of_degree k live.now)) (λ k. transpose (coordinates (complex_of (complex_in base.now)) k)
+        (flat_map (λ t. cell_rows_of columns.now t.cell) (of_degree k live.now))) bs.items) }
+    ensures count { IfOk result (λ bs. length bs.items ≡ 16) }
+{
     let mut joined = Vec::with_capacity(alloc, Equivalence::DEGREES)?;
     for k in 0..Equivalence::DEGREES {
         let width = base.coordinates(k as u8) as u32;
@@ -150,7 +195,14 @@ fn joined_columns(
 }
 
 /// In each degree the rows as a block.
-fn blocks(alloc: Global, base: &Blocks, h: Vec<Rows>) -> Result<Vec<Block>, NoMemory> {
+fn blocks(alloc: Global, base: &Blocks, h: Vec<Rows>) -> Result<Vec<Block>, NoMemory>
+    requires count { length h.items ≡ 16 }
+    requires shapes { (k : ℕ) → HasShape (coordinates (complex_of (complex_in base.now)) k)
+        (coordinates (complex_of (complex_in base.now)) (k + 1)) (slice_index_or h.items k []) }
+    ensures blocks { IfOk result (λ bs. AreBlocksOf (coordinates (complex_of (complex_in base.now)))
+        (λ k. coordinates (complex_of (complex_in base.now)) (k + 1)) (λ k. slice_index_or h.items k []) bs.items) }
+    ensures count { IfOk result (λ bs. length bs.items ≡ 16) }
+{
     let mut joined = Vec::with_capacity(alloc, Equivalence::DEGREES)?;
     for (k, rows) in h.into_iter().enumerate() {
         let width = base.coordinates(k as u8 + 1) as u32;
