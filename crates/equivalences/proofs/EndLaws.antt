@@ -37,10 +37,11 @@ use Rattle.equivalence_laws.proofs.CompositeLaws.{composite_is_equivalence}
 use Rattle.equivalence_laws.proofs.ReductionLaws.{removals-after}
 use Rattle.equivalences.specs.GradedBlocks.{graded_matrix, IsBlockOver, AreBlocksOver}
 use Rattle.equivalences.specs.Between.{IsEquivalenceOf}
-use Rattle.equivalences.specs.Transposes.{transpose}
-use Rattle.equivalences.specs.CellMaps.{CellMaps, AreCellMapsOf, AreJoined, AreBlocksOf}
+use Rattle.equivalence_laws.specs.Transposes.{transpose}
+use Rattle.equivalence_laws.specs.CellMaps.{CellMaps, AreCellMapsOf}
+use Rattle.equivalences.specs.LogMaps.{AreJoined, AreBlocksOf}
 use Rattle.equivalences.specs.declared.equivalence.Equivalence.{Equivalence}
-use Rattle.equivalences.proofs.MapsLaws.{maps_composite}
+use Rattle.equivalence_laws.proofs.MapsLaws.{maps_composite}
 
 -- a list without a member at k is no longer than k
 slice_get-none : {A : Type 0} (xs : List A) (k : ℕ) → slice_get xs k ≡ None → length xs ≤ k

@@ -1,9 +1,6 @@
-pub mod TransposeLaws
-pub mod StepLaws
-pub mod MapsLaws
-pub mod StartLaws
 pub mod ProductLaws
 pub mod NextLaws
 pub mod RowLaws
 pub mod LogLaws
 pub mod EndLaws
+pub mod CellRowLaws

@@ -15,9 +15,10 @@ use Rattle.reduce_step.specs.Logs.{AreStepsFrom, pairs_of}
 use Rattle.equivalence_laws.specs.RemovalMaps.{Removal, IsRemovalFrom}
 use Rattle.equivalence_laws.specs.Composites.{AreRemovals, removal_pairs, rest_of}
 use Rattle.equivalence_laws.proofs.NextComposite.{rest-more}
-use Rattle.equivalences.specs.CellMaps.{CellMaps, AreCellMapsOf, IsNextStep, HasNextStep, TakesStep, step_removal}
-use Rattle.equivalences.specs.CellMaps.{AreFirstMaps}
-use Rattle.equivalences.proofs.StartLaws.{first_maps}
+use Rattle.equivalence_laws.specs.CellMaps.{CellMaps, AreCellMapsOf}
+use Rattle.equivalences.specs.LogMaps.{IsNextStep, HasNextStep, TakesStep, step_removal}
+use Rattle.equivalence_laws.specs.CellMaps.{AreFirstMaps}
+use Rattle.equivalence_laws.proofs.StartLaws.{first_maps}
 
 -- after i steps: the maps are those of removals of their pairs, and the other steps go on from what these leave
 abbrev pub AreMapsAt : Ops → BlockComplex → List Step → ℕ → CellMaps → Type 0

@@ -1,5 +1,6 @@
 -- What a step makes of the maps, by products added at listed cells, is what its removal makes of them.
 use Rattle.std.specs.Prelude.{◌==◌, not}
+use Rattle.std.specs.List.{list_all}
 use Rattle.std.proofs.Common.{◌≡◌, ◌≢◌, ◌≤◌, ℕ, zero, suc, Bool, true, false, cond, ◌&&◌, ◌||◌, ◌+◌, eqb, inl, inr, refl, sym, ap}
 use Rattle.std.proofs.Common.{ap₂, ◌∙◌, subst, arith, List, [], ◌∷◌, ◌++◌, length, map, All}
 use Rattle.std.proofs.lemmas.Bool.{cases_eq, cases_Bool, eq-eqb, ne_eqb}
@@ -31,16 +32,24 @@ use Rattle.reduce_step.specs.Differences.{listed_size}
 use Rattle.reduce_step.specs.Logs.{IsStepFrom}
 use Rattle.reduce_step.proofs.JoinedParts.{listed_size-live}
 use Rattle.reduce_step.proofs.PartLaws.{row-part, column-part}
-use Rattle.reduce_step.proofs.FitLaws.{zero_matrix-zero}
 use Rattle.equivalence_laws.specs.RemovalMaps.{Removal, IsRemovalFrom}
 use Rattle.removals.proofs.CornerLaws as corners
 use Rattle.equivalences.specs.Rows.{with_product, with_products}
-use Rattle.equivalences.specs.Transposes.{transpose}
-use Rattle.equivalences.specs.CellMaps.{CellMaps, AreRowsAt, step_removal}
-use Rattle.equivalences.proofs.TransposeLaws.{transpose-matrix, combination-transpose, image_of-transpose}
+use Rattle.equivalence_laws.specs.Transposes.{transpose}
+use Rattle.equivalence_laws.specs.CellMaps.{CellMaps, AreRowsAt}
+use Rattle.equivalences.specs.LogMaps.{step_removal}
+use Rattle.equivalence_laws.proofs.TransposeLaws.{transpose-matrix, combination-transpose, image_of-transpose}
 use Rattle.equivalences.proofs.ProductLaws.{products-absent, products-listed, segment-transpose, product-more-image_of}
 use Rattle.equivalences.proofs.ProductLaws.{product-more-combination, product-more-matrix}
-use Rattle.equivalences.proofs.MapsLaws.{AreNextMaps}
+use Rattle.equivalence_laws.proofs.MapsLaws.{AreNextMaps}
+
+zero_matrix-zero : (m n : ℕ) → is_zero (zero_matrix m n) ≡ true
+zero_matrix-zero zero n = refl
+zero_matrix-zero (suc m) n = ap₂ ◌&&◌ (row n) (zero_matrix-zero m n)
+  where
+    row : (n : ℕ) → list_all (λ a. eqb a 0) (zeros n) ≡ true
+    row zero = refl
+    row (suc n) = row n
 
 -- the rows of pi at y, times the inverse; and the columns of iota at x, times the inverse
 abbrev pub moved_rows : Ops → ℕ → Step → CellMaps → List (List ℕ)

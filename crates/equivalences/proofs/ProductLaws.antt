@@ -17,8 +17,8 @@ use Rattle.rising_lists.proofs.Keyed.{rising_tail, head-absent}
 use Rattle.block_sparse.specs.Grids.{segment, width}
 use Rattle.reduce_step.specs.Differences.{listed_size}
 use Rattle.equivalences.specs.Rows.{with_product, with_products}
-use Rattle.equivalences.specs.Transposes.{transpose}
-use Rattle.equivalences.proofs.TransposeLaws.{combination-matrix_sum, combination-transpose, transpose-matrix}
+use Rattle.equivalence_laws.specs.Transposes.{transpose}
+use Rattle.equivalence_laws.proofs.TransposeLaws.{combination-matrix_sum, combination-transpose, transpose-matrix}
 
 -- an unlisted cell keeps its rows
 pub products-absent : (K : Ops) (n : ℕ) (ls : List (ℕ × ℕ)) (J R : List (List ℕ)) (c : ℕ) (A : List (List ℕ))

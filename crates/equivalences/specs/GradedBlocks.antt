@@ -9,7 +9,7 @@ use Rattle.equivalence_laws.specs.Equivalences.{GradedMatrix}
 
 -- in degree k the matrix of block k; no rows where there is none
 abbrev pub graded_matrix : List Block → GradedMatrix
-graded_matrix blocks k = option_map_or matrix_of [] (slice_get blocks k)
+graded_matrix blocks k = option_map_or matrix_of (slice_get blocks k) []
 
 -- m rows and n columns of scalars
 pub record IsBlockOver (K : Ops) (m n : ℕ) (b : Block) : Type 0 where

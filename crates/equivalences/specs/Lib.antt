@@ -1,6 +1,5 @@
 pub mod GradedBlocks
 pub mod Between
-pub mod Transposes
-pub mod CellMaps
 pub mod Rows
+pub mod LogMaps
 pub mod Stored

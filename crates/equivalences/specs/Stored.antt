@@ -4,7 +4,7 @@ use Rattle.rising_lists.specs.Rising.{has}
 use Rattle.block_complexes.specs.BlockComplexes.{cells}
 use Rattle.block_sparse.specs.StoredBlocks.{AreLive}
 use Rattle.equivalences.specs.Rows.{cell_rows_of}
-use Rattle.equivalences.specs.CellMaps.{CellMaps}
+use Rattle.equivalence_laws.specs.CellMaps.{CellMaps}
 use Rattle.equivalences.specs.declared.maps.Maps.{Maps}
 
 -- the maps that are stored

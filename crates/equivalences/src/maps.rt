@@ -10,9 +10,10 @@ ghost use Rattle.cochain_vec.specs.Complexes.{coordinates, total_size};
 ghost use Rattle.block_complexes.specs.BlockComplexes.{cells, degree_of, size_of};
 ghost use Rattle.block_complexes.specs.Cochains.{complex_of, of_degree};
 ghost use Rattle.block_sparse.specs.StoredBlocks.{complex_in, AreLive};
-ghost use Rattle.equivalences.specs.Transposes.{transpose};
+ghost use Rattle.equivalence_laws.specs.Transposes.{transpose};
 ghost use Rattle.equivalences.specs.Rows.{HasShape, cell_rows_of};
-ghost use Rattle.equivalences.specs.CellMaps.{AreFirstMaps, HasNextStep, TakesStep, HaveShapes, AreJoined, AreBlocksOf};
+ghost use Rattle.equivalence_laws.specs.CellMaps.{AreFirstMaps};
+ghost use Rattle.equivalences.specs.LogMaps.{HasNextStep, TakesStep, HaveShapes, AreJoined, AreBlocksOf};
 ghost use Rattle.equivalences.specs.Stored.{AreStored, maps_of};
 
 use crate::cell_rows::CellRows;

@@ -2,7 +2,7 @@ ghost use Rattle.std.specs.Prelude.{◌≡◌, ◌<◌, ◌++◌, IfOk, OnOk, ma
 ghost use Rattle.dense_blocks.specs.Vectors.{AllScalars};
 ghost use Rattle.dense_blocks.specs.Blocks.{matrix_of};
 ghost use Rattle.dense_blocks.specs.BlockFacts.{IsBlock};
-ghost use Rattle.equivalences.specs.Transposes.{transpose};
+ghost use Rattle.equivalence_laws.specs.Transposes.{transpose};
 
 use dense_blocks::{Block, Entries};
 use std::alloc::{AllocError as NoMemory, Global};

@@ -25,7 +25,7 @@ use Rattle.block_complexes.proofs.ComplexLaws.{size-of_degree}
 use Rattle.equivalence_laws.specs.Updates.{cell_rows}
 use Rattle.equivalence_laws.proofs.UpdateLaws.{rows-matrix, value-image_of, drop-matrix}
 use Rattle.equivalence_laws.proofs.CochainValues.{rising-cells, each-of_degree}
-use Rattle.equivalences.specs.CellMaps.{CellMaps, AreRowsAt, AreCellMapsOf, AreFirstMaps}
+use Rattle.equivalence_laws.specs.CellMaps.{CellMaps, AreRowsAt, AreCellMapsOf, AreFirstMaps}
 use Rattle.cochain_vec.specs.Stalkless as stalkless
 use Rattle.cochain_vec.proofs.StalklessLaws as stalkless_laws
 
@@ -80,12 +80,11 @@ module _ (K : Ops) (F : IsField K) (v : BlockComplex) (rises : IsRising (cells v
   abbrev n : ℕ → ℕ
   n k = coordinates (complex_of v) k
 
-  unit_rows : ℕ → ℕ → List (List ℕ)
-  unit_rows k c = cell_rows (of_degree k v.live) (identity (n k)) c
+  abbrev units_at : ℕ → ℕ → List (List ℕ)
+  units_at k c = cell_rows (of_degree k v.live) (identity (n k)) c
 
   unit-shape : (c : ℕ) → has c (cells v.live) ≡ true
-      → Matrix K (size_of v.live c) (n (degree_of v.live c)) (unit_rows (degree_of v.live c) c)
-  unfolding unit_rows
+      → Matrix K (size_of v.live c) (n (degree_of v.live c)) (units_at (degree_of v.live c) c)
   unit-shape c h =
       let k = degree_of v.live c in
       subst (λ j. Matrix K j (n k) (cell_rows (of_degree k v.live) (identity (n k)) c))
@@ -93,17 +92,16 @@ module _ (K : Ops) (F : IsField K) (v : BlockComplex) (rises : IsRising (cells v
       (rows-matrix K (of_degree k v.live) (n k) (identity (n k)) c (identity-matrix K F (n k)))
 
   rows-at : (rows : ℕ → List (List ℕ)) → ((c : ℕ) → has c (cells v.live) ≡ true
-      → rows c ≡ unit_rows (degree_of v.live c) c) → AreRowsAt K (complex_of v) v rows
+      → rows c ≡ units_at (degree_of v.live c) c) → AreRowsAt K (complex_of v) v rows
   rows-at rows is c h = from_matrix K (size_of v.live c) (n (degree_of v.live c)) (rows c)
       (subst (Matrix K (size_of v.live c) (n (degree_of v.live c))) (sym (is c h)) (unit-shape c h))
 
   by-degree : (rows : ℕ → List (List ℕ)) → ((c : ℕ) → has c (cells v.live) ≡ true
-      → rows c ≡ unit_rows (degree_of v.live c) c)
-      → (k c : ℕ) → has c (cells v.live) ≡ true → degree_of v.live c ≡ k → rows c ≡ unit_rows k c
-  by-degree rows is k c h e = is c h ∙ ap (λ d. unit_rows d c) e
+      → rows c ≡ units_at (degree_of v.live c) c)
+      → (k c : ℕ) → has c (cells v.live) ≡ true → degree_of v.live c ≡ k → rows c ≡ units_at k c
+  by-degree rows is k c h e = is c h ∙ ap (λ d. units_at d c) e
 
   pub first_maps : AreCellMapsOf K v [] m
-  unfolding unit_rows
   first_maps = record {
     live_is = first.live_is;
     pi_rows = rows-at m.pi first.pi_is;

@@ -32,10 +32,10 @@ use Rattle.equivalence_laws.proofs.CompositeLaws as composite_laws
 use Rattle.equivalence_laws.proofs.SameMaps as same_maps
 use Rattle.equivalence_laws.proofs.RemovalEquations as on_cochains
 use Rattle.equivalence_laws.proofs.CellEquations as at_cells
-use Rattle.equivalences.specs.Transposes.{transpose}
-use Rattle.equivalences.specs.CellMaps.{CellMaps, AreRowsAt, AreCellMapsBetween, AreCellMapsOf}
-use Rattle.equivalences.proofs.TransposeLaws.{transpose-matrix, image_of-transpose}
-use Rattle.equivalences.proofs.StepLaws as steps
+use Rattle.equivalence_laws.specs.Transposes.{transpose}
+use Rattle.equivalence_laws.specs.CellMaps.{CellMaps, AreRowsAt, AreCellMapsBetween, AreCellMapsOf}
+use Rattle.equivalence_laws.proofs.TransposeLaws.{transpose-matrix, image_of-transpose}
+use Rattle.equivalence_laws.proofs.StepLaws as steps
 
 -- what a removal from u makes of rows at cells, by what they do: the rows at cells of the degree of y take the rows at
 -- y away, and the columns at cells of the degree of x those at x

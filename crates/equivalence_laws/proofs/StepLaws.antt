@@ -32,14 +32,11 @@ use Rattle.equivalence_laws.proofs.CochainValues.{value-size, each-of_degree}
 use Rattle.equivalence_laws.proofs.UpdateLaws.{size-absent, size-other, image_of-sum, joined-matrix}
 use Rattle.equivalence_laws.proofs.CellEquations as at_cells
 use Rattle.equivalence_laws.proofs.RemovalEquations as on_cochains
-use Rattle.equivalences.specs.Transposes.{transpose}
-use Rattle.equivalences.proofs.TransposeLaws.{transpose-matrix, image_of-transpose}
+use Rattle.equivalence_laws.specs.Transposes.{transpose}
+use Rattle.equivalence_laws.proofs.TransposeLaws.{transpose-matrix, image_of-transpose}
 
 -- the combination, by a cochain, of rows at cells
 module _ (K : Ops) (F : IsField K) (m : ℕ) (Q : ℕ → List (List ℕ)) where
-  abbrev IsShaped : Cell → Type 0
-  IsShaped t = Matrix K t.size m (Q t.cell)
-
   pub combination-joined : (live : List (ℕ × ℕ × ℕ)) → IsRising (cells live) → (k : ℕ) (z : List ℕ)
       → All (λ (t : Cell). Matrix K t.size m (Q t.cell)) (of_degree k live)
       → Vector K (total_size (of_degree k live)) z
@@ -362,13 +359,6 @@ module _ (K : Ops) (u : BlockComplex) (r : Removal) (p : IsSetting K u r) (k : �
 
       lowered-vector : Vector K (coordinates B k) lowered
       lowered-vector = on_cochains.h-cochain K u r p k z hz
-
-      f : ℕ → List ℕ
-      f c = on_cochains.spread K u r p (suc k) z hz c
-
-      hf : (c : ℕ) → IsLive c → Vector K (size c) (f c)
-      unfolding f
-      hf = on_cochains.spread-vector K u r p (suc k) z hz
 
       other-zeros : (c : ℕ) → IsLive c → c ≢ x → term lowered c ≡ zeros m
       other-zeros c h n = elim (cases_eq (degree c) k) [

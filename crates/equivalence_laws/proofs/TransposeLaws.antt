@@ -9,7 +9,7 @@ use Rattle.dense_blocks.specs.MatrixFacts.{matrix_sum}
 use Rattle.dense_blocks.proofs.Shapes.{Vector, Matrix}
 use Rattle.dense_blocks.proofs.VectorLaws.{plus-cross, multiple-plus, zeros-plus-zeros, multiple-vector}
 use Rattle.dense_blocks.proofs.VectorLaws.{combination-vector, dot-zeros}
-use Rattle.equivalences.specs.Transposes.{transpose}
+use Rattle.equivalence_laws.specs.Transposes.{transpose}
 
 
 module _ (K : Ops) (F : IsField K) where
