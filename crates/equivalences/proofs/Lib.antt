@@ -4,3 +4,4 @@ pub mod RowLaws
 pub mod LogLaws
 pub mod EndLaws
 pub mod CellRowLaws
+pub mod AddLaws
