@@ -134,7 +134,7 @@ module _ (K : Ops) (F : IsField K) (v : BlockComplex) (rs : List Removal) (g : I
     pi-vector : (k : ℕ) (z : List ℕ) → Vector K (coordinates C k) z → Vector K (coordinates B k) (removals_pi K v rs k z)
     pi-vector k z hz = ((many K F v rs g are).pi_linear k).vector z hz
 
-    more : List Removal
+    abbrev more : List Removal
     more = rs ++ r ∷ []
 
     -- pi z at a cell that is left

@@ -173,8 +173,10 @@ fn add_rows<F: Scalars>(f: &F, count: usize, rows: &mut [u8], coefficients: &[u8
     let height = moved.rows as usize;
     for i in 0..count {
         let start = i * width;
-        let own = i * height;
-        add_row(f, &mut rows[start..start + width], &coefficients[own..own + height], moved);
+        let from = i * height;
+        let row = &mut rows[start..start + width];
+        let own = &coefficients[from..from + height];
+        add_row(f, row, own, moved);
     }
 }
 
