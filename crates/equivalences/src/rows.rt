@@ -1,5 +1,5 @@
-ghost use Rattle.std.specs.Prelude.{◌≡◌, ◌+◌, ◌*◌, ◌<◌, ◌≤◌, ◌∷◌, [], ◌++◌, Bool, length, true, IfOk, OnOk, OnErr};
-ghost use Rattle.std.specs.Prelude.{if◌then◌else◌, slice_index_or, ◌==◌};
+ghost use Rattle.std.specs.Prelude.{◌≡◌, ◌+◌, ◌*◌, ◌≤◌, [], length, true, IfOk, OnOk, OnErr};
+ghost use Rattle.std.specs.Prelude.{◌↔◌, IsTrue, All};
 ghost use Rattle.dense_blocks.specs.Vectors.{AllScalars, plus, combination};
 ghost use Rattle.dense_blocks.specs.Matrices.{cut};
 ghost use Rattle.dense_blocks.specs.MatrixFacts.{IsMatrix, zero_matrix};
@@ -191,8 +191,15 @@ fn add_row<F: Scalars>(f: &F, row: &mut [u8], coefficients: &[u8], moved: &Block
     ensures { row.new ≡ plus (F.ops f.now) row.old
         (combination (F.ops f.now) moved.now.cols coefficients.now (matrix_of moved.now)) }
 {
-    if coefficients.iter().all(|k| *k == 0) {
+    if are_zero(coefficients) {
         return;
     }
     f.add_combination(row, coefficients, moved.entries.as_slice());
+}
+
+/// Whether each of the coefficients is 0.
+fn are_zero(coefficients: &[u8]) -> bool
+    ensures { IsTrue result ↔ All (λ k. k ≡ 0) coefficients.now }
+{
+    coefficients.iter().all(|k| *k == 0)
 }
