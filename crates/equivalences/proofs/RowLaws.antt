@@ -17,7 +17,7 @@ use Rattle.dense_blocks.proofs.Cutting.{first_rows-all, identity-row, flat-cut, 
 use Rattle.dense_blocks.proofs.ClearingRows.{first_rows-length}
 use Rattle.block_sparse.proofs.Windows.{sized-cut, sized-drop}
 use Rattle.equivalence_laws.specs.Transposes.{transpose}
-use Rattle.equivalence_laws.proofs.TransposeLaws.{transpose-row, transpose-length}
+use Rattle.equivalence_laws.proofs.TransposeLaws.{transpose-row, transpose-length, transpose-matrix}
 use Rattle.equivalences.specs.Rows.{AreRows, rows_of, unit_rows, with_product}
 
 -- rows have their size, written or not
@@ -167,6 +167,14 @@ pub transposed-next : (n j : ℕ) (A : List (List ℕ)) → j < n → first_rows
 transposed-next n j A l =
     first_rows-next j (transpose n A) (omega (arith, transpose-length n A))
     ∙ ap (λ r. first_rows j (transpose n A) ++ r) (transpose-row n j A l)
+
+pub transposed-scalars : (K : Ops) (F : IsField K) (m n : ℕ) (xs : List ℕ) (i : ℕ) (entries : List ℕ)
+    → length xs ≡ m * n → AllScalars K xs → i ≡ n → entries ≡ first_rows i (transpose n (cut m n xs))
+    → AllScalars K entries
+transposed-scalars K F m n xs i entries full h e now =
+    let T = transpose n (cut m n xs) in
+    subst (AllScalars K) (sym (now ∙ first_rows-all i T (transpose-length n (cut m n xs) ∙ sym e)))
+    (flat-scalars K n m T (transpose-matrix K F m n (cut m n xs) (cut-matrix K m n xs full h)))
 
 -- one entry more of a column
 pub column-next : (m n i j : ℕ) (xs : List ℕ) → i < m → j < n

@@ -70,8 +70,10 @@ impl CellRows {
         ensures rows { OnOk result ((q : ℕ) → q ≢ c → cell_rows_of self.new q ≡ cell_rows_of self.old q) }
     {
         let at = place(&self.cells, c).unwrap();
-        let rows = replace(&mut self.rows[at], Rows::none(alloc));
-        rows.block(alloc)
+        let place = &mut self.rows[at];
+        let rows = replace(place, Rows::none(alloc));
+        let block = rows.block(alloc)?;
+        Ok(block)
     }
 
     /// Leaves a cell no rows.
@@ -137,7 +139,9 @@ impl CellRows {
             else cell_rows_of self.old q)) }
     {
         let at = place(&self.cells, c).unwrap();
-        self.rows[at].add_product(alloc, f, coefficients, moved)
+        let rows = &mut self.rows[at];
+        rows.add_product(alloc, f, coefficients, moved)?;
+        Ok(())
     }
 
     /// The rows at those of the live cells that have degree `k`, one after another, each of `width` entries.
@@ -180,10 +184,20 @@ impl CellRows {
             ++ flat_map (λ t. entries_of (cell_rows_of self.now t.cell)) (of_degree k (cell ∷ []))) }
     {
         if cell.1 == k {
-            let at = place(&self.cells, cell.0).unwrap();
-            let block = self.rows[at].block(alloc)?;
-            entries.push_all(block.entries.as_slice())?;
+            self.push_at(alloc, cell.0, entries)?;
         }
+        Ok(())
+    }
+
+    /// Adds the rows at the cell at the end.
+    fn push_at(&self, alloc: Global, c: u32, entries: &mut Entries) -> Result<(), NoMemory>
+        requires { has c self.now.cells ≡ true }
+        ensures { OnOk result (entries.new ≡ entries.old ++ entries_of (cell_rows_of self.now c)) }
+    {
+        let at = place(&self.cells, c).unwrap();
+        let rows = &self.rows[at];
+        let block = rows.block(alloc)?;
+        entries.push_all(block.entries.as_slice())?;
         Ok(())
     }
 }

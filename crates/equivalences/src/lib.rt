@@ -3,6 +3,7 @@
 
 mod cell_rows;
 mod equivalence;
+mod live;
 mod log;
 mod maps;
 mod rows;

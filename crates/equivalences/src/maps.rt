@@ -1,4 +1,4 @@
-ghost use Rattle.std.specs.Prelude.{◌≡◌, ◌==◌, ◌+◌, ℕ, IfOk, OnOk, [], true, filter, length, not, slice_index_or};
+ghost use Rattle.std.specs.Prelude.{◌≡◌, ◌+◌, ℕ, IfOk, OnOk, [], true, length, slice_index_or};
 ghost use Rattle.std.specs.List.{flat_map};
 ghost use Rattle.dense_blocks.specs.Vectors.{AllScalars};
 ghost use Rattle.dense_blocks.specs.Matrices.{product};
@@ -18,6 +18,7 @@ ghost use Rattle.equivalences.specs.Stored.{AreStored, maps_of};
 
 use crate::cell_rows::CellRows;
 use crate::equivalence::Equivalence;
+use crate::live::{degree_in, remove};
 use crate::rows::Rows;
 use crate::transposed::transposed;
 use block_sparse::Blocks;
@@ -124,26 +125,6 @@ fn moved_columns<F: Scalars>(
     let inverse = transposed(alloc, &step.inverse)?;
     let through = product(alloc, f, &inverse, columns)?;
     minus(alloc, f, &through)
-}
-
-/// The degree of a live cell.
-fn degree_in(live: &[(u32, u8, u8)], c: u32) -> u8
-    requires { has c (cells live.now) ≡ true }
-    ensures { result ≡ degree_of live.now c }
-{
-    for l in live {
-        if l.0 == c {
-            return l.1;
-        }
-    }
-    0
-}
-
-/// Takes a cell out of a list of live cells.
-fn remove(live: &mut Vec<(u32, u8, u8)>, c: u32)
-    ensures { live.new.items ≡ filter (λ l. not (l.0 == c)) live.old.items }
-{
-    live.retain(|l| l.0 != c);
 }
 
 /// In each degree the rows at the live cells, one after another.

@@ -1,4 +1,6 @@
 ghost use Rattle.std.specs.Prelude.{◌≡◌, ◌<◌, ◌++◌, IfOk, OnOk, map, slice_index};
+ghost use Rattle.dense_blocks.specs.Field.{Ops};
+ghost use Rattle.dense_blocks.specs.FieldLaws.{IsField};
 ghost use Rattle.dense_blocks.specs.Vectors.{AllScalars};
 ghost use Rattle.dense_blocks.specs.Blocks.{matrix_of};
 ghost use Rattle.dense_blocks.specs.BlockFacts.{IsBlock};
@@ -11,7 +13,8 @@ use std::alloc::{AllocError as NoMemory, Global};
 ///
 /// Takes one step for each entry.
 pub(crate) fn transposed(alloc: Global, a: &Block) -> Result<Block, NoMemory>
-    ensures { IfOk result (λ b. IsBlock b a.now.cols a.now.rows (transpose a.now.cols (matrix_of a.now))) }
+    ensures block { IfOk result (λ b. IsBlock b a.now.cols a.now.rows (transpose a.now.cols (matrix_of a.now))) }
+    ensures scalars { IfOk result (λ b. (K : Ops) → IsField K → AllScalars K a.now.entries → AllScalars K b.entries) }
 {
     let mut entries = Entries::with_room(alloc, a.entries.len())?;
     for j in 0..a.cols {

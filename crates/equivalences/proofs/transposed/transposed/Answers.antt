@@ -2,7 +2,7 @@ use Rattle.std.proofs.Common.{◌≡◌, ◌++◌, map, get_or, ap, sym, ◌∙�
 use Rattle.dense_blocks.specs.Blocks.{matrix_of}
 use Rattle.dense_blocks.proofs.Cutting.{first_rows-none, first_rows-size, cut-first_rows, cut-size, Sized}
 use Rattle.equivalence_laws.specs.Transposes.{transpose}
-use Rattle.equivalences.proofs.RowLaws.{transpose-sized, transposed-next}
+use Rattle.equivalences.proofs.RowLaws.{transpose-sized, transposed-next, transposed-scalars}
 use Rattle.equivalences.proofs.transposed.transposed.Goals as goal
 
 pub loop-j-init : goal.loop-j-init
@@ -23,8 +23,8 @@ invariant_of-result-clause-full c =
     (subst (λ m. Sized a.cols m (transpose a.cols (matrix_of a))) (cut-size a.rows a.cols a.entries)
     (transpose-sized a.cols (matrix_of a))) (omega arith) c.loop-j.invariant
 
-pub returns : goal.returns
-returns c =
+pub returns-clause-block : goal.returns-clause-block
+returns-clause-block c =
     let a = c.args.a.now in
     record {
       rows_are = refl;
@@ -33,3 +33,8 @@ returns c =
           (subst (λ m. Sized a.cols m (transpose a.cols (matrix_of a))) (cut-size a.rows a.cols a.entries)
           (transpose-sized a.cols (matrix_of a))) (omega arith) c.loop-j.invariant;
     }
+
+pub returns-clause-scalars : goal.returns-clause-scalars
+returns-clause-scalars c = λ K F h.
+    let a = c.args.a.now in
+    transposed-scalars K F a.rows a.cols a.entries c.loop-j.j c.loop-j.entries a.full h (omega arith) c.loop-j.invariant
