@@ -58,8 +58,9 @@ segments-matrix K n (l ∷ ls) J r e h =
     here false e m = cc
 
     other : (c : ℕ) → has c (keys ls) ≡ true → l.0 ≢ c
-    other c listed same = let bad : true ≡ false = sym listed ∙ ap (λ q. has q (keys ls)) (sym same)
-    ∙ head-absent l.0 (keys ls) r in cc
+    other c listed same =
+        let bad : true ≡ false = sym listed ∙ ap (λ q. has q (keys ls)) (sym same) ∙ head-absent l.0 (keys ls) r in
+        cc
 
     either : (b : Bool) → (b || true) ≡ true
     either true = refl

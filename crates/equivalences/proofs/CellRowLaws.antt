@@ -308,3 +308,9 @@ pub pushed-one : (f : Cell → List ℕ) (b : Bool) (t : Cell) (old new : List �
     → (b ≡ false → new ≡ old) → new ≡ old ++ flat_map f (cond b (t ∷ []) [])
 pushed-one f true t old new h n = h refl ∙ ap (λ u. old ++ u) (sym (append-nil (f t)))
 pushed-one f false t old new h n = n refl ∙ sym (append-nil old)
+
+-- a member is the same whatever stands for none
+pub get_or-same : {A : Type 0} (xs : List A) (i : ℕ) (d e : A) → i < length xs → get_or xs i d ≡ get_or xs i e
+get_or-same [] i d e l = absurd (omega arith)
+get_or-same (x ∷ xs) zero d e l = refl
+get_or-same (x ∷ xs) (suc i) d e l = get_or-same xs i d e (omega arith)

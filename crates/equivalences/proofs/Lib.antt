@@ -5,3 +5,4 @@ pub mod LogLaws
 pub mod EndLaws
 pub mod CellRowLaws
 pub mod AddLaws
+pub mod UnitLaws
