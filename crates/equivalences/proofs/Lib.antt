@@ -6,3 +6,4 @@ pub mod EndLaws
 pub mod CellRowLaws
 pub mod AddLaws
 pub mod UnitLaws
+pub mod StoredLaws

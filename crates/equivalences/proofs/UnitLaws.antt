@@ -1,9 +1,9 @@
 -- Rows of the identity at each cell, one cell after another.
 use Rattle.std.specs.Option.{unwrap_or}
 use Rattle.std.proofs.Common.{◌≡◌, ◌≢◌, ℕ, zero, suc, ◌+◌, ◌<◌, ◌≤◌, Bool, true, false, cond, eqb, List, [], ◌∷◌, ◌++◌}
-use Rattle.std.proofs.Common.{length, take, drop, get_or, set, refl, sym, ap, ap₂, ◌∙◌, subst, arith, inl, inr, length-append}
+use Rattle.std.proofs.Common.{length, take, drop, get_or, set, refl, sym, ap, ap₂, ◌∙◌, subst, arith, inl, inr, replicate}
 use Rattle.std.proofs.lemmas.Bool.{cases_eq, eq-eqb, ne_eqb}
-use Rattle.std.proofs.lemmas.List.{get_or_at, take_all}
+use Rattle.std.proofs.lemmas.List.{get_or_at, get_or_append_left, take_all}
 use Rattle.dense_blocks.specs.MatrixFacts.{identity}
 use Rattle.rising_lists.specs.Rising.{ByCell, IsRising, has}
 use Rattle.rising_lists.proofs.Keyed.{place_of, look-at}
@@ -12,7 +12,8 @@ use Rattle.cochain_vec.specs.Complexes.{total_size, coordinates}
 use Rattle.block_complexes.specs.BlockComplexes.{BlockComplex, cells, degree_of, size_of}
 use Rattle.block_complexes.specs.Cochains.{complex_of, of_degree, cell_of}
 use Rattle.block_complexes.proofs.LiveLaws.{cell-at, length-cells, of_cell-at}
-use Rattle.block_complexes.proofs.DegreeLaws.{start-next, value-within}
+use Rattle.block_complexes.proofs.DegreeLaws.{start-next, start-within}
+use Rattle.block_sparse.specs.StoredBlocks.{AreLive}
 use Rattle.equivalence_laws.specs.Updates.{cell_rows}
 use Rattle.equivalence_laws.proofs.StartLaws.{rows-place}
 use Rattle.equivalences.specs.Rows.{cell_rows_of, unit_rows}
@@ -88,3 +89,33 @@ starts-next live starts i inside size below are k l = elim (cases_eq (get_or liv
     get_or-set-other (y ∷ xs) zero (suc k) a n = refl
     get_or-set-other (y ∷ xs) (suc i) zero a n = refl
     get_or-set-other (y ∷ xs) (suc i) (suc k) a n = get_or-set-other xs i k a (λ e. n (ap suc e))
+
+pub units-next : (live : List (ℕ × ℕ × ℕ)) (rows new : List (List (List ℕ))) (i : ℕ) (r : List (List ℕ))
+    → length rows ≡ i → new ≡ rows ++ r ∷ [] → r ≡ units_at live i
+    → ((j : ℕ) → j < i → get_or rows j [] ≡ units_at live j)
+    → (j : ℕ) → j < i + 1 → get_or new j [] ≡ units_at live j
+units-next live rows new i r size e is before j l = elim (cases_eq j i) [
+  | inl here ↦
+      ap (λ xs. get_or xs j []) e ∙ ap (λ j. get_or (rows ++ r ∷ []) j []) here ∙ get_or_at rows r [] [] i size ∙ is
+      ∙ ap (units_at live) (sym here)
+  | inr n ↦
+      let below : j < i = omega (arith, l, n) in
+      ap (λ xs. get_or xs j []) e ∙ get_or_append_left rows (r ∷ []) [] j (omega (arith, below, size)) ∙ before j below
+]
+
+-- the cells of a degree have no more coordinates than a block complex
+pub coordinates-fit : (live : List (ℕ × ℕ × ℕ)) (k : ℕ) → AreLive live → total_size (of_degree k live) ≤ 4096
+coordinates-fit live k fits =
+    let whole : total_size (of_degree k (take (length live) live)) ≡ total_size (of_degree k live) =
+    ap (λ l. total_size (of_degree k l)) (take_all (length live) live (omega arith)) in
+    omega (arith, whole, start-within k live (length live), fits.total)
+
+-- the first entries
+pub no-starts : (k : ℕ)
+    → get_or (0 ∷ 0 ∷ 0 ∷ 0 ∷ 0 ∷ 0 ∷ 0 ∷ 0 ∷ 0 ∷ 0 ∷ 0 ∷ 0 ∷ 0 ∷ 0 ∷ 0 ∷ 0 ∷ []) k 0 ≡ 0
+no-starts k = none 16 k
+  where
+    none : (n k : ℕ) → get_or (replicate n 0) k 0 ≡ 0
+    none zero k = refl
+    none (suc n) zero = refl
+    none (suc n) (suc k) = none n k

@@ -50,7 +50,7 @@ impl CellRows {
             (identity (coordinates (complex_of (complex_in base.now)) (degree_of base.now.live c))) c) }
     {
         let live = base.live();
-        let cells = live.iter().map(|l| l.0).collect(alloc)?;
+        let cells = cells_of(alloc, live)?;
         let mut rows = Vec::with_capacity(alloc, live.len())?;
         let mut starts = [0; 16];
         for cell in live {
@@ -200,6 +200,13 @@ impl CellRows {
         entries.push_all(block.entries.as_slice())?;
         Ok(())
     }
+}
+
+/// The cells of a list of live cells.
+fn cells_of(alloc: Global, live: &[(u32, u8, u8)]) -> Result<Vec<u32>, NoMemory>
+    ensures { IfOk result (λ c. c.items ≡ cells live.now) }
+{
+    live.iter().map(|l| l.0).collect(alloc)
 }
 
 /// How many coordinates the live cells of degree `k` have.
