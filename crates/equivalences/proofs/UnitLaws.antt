@@ -1,8 +1,9 @@
 -- Rows of the identity at each cell, one cell after another.
 use Rattle.std.specs.Option.{unwrap_or}
+use Rattle.std.specs.List.{list_all}
 use Rattle.std.proofs.Common.{◌≡◌, ◌≢◌, ℕ, zero, suc, ◌+◌, ◌<◌, ◌≤◌, Bool, true, false, cond, eqb, List, [], ◌∷◌, ◌++◌}
-use Rattle.std.proofs.Common.{length, take, drop, get_or, set, refl, sym, ap, ap₂, ◌∙◌, subst, arith, inl, inr, replicate}
-use Rattle.std.proofs.lemmas.Bool.{cases_eq, eq-eqb, ne_eqb}
+use Rattle.std.proofs.Common.{length, take, drop, get_or, set, refl, sym, ap, ap₂, ◌∙◌, subst, arith, inl, inr}
+use Rattle.std.proofs.lemmas.Bool.{cases_eq, eq-eqb, ne_eqb, eqb-true, and_parts}
 use Rattle.std.proofs.lemmas.List.{get_or_at, get_or_append_left, take_all}
 use Rattle.dense_blocks.specs.MatrixFacts.{identity}
 use Rattle.rising_lists.specs.Rising.{ByCell, IsRising, has}
@@ -111,11 +112,11 @@ coordinates-fit live k fits =
     omega (arith, whole, start-within k live (length live), fits.total)
 
 -- the first entries
+zero-entries : (xs : List ℕ) → list_all (λ a. eqb a 0) xs ≡ true → (k : ℕ) → get_or xs k 0 ≡ 0
+zero-entries [] e k = refl
+zero-entries (a ∷ xs) e zero = eqb-true a 0 (and_parts (eqb a 0) (list_all (λ a. eqb a 0) xs) e).0
+zero-entries (a ∷ xs) e (suc k) = zero-entries xs (and_parts (eqb a 0) (list_all (λ a. eqb a 0) xs) e).1 k
+
 pub no-starts : (k : ℕ)
     → get_or (0 ∷ 0 ∷ 0 ∷ 0 ∷ 0 ∷ 0 ∷ 0 ∷ 0 ∷ 0 ∷ 0 ∷ 0 ∷ 0 ∷ 0 ∷ 0 ∷ 0 ∷ 0 ∷ []) k 0 ≡ 0
-no-starts k = none 16 k
-  where
-    none : (n k : ℕ) → get_or (replicate n 0) k 0 ≡ 0
-    none zero k = refl
-    none (suc n) zero = refl
-    none (suc n) (suc k) = none n k
+no-starts k = zero-entries (0 ∷ 0 ∷ 0 ∷ 0 ∷ 0 ∷ 0 ∷ 0 ∷ 0 ∷ 0 ∷ 0 ∷ 0 ∷ 0 ∷ 0 ∷ 0 ∷ 0 ∷ 0 ∷ []) refl k

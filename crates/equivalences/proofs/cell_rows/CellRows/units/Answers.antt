@@ -1,8 +1,9 @@
 use Rattle.std.proofs.Common.{◌≡◌, ◌≤◌, ◌<◌, ◌+◌, ◌∷◌, [], ℕ, List, ap, ap₂, sym, ◌∙◌, arith, length, get_or, set, subst, take}
-use Rattle.std.proofs.Common.{refl}
+use Rattle.std.proofs.Common.{refl, true}
 use Rattle.std.proofs.lemmas.List.{length-set, length_push, take_all}
 use Rattle.cochain_vec.specs.Complexes.{total_size}
-use Rattle.rising_lists.specs.Rising.{IsRising}
+use Rattle.dense_blocks.specs.MatrixFacts.{identity}
+use Rattle.rising_lists.specs.Rising.{IsRising, has}
 use Rattle.block_complexes.specs.BlockComplexes.{cells, degree_of}
 use Rattle.block_complexes.specs.Cochains.{of_degree}
 use Rattle.block_complexes.proofs.LiveLaws.{length-cells}
@@ -85,7 +86,32 @@ loop-cell-preserved c =
     }
 
 pub invariant_of-result : goal.invariant_of-result
-invariant_of-result c = ?
+invariant_of-result c =
+    let live = c.live-live.result.now in
+    let fits : AreLive live = subst AreLive (sym c.live-live.ensures.live) c.live-live.ensures.live_cells in
+    let cells_are : c.in_ok-cells.cells.items ≡ cells live = c.in_ok-cells.ensures in
+    record {
+      rising = subst IsRising (sym cells_are) fits.rising;
+      full = omega (
+        arith,
+        c.loop-cell.invariant.count,
+        ap length cells_are,
+        length-cells live,
+        c.loop-cell-test.false,
+        c.loop-cell.auto.cell-index-end,
+      );
+    }
 
 pub returns-clause-rows : goal.returns-clause-rows
-returns-clause-rows c = ?
+returns-clause-rows c = λ q h.
+    let live = c.live-live.result.now in
+    let e = c.live-live.ensures.live in
+    let fits : AreLive live = subst AreLive (sym e) c.live-live.ensures.live_cells in
+    let cells_are : c.in_ok-cells.cells.items ≡ cells live = c.in_ok-cells.ensures in
+    let size : length c.loop-cell.rows.items ≡ length live =
+    omega (arith, c.loop-cell.invariant.count, c.loop-cell-test.false, c.loop-cell.auto.cell-index-end) in
+    ap (λ ks. cell_rows_of (record { cells = ks; values = c.loop-cell.rows.items }) q) cells_are
+    ∙ units-found live c.loop-cell.rows.items fits.rising size
+    (λ i l. c.loop-cell.invariant.rows i (omega (arith, l, c.loop-cell-test.false))) q
+    (subst (λ l. has q (cells l) ≡ true) (sym e) h)
+    ∙ ap (λ l. cell_rows (of_degree (degree_of l q) l) (identity (total_size (of_degree (degree_of l q) l))) q) e
