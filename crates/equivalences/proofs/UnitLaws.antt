@@ -117,6 +117,8 @@ zero-entries [] e k = refl
 zero-entries (a ∷ xs) e zero = eqb-true a 0 (and_parts (eqb a 0) (list_all (λ a. eqb a 0) xs) e).0
 zero-entries (a ∷ xs) e (suc k) = zero-entries xs (and_parts (eqb a 0) (list_all (λ a. eqb a 0) xs) e).1 k
 
-pub no-starts : (k : ℕ)
-    → get_or (0 ∷ 0 ∷ 0 ∷ 0 ∷ 0 ∷ 0 ∷ 0 ∷ 0 ∷ 0 ∷ 0 ∷ 0 ∷ 0 ∷ 0 ∷ 0 ∷ 0 ∷ 0 ∷ []) k 0 ≡ 0
-no-starts k = zero-entries (0 ∷ 0 ∷ 0 ∷ 0 ∷ 0 ∷ 0 ∷ 0 ∷ 0 ∷ 0 ∷ 0 ∷ 0 ∷ 0 ∷ 0 ∷ 0 ∷ 0 ∷ 0 ∷ []) refl k
+abbrev sixteen_zeros : List ℕ
+sixteen_zeros = 0 ∷ 0 ∷ 0 ∷ 0 ∷ 0 ∷ 0 ∷ 0 ∷ 0 ∷ 0 ∷ 0 ∷ 0 ∷ 0 ∷ 0 ∷ 0 ∷ 0 ∷ 0 ∷ []
+
+pub no-starts : (k : ℕ) → get_or sixteen_zeros k 0 ≡ 0
+no-starts k = zero-entries sixteen_zeros refl k

@@ -2,4 +2,3 @@ pub mod GradedBlocks
 pub mod Between
 pub mod Rows
 pub mod LogMaps
-pub mod Stored

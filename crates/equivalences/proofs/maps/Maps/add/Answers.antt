@@ -1,4 +1,0 @@
-use Rattle.equivalences.proofs.maps.Maps.add.Goals as goal
-
-pub returns-clause-step : goal.returns-clause-step
-returns-clause-step g c = ?

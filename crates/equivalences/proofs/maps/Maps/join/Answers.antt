@@ -1,4 +1,0 @@
-use Rattle.equivalences.proofs.maps.Maps.join.Goals as goal
-
-pub returns : goal.returns
-returns c = ?

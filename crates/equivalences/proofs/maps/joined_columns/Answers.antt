@@ -1,4 +1,0 @@
-use Rattle.equivalences.proofs.maps.joined_columns.Goals as goal
-
-pub loop-k-preserved : goal.loop-k-preserved
-loop-k-preserved c = ?
