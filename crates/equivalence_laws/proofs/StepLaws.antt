@@ -350,7 +350,7 @@ module _ (K : Ops) (u : BlockComplex) (r : Removal) (p : IsSetting K u r) (k : �
 
         pub iota-next : combination K m z (flat_map (λ (t : Cell). Q' t.cell) (of_degree k w.live))
             ≡ combination K m (removal_iota K u r k z) (flat_map (λ (t : Cell). Q t.cell) (of_degree k u.live))
-        iota-next = new ∙ elim (cases_eq (degree x) k) [ | inl e ↦ at e | inr n ↦ elsewhere n ] ∙ sym iota-apart
+        iota-next = new ∙ elim (cases_eq (degree x) k) [ inl e ↦ at e | inr n ↦ elsewhere n ] ∙ sym iota-apart
 
     -- h of the removal
     module _ (z : List ℕ) (hz : Vector K (coordinates B (suc k)) z) where

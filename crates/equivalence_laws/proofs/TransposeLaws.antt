@@ -11,7 +11,6 @@ use Rattle.dense_blocks.proofs.VectorLaws.{plus-cross, multiple-plus, zeros-plus
 use Rattle.dense_blocks.proofs.VectorLaws.{combination-vector, dot-zeros}
 use Rattle.equivalence_laws.specs.Transposes.{transpose}
 
-
 module _ (K : Ops) (F : IsField K) where
   rest-matrix : (m n : ℕ) (A : List (List ℕ)) → Matrix K m (suc n) A → Matrix K m n (map (λ row. drop 1 row) A)
   rest-matrix zero n [] h = tt
@@ -56,7 +55,6 @@ module _ (K : Ops) (F : IsField K) where
       ap (plus K (multiple K c (a ∷ r))) (combination-first m n d A h.1 hd.1)
       ∙ ap (λ p. K.add p (dot K (map (λ row. get_or row 0 0) A) d)
       ∷ plus K (multiple K c r) (combination K n d (map (λ row. drop 1 row) A))) (F.mul_comm c a)
-
 
   -- its rows combine to the image
   pub combination-transpose : (m n : ℕ) (A : List (List ℕ)) (z : List ℕ) → Matrix K m n A → Vector K n z

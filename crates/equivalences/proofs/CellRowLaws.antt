@@ -183,56 +183,56 @@ module _ (K : Ops) (F : IsField K) (n k : ℕ) (ls : List (ℕ × ℕ)) (J R : L
     module _ (new : ByCell (List (List ℕ))) (cells_are : new.cells ≡ now.cells)
         (rows : (q : ℕ) → cell_rows_of new q ≡ cond (eqb q l.0)
         (with_product K n (cell_rows_of now l.0) (cut (length (cell_rows_of now l.0)) k own) R) (cell_rows_of now q))
-        where
-      shape-next : (m c : ℕ) → IsMatrix K m n (cell_rows_of now c) → IsMatrix K m n (cell_rows_of new c)
-      unfolding added
-      shape-next m c h = elim (cases_eq c l.0) [
-        | inl e ↦
-            let same : m ≡ length (cell_rows_of now l.0) = sym h.size ∙ ap (λ c. length (cell_rows_of now c)) e in
-            subst (λ A. IsMatrix K m n A)
-            (sym (rows c ∙ ap (λ b. cond b added (cell_rows_of now c)) (eq-eqb c l.0 e)))
-            (subst (λ m. IsMatrix K m n added) (sym same) added-matrix)
-        | inr d ↦
-            subst (λ A. IsMatrix K m n A)
-            (sym (rows c ∙ ap (λ b. cond b added (cell_rows_of now c)) (ne_eqb c l.0 d))) h
-      ]
+      where
+        shape-next : (m c : ℕ) → IsMatrix K m n (cell_rows_of now c) → IsMatrix K m n (cell_rows_of new c)
+        unfolding added
+        shape-next m c h = elim (cases_eq c l.0) [
+          | inl e ↦
+              let same : m ≡ length (cell_rows_of now l.0) = sym h.size ∙ ap (λ c. length (cell_rows_of now c)) e in
+              subst (λ A. IsMatrix K m n A)
+              (sym (rows c ∙ ap (λ b. cond b added (cell_rows_of now c)) (eq-eqb c l.0 e)))
+              (subst (λ m. IsMatrix K m n added) (sym same) added-matrix)
+          | inr d ↦
+              subst (λ A. IsMatrix K m n A)
+              (sym (rows c ∙ ap (λ b. cond b added (cell_rows_of now c)) (ne_eqb c l.0 d))) h
+        ]
 
-      at-cell : (q : ℕ) → cond (eqb l.0 q) (with_product K n (cell_rows_of now q)
-          (take l.1 (cut (l.1 + width (drop (i + 1) ls)) k rest)) R) (cell_rows_of now q) ≡ cell_rows_of new q
-      unfolding added
-      at-cell q = elim (cases_eq q l.0) [
-        | inl e ↦
-            ap (λ b. cond b (with_product K n (cell_rows_of now q)
-            (take l.1 (cut (l.1 + width (drop (i + 1) ls)) k rest)) R) (cell_rows_of now q)) (eq-eqb l.0 q (sym e))
-            ∙ ap₂ (λ c P. with_product K n (cell_rows_of now c) P R) e own-part
-            ∙ sym (rows q ∙ ap (λ b. cond b added (cell_rows_of now q)) (eq-eqb q l.0 e))
-        | inr d ↦
-            ap (λ b. cond b (with_product K n (cell_rows_of now q)
-            (take l.1 (cut (l.1 + width (drop (i + 1) ls)) k rest)) R) (cell_rows_of now q))
-            (ne_eqb l.0 q (λ e. d (sym e)))
-            ∙ sym (rows q ∙ ap (λ b. cond b added (cell_rows_of now q)) (ne_eqb q l.0 d))
-      ]
+        at-cell : (q : ℕ) → cond (eqb l.0 q) (with_product K n (cell_rows_of now q)
+            (take l.1 (cut (l.1 + width (drop (i + 1) ls)) k rest)) R) (cell_rows_of now q) ≡ cell_rows_of new q
+        unfolding added
+        at-cell q = elim (cases_eq q l.0) [
+          | inl e ↦
+              ap (λ b. cond b (with_product K n (cell_rows_of now q)
+              (take l.1 (cut (l.1 + width (drop (i + 1) ls)) k rest)) R) (cell_rows_of now q)) (eq-eqb l.0 q (sym e))
+              ∙ ap₂ (λ c P. with_product K n (cell_rows_of now c) P R) e own-part
+              ∙ sym (rows q ∙ ap (λ b. cond b added (cell_rows_of now q)) (eq-eqb q l.0 e))
+          | inr d ↦
+              ap (λ b. cond b (with_product K n (cell_rows_of now q)
+              (take l.1 (cut (l.1 + width (drop (i + 1) ls)) k rest)) R) (cell_rows_of now q))
+              (ne_eqb l.0 q (λ e. d (sym e)))
+              ∙ sym (rows q ∙ ap (λ b. cond b added (cell_rows_of now q)) (ne_eqb q l.0 d))
+        ]
 
-      pub products_left-next : AreProductsLeft K n k ls J R old (i + 1) later new
-      products_left-next = record {
-        cells_are = cells_are ∙ left.cells_are;
-        rest_size =
-            let w = width (drop (i + 1) ls) in
-            let e : (l.1 + w) * k ≡ l.1 * k + w * k = omega arith in
-            let size : length rest ≡ (l.1 + w) * k = left.rest_size ∙ ap (λ m. m * k) size-is in
-            omega (arith, e, size, ap length later_is, length-drop (l.1 * k) rest);
-        rest_scalars = subst (AllScalars K) (sym later_is)
-            (All-drop (λ a. a < K.order) (l.1 * k) rest left.rest_scalars);
-        shapes = λ j d b. let s = left.shapes j d b in (
-          subst (λ cs. has (get_or ls j d).0 cs ≡ true) (sym cells_are) s.0,
-          s.1,
-          shape-next (get_or ls j d).1 (get_or ls j d).0 s.2,
-        );
-        whole = λ q.
-            sym (ap₂ (λ A P. with_products K n (drop (i + 1) ls) P R q A) (at-cell q) later-part)
-            ∙ sym (ap (λ ms. with_products K n ms (cut (width ms) k rest) R q (cell_rows_of now q)) later-is)
-            ∙ left.whole q;
-      }
+        pub products_left-next : AreProductsLeft K n k ls J R old (i + 1) later new
+        products_left-next = record {
+          cells_are = cells_are ∙ left.cells_are;
+          rest_size =
+              let w = width (drop (i + 1) ls) in
+              let e : (l.1 + w) * k ≡ l.1 * k + w * k = omega arith in
+              let size : length rest ≡ (l.1 + w) * k = left.rest_size ∙ ap (λ m. m * k) size-is in
+              omega (arith, e, size, ap length later_is, length-drop (l.1 * k) rest);
+          rest_scalars = subst (AllScalars K) (sym later_is)
+              (All-drop (λ a. a < K.order) (l.1 * k) rest left.rest_scalars);
+          shapes = λ j d b. let s = left.shapes j d b in (
+            subst (λ cs. has (get_or ls j d).0 cs ≡ true) (sym cells_are) s.0,
+            s.1,
+            shape-next (get_or ls j d).1 (get_or ls j d).0 s.2,
+          );
+          whole = λ q.
+              sym (ap₂ (λ A P. with_products K n (drop (i + 1) ls) P R q A) (at-cell q) later-part)
+              ∙ sym (ap (λ ms. with_products K n ms (cut (width ms) k rest) R q (cell_rows_of now q)) later-is)
+              ∙ left.whole q;
+        }
 
 -- nothing is left at the end
 pub products_left-end : (K : Ops) (n k : ℕ) (ls : List (ℕ × ℕ)) (J R : List (List ℕ)) (old : ByCell (List (List ℕ)))

@@ -72,7 +72,7 @@ blocks-pushed rows columns A blocks new b k size e are is =
     pushed [] zero q at = inr (refl, let same : Some b ≡ Some q = at in cc)
     pushed [] (suc j) q at = absurd (let bad : ◌≡◌ {A = Option Block} None (Some q) = at in cc)
     pushed (x ∷ xs) zero q at = inl at
-    pushed (x ∷ xs) (suc j) q at = elim (pushed xs j q at) [ | inl e ↦ inl e | inr e ↦ inr (ap suc e.0, e.1) ]
+    pushed (x ∷ xs) (suc j) q at = elim (pushed xs j q at) [ inl e ↦ inl e | inr e ↦ inr (ap suc e.0, e.1) ]
 
     go : (j : ℕ) (q : Block) → (slice_get blocks j ≡ Some q) ⊎ ((j ≡ length blocks) × (q ≡ b))
         → IsBlock q (rows j) (columns j) (A j)

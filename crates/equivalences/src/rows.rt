@@ -106,7 +106,14 @@ impl Rows {
         ensures { OnOk result (self.new ≡ with_product (F.ops f.now) moved.now.cols self.old
             (cut (length self.old) moved.now.rows coefficients.now) (matrix_of moved.now)) }
     {
-        write(alloc, self.count, self.start, self.width, self.is_written, &mut self.entries)?;
+        write(
+            alloc,
+            self.count,
+            self.start,
+            self.width,
+            self.is_written,
+            &mut self.entries,
+        )?;
         self.is_written = true;
         add_rows(f, self.count, &mut self.entries, coefficients, moved);
         Ok(())
