@@ -2,3 +2,4 @@ pub mod GradedBlocks
 pub mod Between
 pub mod Rows
 pub mod LogMaps
+pub mod Stored

@@ -4,7 +4,10 @@
 mod cell_rows;
 mod equivalence;
 mod live;
+mod log;
+mod maps;
 mod rows;
 mod transposed;
 
 pub use equivalence::Equivalence;
+pub use log::of_log;
