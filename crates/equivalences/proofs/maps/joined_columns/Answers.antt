@@ -1,0 +1,4 @@
+use Rattle.equivalences.proofs.maps.joined_columns.Goals as goal
+
+pub loop-k-preserved : goal.loop-k-preserved
+loop-k-preserved c = ?
