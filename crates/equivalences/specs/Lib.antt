@@ -1,0 +1,5 @@
+pub mod GradedBlocks
+pub mod Between
+pub mod Rows
+pub mod LogMaps
+pub mod Stored
