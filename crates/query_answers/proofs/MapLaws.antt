@@ -13,10 +13,11 @@ use Rattle.removals.proofs.ReductionLaws.{after-same-before}
 use Rattle.equivalence_laws.specs.Composites.{IsCompositeOfPairs}
 use Rattle.equivalence_laws.specs.Equivalences.{GradedMatrix, IsEquivalence}
 use Rattle.equivalence_laws.proofs.ReductionLaws.{pairs_have_composite, pairs_tell_composite}
-use Rattle.block_sparse.specs.StoredBlocks.{complex_in}
+use Rattle.block_sparse.specs.StoredBlocks.{StoredBlocks, complex_in}
+use Rattle.reduce_step.specs.declared.record.Step.{Step}
 use Rattle.reduce_step.specs.Logs.{AreStepsFrom, pairs_of}
 use Rattle.reduce_step.proofs.LogLaws.{steps-after}
-use Rattle.pair_commit.specs.Slots.{SlotValue}
+use Rattle.pair_commit.specs.Slots.{SlotValue, IsSlot}
 use Rattle.sheaf_words.specs.declared.reply.Maps.{Maps}
 use Rattle.core_machine.specs.Replies.{Reduction, AreGradedBlocks, AreRightMaps, graded_matrix}
 use Rattle.equivalences.specs.Between.{IsEquivalenceOf}
@@ -166,3 +167,43 @@ module _ {F : Type 0} (K : Ops) (degrees : ℕ) (slot : SlotValue F) (e : Equiva
       (first-degrees K degrees (complex_in slot.base) (complex_in slot.present) e maps from.few from.low low_rest
       from.pi from.iota from.h from.equivalence (IsCompositeOfPairs K (complex_in slot.base) (pairs_of slot.log))
       from.composite))
+
+-- what holds of a slot holds of its parts as they were read, and the other way round
+module _ {F : Type 0} (ops : F → Ops) (slot : SlotValue F) (f : F) (v : StoredBlocks) (log : List Step)
+    (f_is : f ≡ slot.f) (v_is : v ≡ slot.base) (log_is : log ≡ slot.log) where
+  pub as_read : (P : F → StoredBlocks → List Step → Type 0) → P slot.f slot.base slot.log → P f v log
+  as_read P h =
+      subst (λ x. P x v log) (sym f_is)
+      (subst (λ x. P slot.f x log) (sym v_is) (subst (λ x. P slot.f slot.base x) (sym log_is) h))
+
+  as_held : (P : F → StoredBlocks → List Step → Type 0) → P f v log → P slot.f slot.base slot.log
+  as_held P h =
+      subst (λ x. P slot.f slot.base x) log_is
+      (subst (λ x. P slot.f x log) v_is (subst (λ x. P x v log) f_is h))
+
+  module _ (degrees : ℕ) (e : Equivalence) (few : degrees ≤ 16) (low : All (λ l. l.1 < degrees) slot.base.live)
+      (closed : IsCochainComplex (ops slot.f) (complex_of (complex_in slot.base)))
+      (is : IsSlot (ops slot.f) slot.base slot.present slot.log slot.carried)
+      (composite : IsCompositeOfPairs (ops f) (complex_in v) (pairs_of log)
+      (graded_matrix e.pi) (graded_matrix e.iota) (graded_matrix e.h))
+      (equivalence : (w : BlockComplex) → AreStepsFrom (ops f) (complex_in v) log w
+      → IsEquivalenceOf (ops f) (complex_of (complex_in v)) (complex_of w) e)
+      (maps : Maps) (base_is : maps.base ≡ slot.base.live) (pi_is : maps.pi ≡ take degrees e.pi)
+      (iota_is : maps.iota ≡ take degrees e.iota) (h_is : maps.h ≡ take degrees e.h) where
+    pub slot-maps : AreMapsFrom (ops slot.f) degrees slot e maps
+    slot-maps = record {
+      few = few;
+      low = low;
+      over = is.base_is;
+      closed = closed;
+      steps = is.steps;
+      composite = as_held (λ f v log. IsCompositeOfPairs (ops f) (complex_in v) (pairs_of log)
+          (graded_matrix e.pi) (graded_matrix e.iota) (graded_matrix e.h)) composite;
+      equivalence = as_held (λ f v log. (w : BlockComplex) → AreStepsFrom (ops f) (complex_in v) log w
+          → IsEquivalenceOf (ops f) (complex_of (complex_in v)) (complex_of w) e) equivalence
+          (complex_in slot.present) is.steps;
+      base = base_is;
+      pi = pi_is;
+      iota = iota_is;
+      h = h_is;
+    }

@@ -49,9 +49,9 @@ fn first_blocks(
     requires { count ≤ length blocks.now }
     ensures { IfOk result (λ first. first ≡ take count blocks.now) }
 {
-    let blocks = &blocks.as_slice()[..usize::from(count)];
-    let mut first = Vec::with_capacity(alloc, blocks.len())?;
-    for block in blocks {
+    let head = &blocks.as_slice()[..usize::from(count)];
+    let mut first = Vec::with_capacity(alloc, head.len())?;
+    for block in head {
         first.push(block.copy(alloc)?)?;
     }
     Ok(Listed::of(first))
