@@ -41,11 +41,7 @@ pub fn maps<F: Scalars>(alloc: Global, slot: &Slot<F>, degrees: u8) -> Result<Ma
 }
 
 /// The first so many blocks.
-fn first_blocks(
-    alloc: Global,
-    blocks: &Listed<Block>,
-    count: u8,
-) -> Result<Listed<Block>, NoMemory>
+fn first_blocks(alloc: Global, blocks: &Listed<Block>, count: u8) -> Result<Listed<Block>, NoMemory>
     requires { count ≤ length blocks.now }
     ensures { IfOk result (λ first. first ≡ take count blocks.now) }
 {
