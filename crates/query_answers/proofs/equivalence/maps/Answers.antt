@@ -1,4 +1,4 @@
-use Rattle.std.proofs.Common.{◌∙◌, ap, arith}
+use Rattle.std.proofs.Common.{◌∙◌, ap}
 use Rattle.cochain_vec.specs.CochainComplexes.{IsCochainComplex}
 use Rattle.block_complexes.specs.BlockComplexes.{BlockComplex, IsBlockComplex}
 use Rattle.block_complexes.specs.Cochains.{complex_of}
