@@ -170,13 +170,13 @@ module _ {F : Type 0} (K : Ops) (degrees : ℕ) (slot : SlotValue F) (e : Equiva
 -- what holds of a slot holds of its parts as they were read, and the other way round
 module _ {F : Type 0} (ops : F → Ops) (slot : SlotValue F) (f : F) (v : StoredBlocks) (log : List Step)
     (f_is : f ≡ slot.f) (v_is : v ≡ slot.base) (log_is : log ≡ slot.log) where
-  pub as_read : (P : F → StoredBlocks → List Step → Type 0) → P slot.f slot.base slot.log → P f v log
-  as_read P h =
+  pub at_parts : (P : F → StoredBlocks → List Step → Type 0) → P slot.f slot.base slot.log → P f v log
+  at_parts P h =
       subst (λ x. P x v log) (sym f_is)
       (subst (λ x. P slot.f x log) (sym v_is) (subst (λ x. P slot.f slot.base x) (sym log_is) h))
 
-  as_held : (P : F → StoredBlocks → List Step → Type 0) → P f v log → P slot.f slot.base slot.log
-  as_held P h =
+  at_slot : (P : F → StoredBlocks → List Step → Type 0) → P f v log → P slot.f slot.base slot.log
+  at_slot P h =
       subst (λ x. P slot.f slot.base x) log_is
       (subst (λ x. P slot.f x log) v_is (subst (λ x. P x v log) f_is h))
 
@@ -196,9 +196,9 @@ module _ {F : Type 0} (ops : F → Ops) (slot : SlotValue F) (f : F) (v : Stored
       over = is.base_is;
       closed = closed;
       steps = is.steps;
-      composite = as_held (λ f v log. IsCompositeOfPairs (ops f) (complex_in v) (pairs_of log)
+      composite = at_slot (λ f v log. IsCompositeOfPairs (ops f) (complex_in v) (pairs_of log)
           (graded_matrix e.pi) (graded_matrix e.iota) (graded_matrix e.h)) composite;
-      equivalence = as_held (λ f v log. (w : BlockComplex) → AreStepsFrom (ops f) (complex_in v) log w
+      equivalence = at_slot (λ f v log. (w : BlockComplex) → AreStepsFrom (ops f) (complex_in v) log w
           → IsEquivalenceOf (ops f) (complex_of (complex_in v)) (complex_of w) e) equivalence
           (complex_in slot.present) is.steps;
       base = base_is;

@@ -5,7 +5,7 @@ use Rattle.block_complexes.specs.Cochains.{complex_of}
 use Rattle.block_sparse.specs.StoredBlocks.{StoredBlocks, complex_in}
 use Rattle.reduce_step.specs.Logs.{AreStepsFrom}
 use Rattle.sheaf_words.specs.declared.reply.Maps.{Maps}
-use Rattle.query_answers.proofs.MapLaws.{as_read, slot-maps, maps-right, maps-composite}
+use Rattle.query_answers.proofs.MapLaws.{at_parts, slot-maps, maps-right, maps-composite}
 use Rattle.query_answers.proofs.equivalence.maps.Goals as goal
 
 pub of_log-requires : goal.of_log-requires
@@ -13,7 +13,7 @@ of_log-requires g c =
     let slot = c.args.slot.now in
     let ops = g.F.Scalars.ops in
     let is = c.now-present.ensures.slot in
-    let read = as_read ops slot c.field-f.result c.base-2.result.now c.log.result.now c.field-f.ensures
+    let read = at_parts ops slot c.field-f.result c.base-2.result.now c.log.result.now c.field-f.ensures
     c.base-2.ensures c.log.ensures in
     record {
       complex = read (λ f v log. IsBlockComplex (ops f) (complex_in v)) is.base_is;
