@@ -16,11 +16,7 @@ use std::alloc::{AllocError as NoMemory, Global};
 ///
 /// Each live cell of the base has a degree below `degrees`. Takes one step for each step of the log, and what
 /// [`coboundary_matrices`] takes. Fails only where memory does.
-pub fn reduced<F: Scalars>(
-    alloc: Global,
-    slot: &Slot<F>,
-    degrees: u8,
-) -> Result<Reduced, NoMemory>
+pub fn reduced<F: Scalars>(alloc: Global, slot: &Slot<F>, degrees: u8) -> Result<Reduced, NoMemory>
     requires { All (λ l. l.1 < degrees) slot.now.base.live }
     ensures { IfOk result (λ reply. (r : Reduction) → IsReductionIn degrees slot.now r
         → IsRightReduced (F.ops slot.now.f) r reply) }
