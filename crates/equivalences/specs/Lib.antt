@@ -1,2 +1,3 @@
 pub mod GradedBlocks
 pub mod Between
+pub mod Composition
