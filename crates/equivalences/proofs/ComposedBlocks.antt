@@ -1,11 +1,12 @@
 -- Blocks of a composite: each degree by itself, all degrees, and the equivalence that they are.
-use Rattle.std.proofs.Common.{◌≡◌, ℕ, zero, suc, ◌<◌, ◌≤◌, List, [], ◌∷◌, ◌++◌, length, Some, slice_get, refl, sym, ap, ap₂}
-use Rattle.std.proofs.Common.{◌∙◌, subst, inl, inr}
+use Rattle.std.proofs.Common.{◌≡◌, ℕ, zero, suc, ◌≤◌, List, [], ◌∷◌, ◌++◌, length, Some, slice_get, refl, sym, ap, ap₂}
+use Rattle.std.proofs.Common.{◌+◌, ◌∙◌, subst, inl, inr}
+use Rattle.std.proofs.lemmas.List.{length_push}
 use Rattle.std.proofs.lemmas.Option.{same_Some, none-some, slice_get_past, slice_get_cases}
 use Rattle.std.specs.Option.{option_map_or}
 use Rattle.dense_blocks.specs.Field.{Ops}
 use Rattle.dense_blocks.specs.FieldLaws.{IsField}
-use Rattle.dense_blocks.specs.Vectors.{AllScalars, zeros, combination}
+use Rattle.dense_blocks.specs.Vectors.{AllScalars, zeros}
 use Rattle.dense_blocks.specs.Matrices.{product}
 use Rattle.dense_blocks.specs.MatrixFacts.{zero_matrix, matrix_sum}
 use Rattle.dense_blocks.specs.declared.block.Block.{Block}
@@ -18,7 +19,7 @@ use Rattle.cochain_vec.specs.Complexes.{CellularComplex, coordinates}
 use Rattle.equivalence_laws.specs.Equivalences.{GradedMatrix, composite_pi, composite_iota, composite_h, IsEquivalence}
 use Rattle.equivalence_laws.proofs.CompositionLaws.{equivalences_compose}
 use Rattle.equivalences.specs.declared.equivalence.Equivalence.{Equivalence}
-use Rattle.equivalences.specs.GradedBlocks.{graded_matrix, IsBlockOver, HoldsMatrix, AreBlocksOver}
+use Rattle.equivalences.specs.GradedBlocks.{graded_matrix, HoldsMatrix, AreBlocksOver}
 use Rattle.equivalences.specs.Between.{AreMapsBetween}
 use Rattle.equivalences.specs.Composition.{ForComposable, IsCompositeBetween, IsCompositeOf, JoinsEquivalences}
 
@@ -41,6 +42,9 @@ each-push P (y ∷ xs) x each last zero a here = each zero a here
 each-push P (y ∷ xs) x each last (suc k) a here =
     each-push (λ j. P (suc j)) xs x (λ j. each (suc j)) last k a here
 
+pub count-push : (xs ys : List Block) (b : Block) (k : ℕ) → length xs ≡ k → ys ≡ xs ++ b ∷ [] → length ys ≡ k + 1
+count-push xs ys b k size is = ap length is ∙ length_push xs b ∙ ap (λ n. n + 1) size
+
 -- block k holds the matrix A k
 abbrev pub HoldMatrices : Ops → (rows columns : ℕ → ℕ) → GradedMatrix → List Block → Type 0
 HoldMatrices K rows columns A blocks = (k : ℕ) (b : Block) → slice_get blocks k ≡ Some b
@@ -61,8 +65,8 @@ pub graded-is : (K : Ops) (rows columns : ℕ → ℕ) (A : GradedMatrix) (block
     → graded_matrix blocks k ≡ A k
 graded-is K rows columns A blocks each above k =
     elim (slice_get_cases blocks k).1 [
-      inl w ↦ graded-at blocks k w.0 w.2 ∙ (each k w.0 w.2).matrix_is
-    | inr w ↦ graded-past blocks k w.0 ∙ sym (above k w.0)
+      | inl w ↦ graded-at blocks k w.0 w.2 ∙ (each k w.0 w.2).matrix_is
+      | inr w ↦ graded-past blocks k w.0 ∙ sym (above k w.0)
     ]
 
 pub product-holds : (K : Ops) (l m n : ℕ) (A B : List (List ℕ)) (a b c : Block) → HoldsMatrix K l m A a
@@ -193,14 +197,6 @@ module _ (K : Ops) (first second : Equivalence) where
     pub pi_holds : HoldMatrices K (coordinates E) (coordinates C) (pi_matrix C) pi
     pub iota_holds : HoldMatrices K (coordinates C) (coordinates E) (iota_matrix E) iota
     pub h_holds : HoldMatrices K (coordinates C) (λ k. coordinates C (suc k)) (h_matrix C) h
-
-  pub none-hold : (C E : CellularComplex) (pi iota h : List Block) → pi ≡ [] → iota ≡ [] → h ≡ []
-      → HoldComposite C E pi iota h
-  none-hold C E pi iota h no_pi no_iota no_h = record {
-    pi_holds = λ k b here. absurd (none-some b (subst (λ xs. slice_get xs k ≡ Some b) no_pi here));
-    iota_holds = λ k b here. absurd (none-some b (subst (λ xs. slice_get xs k ≡ Some b) no_iota here));
-    h_holds = λ k b here. absurd (none-some b (subst (λ xs. slice_get xs k ≡ Some b) no_h here));
-  }
 
   -- a degree more
   pub more-hold : (C E : CellularComplex) (k : ℕ) (pi iota h pi' iota' h' : List Block) (p i q : Block)

@@ -1,6 +1,6 @@
 -- Blocks that are the identity: known by their rows, and products with them.
 use Rattle.std.proofs.Common.{◌≡◌, ℕ, zero, suc, ◌+◌, ◌-◌, ◌<◌, List, [], ◌∷◌, ◌++◌, length, take, drop, get_or, All}
-use Rattle.std.proofs.Common.{refl, sym, ap, ap₂, ◌∙◌, subst, arith, suc-le-suc}
+use Rattle.std.proofs.Common.{refl, sym, ap, ap₂, ◌∙◌, subst, arith, suc-le-suc, add-one, length-drop}
 use Rattle.std.proofs.lemmas.List.{take_all, take_more_same}
 use Rattle.dense_blocks.specs.Field.{Ops}
 use Rattle.dense_blocks.specs.FieldLaws.{IsField}
@@ -19,7 +19,7 @@ zeros-all [] h = refl
 zeros-all (a ∷ v) h = ap₂ ◌∷◌ (h 0 0 (omega arith)) (zeros-all v (λ k d l. h (suc k) d (suc-le-suc l)))
 
 -- a row of 1 at i and zeros elsewhere
-pub unit_row : (row : List ℕ) (i : ℕ) → i < length row → get_or row i 0 ≡ 1 → All (λ a. a ≡ 0) (take i row)
+unit_row : (row : List ℕ) (i : ℕ) → i < length row → get_or row i 0 ≡ 1 → All (λ a. a ≡ 0) (take i row)
     → All (λ a. a ≡ 0) (drop (suc i) row) → row ≡ zeros i ++ 1 ∷ zeros (length row - 1 - i)
 unit_row [] i inside one before after = absurd (omega arith)
 unit_row (a ∷ row) zero inside one before after =
@@ -34,6 +34,16 @@ unit_row (a ∷ row) (suc i) inside one before after =
   where
     same : length row - 1 - i ≡ length (a ∷ row) - 1 - suc i
     same = omega arith
+
+-- the same of the parts before and after i
+pub unit_parts : (row : List ℕ) (i : ℕ) → i < length row → get_or row i 0 ≡ 1 → All (λ a. a ≡ 0) (take i row)
+    → All (λ a. a ≡ 0) (take (length row - (i + 1)) (drop (i + 1) row))
+    → row ≡ zeros i ++ 1 ∷ zeros (length row - 1 - i)
+unit_parts row i inside one before after =
+    unit_row row i inside one before
+    (subst (All (λ a. a ≡ 0))
+    (take_all (length row - (i + 1)) (drop (i + 1) row) (omega (arith, length-drop (i + 1) row))
+    ∙ ap (λ n. drop n row) (add-one i)) after)
 
 identity-size : (n : ℕ) → length (identity n) ≡ n
 identity-size n = sized-size n n (identity n) (sized-identity n)

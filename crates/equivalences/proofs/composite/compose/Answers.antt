@@ -1,6 +1,4 @@
-use Rattle.std.proofs.Common.{◌+◌, length, ◌∙◌, ap}
-use Rattle.std.proofs.lemmas.List.{length_push}
-use Rattle.equivalences.proofs.ComposedBlocks.{none-hold, more-hold, whole-composite, composite-joins}
+use Rattle.equivalences.proofs.ComposedBlocks.{count-push, more-hold, whole-composite, composite-joins}
 use Rattle.equivalences.proofs.composite.compose.Goals as goal
 
 pub loop-k-preserved : goal.loop-k-preserved
@@ -11,11 +9,11 @@ loop-k-preserved g c =
     let iota = c.in_ok-iota_at.field-0 in
     let h = c.in_ok-h_at.field-0 in
     record {
-      pi_count = ap length c.in_ok-push.ensures.items ∙ length_push c.loop-k.pi.items pi ∙ ap (λ n. n + 1) before.pi_count;
-      iota_count = ap length c.in_ok-push-2.ensures.items ∙ length_push c.loop-k.iota.items iota
-          ∙ ap (λ n. n + 1) before.iota_count;
-      h_count = ap length c.in_ok-push-3.ensures.items ∙ length_push c.loop-k.h.items h
-          ∙ ap (λ n. n + 1) before.h_count;
+      pi_count = count-push c.loop-k.pi.items c.push.new.self.items pi k before.pi_count c.in_ok-push.ensures.items;
+      iota_count = count-push c.loop-k.iota.items c.push-in-loop-k.new.self.items iota k before.iota_count
+          c.in_ok-push-2.ensures.items;
+      h_count = count-push c.loop-k.h.items c.push-in-loop-k-2.new.self.items h k before.h_count
+          c.in_ok-push-3.ensures.items;
       composite = λ C D E one two.
           more-hold (g.F.Scalars.ops c.args.f.now) c.args.first.now c.args.second.now C E k
           c.loop-k.pi.items c.loop-k.iota.items c.loop-k.h.items

@@ -9,5 +9,5 @@ invariant-loop-k g l = record {
   iota_count : length l.iota.items ≡ l.k;
   h_count : length l.h.items ≡ l.k;
   composite : ForComposable (g.F.Scalars.ops l.f) l.first l.second
-      (λ C D E. HoldComposite (g.F.Scalars.ops l.f) l.first l.second C E l.pi.items l.iota.items l.h.items)
+      (λ C D E. HoldComposite (g.F.Scalars.ops l.f) l.first l.second C E l.pi.items l.iota.items l.h.items);
 }
