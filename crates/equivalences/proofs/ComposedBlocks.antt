@@ -128,8 +128,8 @@ module _ (K : Ops) (first second : Equivalence) where
       (graded_matrix second.h)
 
   -- each block of a degree
-  module _ (F : IsField K) (C D E : CellularComplex) (one : AreMapsBetween K C D first) (two : AreMapsBetween K D E second)
-      (k : ℕ) where
+  module _ (F : IsField K) (C D E : CellularComplex) (one : AreMapsBetween K C D first)
+      (two : AreMapsBetween K D E second) (k : ℕ) where
     pub pi-holds : (a b c : Block) → slice_get second.pi k ≡ Some a → slice_get first.pi k ≡ Some b
         → IsBlock c a.rows b.cols (product K b.cols (matrix_of a) (matrix_of b)) → AllScalars K c.entries
         → HoldsMatrix K (coordinates E k) (coordinates C k) (pi_matrix C k) c
@@ -205,7 +205,8 @@ module _ (K : Ops) (first second : Equivalence) where
       → HoldsMatrix K (coordinates C k) (coordinates E k) (iota_matrix E k) i
       → HoldsMatrix K (coordinates C k) (coordinates C (suc k)) (h_matrix C k) q
       → pi' ≡ pi ++ p ∷ [] → iota' ≡ iota ++ i ∷ [] → h' ≡ h ++ q ∷ [] → HoldComposite C E pi' iota' h'
-  more-hold C E k pi iota h pi' iota' h' p i q all pi_size iota_size h_size pi_next iota_next h_next pi_is iota_is h_is =
+  more-hold C E k pi iota h pi' iota' h' p i q all pi_size iota_size h_size pi_next iota_next h_next pi_is iota_is
+      h_is =
       record {
         pi_holds = one-more (coordinates E) (coordinates C) (pi_matrix C) pi pi' p pi_size all.pi_holds pi_next pi_is;
         iota_holds = one-more (coordinates C) (coordinates E) (iota_matrix E) iota iota' i iota_size all.iota_holds

@@ -1,4 +1,5 @@
-//! Equivalences of block complexes in memory: their three maps, as joined matrices for each degree, and how two compose.
+//! Equivalences of block complexes in memory: their three maps, as joined matrices for each degree, and the composite
+//! of two.
 #![tactic(auto)]
 
 mod composite;
