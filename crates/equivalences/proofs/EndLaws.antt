@@ -35,7 +35,8 @@ use Rattle.equivalence_laws.specs.Composites.{AreRemovals, removal_pairs, rest_o
 use Rattle.equivalence_laws.specs.Composites.{removals_pi, removals_iota, removals_h}
 use Rattle.equivalence_laws.proofs.CompositeLaws.{composite_is_equivalence}
 use Rattle.equivalence_laws.proofs.ReductionLaws.{removals-after}
-use Rattle.equivalences.specs.GradedBlocks.{graded_matrix, IsBlockOver, AreBlocksOver}
+use Rattle.equivalences.specs.GradedBlocks.{IsBlockOver, AreBlocksOver}
+use Rattle.equivalence_laws.specs.Equivalences.{graded_matrix}
 use Rattle.equivalences.specs.Between.{IsEquivalenceOf}
 use Rattle.equivalence_laws.specs.Transposes.{transpose}
 use Rattle.equivalence_laws.specs.CellMaps.{CellMaps, AreCellMapsOf}

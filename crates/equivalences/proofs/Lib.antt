@@ -7,3 +7,5 @@ pub mod CellRowLaws
 pub mod AddLaws
 pub mod UnitLaws
 pub mod StoredLaws
+pub mod Identities
+pub mod ComposedBlocks

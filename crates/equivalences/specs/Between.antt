@@ -1,9 +1,10 @@
 -- Equivalences in memory, as those of two complexes.
-use Rattle.std.specs.Prelude.{ℕ, suc}
+use Rattle.std.specs.Prelude.{suc}
 use Rattle.dense_blocks.specs.Field.{Ops}
 use Rattle.cochain_vec.specs.Complexes.{CellularComplex, coordinates}
 use Rattle.equivalence_laws.specs.Equivalences.{IsEquivalence}
-use Rattle.equivalences.specs.GradedBlocks.{graded_matrix, AreBlocksOver}
+use Rattle.equivalences.specs.GradedBlocks.{AreBlocksOver}
+use Rattle.equivalence_laws.specs.Equivalences.{graded_matrix}
 use Rattle.equivalences.specs.declared.equivalence.Equivalence.{Equivalence}
 
 -- blocks for C and D: in each degree, pi goes from C to D, iota from D to C, and h comes from the degree above of C

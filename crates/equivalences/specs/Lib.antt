@@ -3,3 +3,4 @@ pub mod Between
 pub mod Rows
 pub mod LogMaps
 pub mod Stored
+pub mod Composition

@@ -5,7 +5,7 @@ ghost use Rattle.block_complexes.specs.Cochains.{complex_of};
 ghost use Rattle.block_sparse.specs.StoredBlocks.{complex_in};
 ghost use Rattle.reduce_step.specs.Logs.{AreStepsFrom, pairs_of};
 ghost use Rattle.equivalence_laws.specs.Composites.{IsCompositeOfPairs};
-ghost use Rattle.equivalences.specs.GradedBlocks.{graded_matrix};
+ghost use Rattle.equivalence_laws.specs.Equivalences.{graded_matrix};
 ghost use Rattle.equivalences.specs.Between.{IsEquivalenceOf};
 
 use crate::equivalence::Equivalence;

@@ -7,7 +7,8 @@ use Rattle.std.proofs.lemmas.Option.{slice_get_cases}
 use Rattle.dense_blocks.specs.Blocks.{matrix_of}
 use Rattle.dense_blocks.specs.Matrices.{cut}
 use Rattle.dense_blocks.specs.declared.block.Block.{Block}
-use Rattle.core_machine.specs.Replies.{AreGradedBlocks, graded_matrix}
+use Rattle.core_machine.specs.Replies.{AreGradedBlocks}
+use Rattle.equivalence_laws.specs.Equivalences.{graded_matrix}
 
 -- the block of degree k has m k rows and n k columns
 pub record HaveRowsAndColumns (m n : ℕ → ℕ) (blocks : List Block) : Type 0 where

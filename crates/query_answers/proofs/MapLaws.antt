@@ -18,7 +18,8 @@ use Rattle.reduce_step.specs.Logs.{AreStepsFrom, pairs_of}
 use Rattle.reduce_step.proofs.LogLaws.{steps-after}
 use Rattle.pair_commit.specs.Slots.{SlotValue, IsSlot}
 use Rattle.sheaf_words.specs.declared.reply.Maps.{Maps}
-use Rattle.core_machine.specs.Replies.{Reduction, AreGradedBlocks, AreRightMaps, graded_matrix}
+use Rattle.core_machine.specs.Replies.{Reduction, AreGradedBlocks, AreRightMaps}
+use Rattle.equivalence_laws.specs.Equivalences.{graded_matrix}
 use Rattle.equivalences.specs.Between.{IsEquivalenceOf}
 use Rattle.equivalences.specs.declared.equivalence.Equivalence.{Equivalence}
 use Rattle.query_answers.specs.SlotReductions.{IsReductionIn}

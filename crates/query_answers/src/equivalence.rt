@@ -4,7 +4,8 @@ ghost use Rattle.block_complexes.specs.BlockComplexes.{HaveSameMatrices};
 ghost use Rattle.block_complexes.specs.Cochains.{complex_of};
 ghost use Rattle.block_sparse.specs.StoredBlocks.{complex_in};
 ghost use Rattle.equivalence_laws.specs.Composites.{IsCompositeOfPairs};
-ghost use Rattle.core_machine.specs.Replies.{Reduction, AreRightMaps, graded_matrix};
+ghost use Rattle.core_machine.specs.Replies.{Reduction, AreRightMaps};
+ghost use Rattle.equivalence_laws.specs.Equivalences.{graded_matrix};
 ghost use Rattle.query_answers.specs.SlotReductions.{IsReductionIn};
 
 use crate::reduction::live_cells;
