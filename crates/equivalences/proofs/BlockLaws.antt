@@ -7,7 +7,7 @@ use Rattle.std.proofs.lemmas.List.Elements.{All-head}
 use Rattle.dense_blocks.specs.Field.{Ops}
 use Rattle.dense_blocks.specs.Vectors.{AllScalars}
 use Rattle.dense_blocks.specs.Matrices.{cut}
-use Rattle.dense_blocks.specs.MatrixFacts.{zero_matrix}
+use Rattle.dense_blocks.specs.MatrixFacts.{IsMatrix, zero_matrix}
 use Rattle.dense_blocks.specs.Blocks.{matrix_of}
 use Rattle.dense_blocks.specs.BlockFacts.{IsBlock}
 use Rattle.dense_blocks.specs.declared.block.Block.{Block}
@@ -29,7 +29,7 @@ sized-width (suc m) n w (r ∷ A) s h l = sym s.0 ∙ All-head (λ row. length r
 
 wide-entries : (m n w : ℕ) (A : List (List ℕ)) (xs : List ℕ) → HasShape m n A → cut m w xs ≡ A → length xs ≡ m * w
     → (length xs ≡ m * n) × (cut m n xs ≡ A)
-wide-entries zero n w A xs h e full = (full, e)
+wide-entries zero n w A xs h e full = (omega (arith, full), e)
 wide-entries (suc m) n w A xs h e full =
     let same : w ≡ n = sized-width (suc m) n w A (subst (Sized (suc m) w) e (sized-cut (suc m) w xs
     (omega (arith, full)))) h.widths (omega arith) in
@@ -40,8 +40,17 @@ pub wide-block : (m n : ℕ) (A : List (List ℕ)) (b : Block) → HasShape m n 
     → (b.rows ≡ m) × (length b.entries ≡ m * n) × (cut m n b.entries ≡ A)
 wide-block m n A b h e =
     let rows : b.rows ≡ m = sym (cut-size b.rows b.cols b.entries) ∙ ap length e ∙ h.count in
-    (rows, wide-entries m n b.cols A b.entries h (ap (λ k. cut k b.cols b.entries) (sym rows) ∙ e)
-    (b.full ∙ ap (λ k. k * b.cols) rows))
+    let entries = wide-entries m n b.cols A b.entries h (ap (λ k. cut k b.cols b.entries) (sym rows) ∙ e)
+    (b.full ∙ ap (λ k. k * b.cols) rows) in
+    (rows, entries.0, entries.1)
+
+pub block-same : {m m' n n' : ℕ} {A A' : List (List ℕ)} (b : Block) → m ≡ m' → n ≡ n' → A ≡ A' → IsBlock b m n A
+    → IsBlock b m' n' A'
+block-same b rows columns same is = record {
+  rows_are = is.rows_are ∙ rows;
+  columns_are = is.columns_are ∙ columns;
+  matrix_is = is.matrix_is ∙ same;
+}
 
 pub transposed-block : (m n : ℕ) (A : List (List ℕ)) (a b : Block) → IsBlock a m n A
     → IsBlock b a.cols a.rows (transpose a.cols (matrix_of a)) → IsBlock b n m (transpose n A)
@@ -50,6 +59,11 @@ transposed-block m n A a b is t = record {
   columns_are = t.columns_are ∙ is.rows_are;
   matrix_is = t.matrix_is ∙ ap₂ transpose is.columns_are is.matrix_is;
 }
+
+pub matrix-same : (K : Ops) {m m' n n' : ℕ} {A A' : List (List ℕ)} → m ≡ m' → n ≡ n' → A ≡ A' → IsMatrix K m n A
+    → IsMatrix K m' n' A'
+matrix-same K {n = n} {A = A} rows columns same h = subst (IsMatrix K _ _) same
+    (subst (λ n. IsMatrix K _ n A) columns (subst (λ m. IsMatrix K m n A) rows h))
 
 pub matrix-scalars : (K : Ops) (m n : ℕ) (b : Block) → Matrix K m n (matrix_of b) → AllScalars K b.entries
 matrix-scalars K m n b h = subst (AllScalars K) (flat-cut b.rows b.cols b.entries b.full)

@@ -9,12 +9,12 @@ invariant_of-result-clause-rows_fit c =
 
 pub invariant_of-result-clause-full : goal.invariant_of-result-clause-full
 invariant_of-result-clause-full c = (wide-block c.args.count c.args.width c.args.rows.now c.in_ok-block.block
-    c.requires.shape c.in_ok-block.ensures).1.0
+    c.requires.shape c.in_ok-block.ensures).1
 
 pub returns : goal.returns
 returns c = record {
   rows_are = refl;
   columns_are = refl;
   matrix_is = (wide-block c.args.count c.args.width c.args.rows.now c.in_ok-block.block c.requires.shape
-      c.in_ok-block.ensures).1.1;
+      c.in_ok-block.ensures).2;
 }
