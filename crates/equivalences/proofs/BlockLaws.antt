@@ -62,8 +62,8 @@ transposed-block m n A a b is t = record {
 
 pub matrix-same : (K : Ops) {m m' n n' : ℕ} {A A' : List (List ℕ)} → m ≡ m' → n ≡ n' → A ≡ A' → IsMatrix K m n A
     → IsMatrix K m' n' A'
-matrix-same K {n = n} {A = A} rows columns same h = subst (IsMatrix K _ _) same
-    (subst (λ n. IsMatrix K _ n A) columns (subst (λ m. IsMatrix K m n A) rows h))
+matrix-same K {m} {m'} {n} {n'} {A} {A'} rows columns same h = subst (IsMatrix K m' n') same
+    (subst (λ n. IsMatrix K m' n A) columns (subst (λ m. IsMatrix K m n A) rows h))
 
 pub matrix-scalars : (K : Ops) (m n : ℕ) (b : Block) → Matrix K m n (matrix_of b) → AllScalars K b.entries
 matrix-scalars K m n b h = subst (AllScalars K) (flat-cut b.rows b.cols b.entries b.full)

@@ -13,7 +13,7 @@ pub wide_block-requires-clause-shape : goal.wide_block-requires-clause-shape
 wide_block-requires-clause-shape c =
     let k : ℕ = c.loop-k.k in
     let inside : k < length c.args.h.now = omega (arith, c.loop-k-test.true, c.requires.count) in
-    let same = get_or_read c.args.h.now k c.index-h-k.result.now inside c.index-h-k.ensures [] in
+    let same = get_or_read c.args.h.now k c.index-h-k.result inside c.index-h-k.is [] in
     subst (λ A. HasShape c.coordinates_of-count.result c.coordinates_of-width.result A) (sym same)
     (subst (λ m. HasShape m c.coordinates_of-width.result (get_or c.args.h.now k [])) (sym c.coordinates_of-count.ensures.is)
     (subst (λ n. HasShape (coordinates (complex_of (complex_in c.args.base.now)) k) n (get_or c.args.h.now k []))
@@ -24,7 +24,7 @@ loop-k-preserved c =
     let C : ℕ → ℕ = coordinates (complex_of (complex_in c.args.base.now)) in
     let k : ℕ = c.loop-k.k in
     let inside : k < length c.args.h.now = omega (arith, c.loop-k-test.true, c.requires.count) in
-    let same = get_or_read c.args.h.now k c.index-h-k.result.now inside c.index-h-k.ensures [] in
+    let same = get_or_read c.args.h.now k c.index-h-k.result inside c.index-h-k.is [] in
     record {
       count = ap length c.in_ok-push.ensures.items ∙ length_push c.loop-k.joined.items c.in_ok-block.block
           ∙ ap (λ n. n + 1) c.loop-k.invariant.count;
