@@ -2,23 +2,25 @@
 use Rattle.std.proofs.Common.{◌≡◌, ◌≢◌, ◌≤◌, ◌<◌, ◌*◌, ℕ, zero, suc, ◌+◌, Bool, true, false, cond, ◌&&◌, ◌||◌, eqb, not}
 use Rattle.std.proofs.Common.{inl, inr, refl, sym, ap, ap₂, ◌∙◌, subst, arith, List, [], ◌∷◌, ◌++◌, length, map, take, drop}
 use Rattle.std.proofs.Common.{get_or, All, take-append-drop, length-drop}
-use Rattle.std.specs.Prelude.{◌==◌}
+use Rattle.std.specs.Prelude.{◌==◌, filter}
 use Rattle.std.proofs.lemmas.Bool.{cases_eq, eq-eqb, ne_eqb, and_parts}
 use Rattle.std.proofs.lemmas.List.{get_or-map, length-map}
 use Rattle.dense_blocks.specs.Field.{Ops}
 use Rattle.dense_blocks.specs.FieldLaws.{IsField}
 use Rattle.dense_blocks.specs.Vectors.{AllScalars}
-use Rattle.dense_blocks.specs.MatrixFacts.{IsMatrix, zero_matrix}
+use Rattle.dense_blocks.specs.Matrices.{product}
+use Rattle.dense_blocks.specs.MatrixFacts.{IsMatrix, matrix_negative, zero_matrix}
 use Rattle.dense_blocks.specs.Blocks.{matrix_of}
 use Rattle.dense_blocks.specs.BlockFacts.{IsBlock}
 use Rattle.dense_blocks.specs.declared.block.Block.{Block}
 use Rattle.dense_blocks.proofs.Shapes.{Matrix, to_matrix, from_matrix, matrix-size, append-matrix}
 use Rattle.dense_blocks.proofs.Cutting.{Sized, cut-size, flat-cut, flat-scalars}
-use Rattle.cochain_vec.specs.Complexes.{CellularComplex, coordinates}
+use Rattle.cochain_vec.specs.Complexes.{CellularComplex, coordinates, total_size}
 use Rattle.rising_lists.specs.Rising.{ByCell, IsRising, has, keys}
 use Rattle.rising_lists.proofs.Keyed.{rising_tail, head-absent, has-at}
 use Rattle.block_complexes.specs.BlockComplexes.{BlockComplex, IsBlockComplex, cells, degree_of, size_of}
-use Rattle.block_complexes.specs.Cochains.{complex_of}
+use Rattle.block_complexes.specs.Cochains.{complex_of, of_degree}
+use Rattle.removals.proofs.CornerLaws.{without-twice}
 use Rattle.block_sparse.specs.StoredBlocks.{AreLive, is_zero}
 use Rattle.block_sparse.specs.Grids.{segment, width}
 use Rattle.block_sparse.proofs.GridLaws.{sized-live, key-listed}
@@ -34,9 +36,11 @@ use Rattle.equivalence_laws.specs.CellMaps.{CellMaps, AreRowsAt}
 use Rattle.equivalence_laws.proofs.TransposeLaws.{transpose-matrix, transpose-length}
 use Rattle.equivalence_laws.proofs.CompositeLaws.{last_is}
 use Rattle.equivalences.specs.GradedBlocks.{IsBlockOver}
-use Rattle.equivalences.specs.Rows.{cell_rows_of}
+use Rattle.equivalences.specs.Rows.{cell_rows_of, with_product, with_products}
 use Rattle.equivalences.specs.LogMaps.{IsNextStep, step_removal}
 use Rattle.equivalences.proofs.RowLaws.{width-known}
+use Rattle.equivalences.proofs.BlockLaws.{matrix-scalars}
+use Rattle.equivalences.proofs.LiveLaws.{degree-within, rest-coordinates}
 use Rattle.equivalences.proofs.NextLaws as next_laws
 
 -- a matrix is one of scalars where its part at each listed cell is
@@ -196,6 +200,13 @@ module _ (K : Ops) (F : IsField K) (v : BlockComplex) (rs : List Removal) (m : C
       next.maps.pi_rows next.maps.iota_rows h_rows c h))
       (transpose-matrix K F (size step.y) (size c) (u.matrix c step.y) (M-shape c step.y (left-live c h) y-live))))
 
+  pub column-scalars : AllScalars K step.column.entries
+  column-scalars = matrix-scalars K (width step.below) (size step.x) step.column column-matrix
+
+  pub row-scalars : (b : Block) → matrix_of b ≡ transpose step.row.cols (matrix_of step.row) → AllScalars K b.entries
+  row-scalars b e = matrix-scalars K (width step.left) (size step.y) b
+      (subst (Matrix K (width step.left) (size step.y)) (sym e) row-matrix)
+
   -- the rows at the listed cells
   pub rows-at-below : (c : ℕ) → has c (keys step.below) ≡ true → IsMatrix K (size c) high (m.pi c)
   rows-at-below c h =
@@ -247,3 +258,55 @@ module _ (K : Ops) (F : IsField K) (v : BlockComplex) (rs : List Removal) (m : C
       step.left
   left-all rows within same = listed-all step.left step.x low rows m.iota step.parts.without_x
       next.step_from.left_sized columns-at-left within same
+
+  -- the degree of x has coordinates
+  pub some-low : 1 ≤ low
+  some-low =
+      let own : 1 ≤ total_size (of_degree k u.live) =
+      subst (λ live. 1 ≤ total_size (of_degree (degree_of live step.x) live)) next.maps.live_is
+      (degree-within m.live step.x fits x-in).1 in
+      omega (arith, own, rest-coordinates K v rs k next.removals)
+
+  pub k-below : k ≤ 15
+  k-below = subst (λ d. d ≤ 15) degree-x (degree-within m.live step.x fits x-in).0
+
+  -- the blocks that the calls make give the update
+  pub calls-update : (rows columns moved through row : Block) → matrix_of rows ≡ m.pi step.y
+      → matrix_of columns ≡ m.iota step.x
+      → IsBlock moved step.inverse.rows rows.cols (product K rows.cols (matrix_of step.inverse) (matrix_of rows))
+      → IsBlock through step.inverse.cols columns.cols
+      (product K columns.cols (transpose step.inverse.cols (matrix_of step.inverse)) (matrix_of columns))
+      → matrix_of row ≡ transpose step.row.cols (matrix_of step.row)
+      → (m' : CellMaps)
+      → m'.live ≡ filter (λ l. not (l.0 == step.y)) (filter (λ l. not (l.0 == step.x)) m.live)
+      → ((c : ℕ) → c ≢ step.x → c ≢ step.y → m'.pi c ≡ with_products K moved.cols step.below (matrix_of step.column)
+      (matrix_negative K (matrix_of moved)) c (m.pi c))
+      → ((c : ℕ) → c ≢ step.x → c ≢ step.y → m'.iota c ≡ with_products K through.cols step.left (matrix_of row)
+      (matrix_negative K (matrix_of through)) c (m.iota c))
+      → ((j : ℕ) → k ≢ j → m'.h j ≡ m.h j)
+      → m'.h k ≡ with_product K moved.cols (m.h k) (transpose columns.cols (matrix_of columns)) (matrix_of moved)
+      → next_laws.IsUpdate K k low high step m m'
+  calls-update rows columns moved through row is_rows is_columns is_moved is_through is_row m' live pi iota h h_k =
+      let row_width : rows.cols ≡ high = (rows-over rows is_rows).columns_are in
+      let column_width : columns.cols ≡ low = (columns-over columns is_columns).columns_are in
+      let pi_moved : matrix_of moved ≡ next_laws.moved_rows K high step m = is_moved.matrix_is
+      ∙ ap₂ (λ n A. product K n (matrix_of step.inverse) A) row_width is_rows in
+      let iota_moved : matrix_of through ≡ next_laws.moved_columns K low step m = is_through.matrix_is
+      ∙ ap₂ (λ n A. product K n (transpose step.inverse.cols (matrix_of step.inverse)) A) column_width is_columns in
+      let high_is : moved.cols ≡ high = is_moved.columns_are ∙ row_width in
+      let low_is : through.cols ≡ low = is_through.columns_are ∙ column_width in
+      record {
+        live_is = live ∙ without-twice step.x step.y m.live;
+        pi_is = λ c nx ny. pi c nx ny ∙ ap₂ (λ n A. with_products K n step.below (matrix_of step.column)
+            (matrix_negative K A) c (m.pi c)) high_is pi_moved;
+        iota_is = λ c nx ny.
+            iota c nx ny
+            ∙ ap (λ J. with_products K through.cols step.left J (matrix_negative K (matrix_of through)) c (m.iota c))
+            is_row
+            ∙ ap₂ (λ n A. with_products K n step.left (transpose step.row.cols (matrix_of step.row))
+            (matrix_negative K A) c (m.iota c)) low_is iota_moved;
+        h_same = h;
+        h_next = h_k
+            ∙ ap₂ (λ n A. with_product K moved.cols (m.h k) (transpose n A) (matrix_of moved)) column_width is_columns
+            ∙ ap₂ (λ n A. with_product K n (m.h k) (transpose low (m.iota step.x)) A) high_is pi_moved;
+      }

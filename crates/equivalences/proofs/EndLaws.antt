@@ -51,7 +51,7 @@ slice_get-none (x ∷ xs) zero e = absurd (let bad : Some x ≡ None = e in cc)
 slice_get-none (x ∷ xs) (suc k) e = let l : length xs ≤ k = slice_get-none xs k e in omega arith
 
 -- no live cell has a degree above the highest
-of_degree-none : (k : ℕ) (live : List (ℕ × ℕ × ℕ)) → All (λ (l : ℕ × ℕ × ℕ). l.1 ≤ 15) live → 16 ≤ k
+pub of_degree-none : (k : ℕ) (live : List (ℕ × ℕ × ℕ)) → All (λ (l : ℕ × ℕ × ℕ). l.1 ≤ 15) live → 16 ≤ k
     → of_degree k live ≡ []
 of_degree-none k [] h l = refl
 of_degree-none k (c ∷ cs) h l =

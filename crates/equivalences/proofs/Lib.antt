@@ -6,6 +6,8 @@ pub mod EndLaws
 pub mod CellRowLaws
 pub mod AddLaws
 pub mod UnitLaws
+pub mod BlockLaws
+pub mod LiveLaws
 pub mod StoredLaws
 pub mod Identities
 pub mod ComposedBlocks

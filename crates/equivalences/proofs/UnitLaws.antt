@@ -91,17 +91,17 @@ starts-next live starts i inside size below are k l = elim (cases_eq (get_or liv
     get_or-set-other (y ∷ xs) (suc i) zero a n = refl
     get_or-set-other (y ∷ xs) (suc i) (suc k) a n = get_or-set-other xs i k a (λ e. n (ap suc e))
 
-pub units-next : (live : List (ℕ × ℕ × ℕ)) (rows new : List (List (List ℕ))) (i : ℕ) (r : List (List ℕ))
-    → length rows ≡ i → new ≡ rows ++ r ∷ [] → r ≡ units_at live i
-    → ((j : ℕ) → j < i → get_or rows j [] ≡ units_at live j)
-    → (j : ℕ) → j < i + 1 → get_or new j [] ≡ units_at live j
-units-next live rows new i r size e is before j l = elim (cases_eq j i) [
+-- a member more at the end
+pub members-next : {A : Type 0} (f : ℕ → A) (d : A) (xs new : List A) (i : ℕ) (a : A) → length xs ≡ i
+    → new ≡ xs ++ a ∷ [] → a ≡ f i → ((j : ℕ) → j < i → get_or xs j d ≡ f j)
+    → (j : ℕ) → j < i + 1 → get_or new j d ≡ f j
+members-next f d xs new i a size e is before j l = elim (cases_eq j i) [
   | inl here ↦
-      ap (λ xs. get_or xs j []) e ∙ ap (λ j. get_or (rows ++ r ∷ []) j []) here ∙ get_or_at rows r [] [] i size ∙ is
-      ∙ ap (units_at live) (sym here)
+      ap (λ ys. get_or ys j d) e ∙ ap (λ j. get_or (xs ++ a ∷ []) j d) here ∙ get_or_at xs a [] d i size ∙ is
+      ∙ ap f (sym here)
   | inr n ↦
       let below : j < i = omega (arith, l, n) in
-      ap (λ xs. get_or xs j []) e ∙ get_or_append_left rows (r ∷ []) [] j (omega (arith, below, size)) ∙ before j below
+      ap (λ ys. get_or ys j d) e ∙ get_or_append_left xs (a ∷ []) d j (omega (arith, below, size)) ∙ before j below
 ]
 
 -- the cells of a degree have no more coordinates than a block complex

@@ -52,8 +52,8 @@ impl Maps {
         let live = base.live();
         let mut h = Vec::with_capacity(alloc, Equivalence::DEGREES)?;
         for k in 0..Equivalence::DEGREES {
-            let count = base.coordinates(k as u8);
-            let width = base.coordinates(k as u8 + 1);
+            let count = coordinates_of(base, k) as usize;
+            let width = coordinates_of(base, k + 1) as usize;
             let rows = Rows::zeros(alloc, count, width)?;
             h.push(rows)?;
         }
@@ -102,7 +102,7 @@ impl Maps {
         let Maps { live, pi, iota, h } = self;
         let joined_pi = joined_rows(alloc, base, &live, &pi)?;
         let joined_iota = joined_columns(alloc, base, &live, &iota)?;
-        let joined_h = blocks(alloc, base, h)?;
+        let joined_h = blocks(alloc, base, h.as_slice())?;
         Ok(Equivalence {
             pi: Listed::of(joined_pi),
             iota: Listed::of(joined_iota),
@@ -180,6 +180,18 @@ fn take_away<F: Scalars>(
     Ok(())
 }
 
+/// How many coordinates the base has in degree `k`.
+fn coordinates_of(base: &Blocks, k: usize) -> u32
+    requires { k ≤ 16 }
+    ensures is { result ≡ coordinates (complex_of (complex_in base.now)) k }
+    ensures fits { result ≤ 4096 }
+{
+    // Its clauses bound the sum.
+    let _live = base.live();
+    let count = base.coordinates(k as u8);
+    count as u32
+}
+
 /// In each degree the rows at the live cells, one after another.
 fn joined_rows(
     alloc: Global,
@@ -198,7 +210,7 @@ fn joined_rows(
 {
     let mut joined = Vec::with_capacity(alloc, Equivalence::DEGREES)?;
     for k in 0..Equivalence::DEGREES {
-        let width = base.coordinates(k as u8) as u32;
+        let width = coordinates_of(base, k);
         let block = rows.gather(alloc, live, k as u8, width)?;
         joined.push(block)?;
     }
@@ -223,7 +235,7 @@ fn joined_columns(
 {
     let mut joined = Vec::with_capacity(alloc, Equivalence::DEGREES)?;
     for k in 0..Equivalence::DEGREES {
-        let width = base.coordinates(k as u8) as u32;
+        let width = coordinates_of(base, k);
         let rows = columns.gather(alloc, live, k as u8, width)?;
         let block = transposed(alloc, &rows)?;
         joined.push(block)?;
@@ -232,23 +244,34 @@ fn joined_columns(
 }
 
 /// In each degree the rows as a block.
-fn blocks(alloc: Global, base: &Blocks, h: Vec<Rows>) -> Result<Vec<Block>, NoMemory>
-    requires count { length h.items ≡ 16 }
+fn blocks(alloc: Global, base: &Blocks, h: &[Rows]) -> Result<Vec<Block>, NoMemory>
+    requires count { length h.now ≡ 16 }
     requires shapes { (k : ℕ) → HasShape (coordinates (complex_of (complex_in base.now)) k)
-        (coordinates (complex_of (complex_in base.now)) (k + 1)) (slice_index_or h.items k []) }
+        (coordinates (complex_of (complex_in base.now)) (k + 1)) (slice_index_or h.now k []) }
     ensures blocks { IfOk result (λ bs. AreBlocksOf (coordinates (complex_of (complex_in base.now)))
-        (λ k. coordinates (complex_of (complex_in base.now)) (k + 1)) (λ k. slice_index_or h.items k []) bs.items) }
+        (λ k. coordinates (complex_of (complex_in base.now)) (k + 1)) (λ k. slice_index_or h.now k []) bs.items) }
     ensures count { IfOk result (λ bs. length bs.items ≡ 16) }
 {
     let mut joined = Vec::with_capacity(alloc, Equivalence::DEGREES)?;
-    for (k, rows) in h.into_iter().enumerate() {
-        let width = base.coordinates(k as u8 + 1) as u32;
-        let block = rows.block(alloc)?;
-        joined.push(Block {
-            rows: block.rows,
-            cols: width,
-            entries: block.entries,
-        })?;
+    for k in 0..Equivalence::DEGREES {
+        let count = coordinates_of(base, k);
+        let width = coordinates_of(base, k + 1);
+        let block = wide_block(alloc, &h[k], count, width)?;
+        joined.push(block)?;
     }
     Ok(joined)
+}
+
+/// The rows as a block of `width` columns, even where there are none.
+fn wide_block(alloc: Global, rows: &Rows, count: u32, width: u32) -> Result<Block, NoMemory>
+    requires width { width ≤ 4096 }
+    requires shape { HasShape count width rows.now }
+    ensures { IfOk result (λ b. IsBlock b count width rows.now) }
+{
+    let block = rows.block(alloc)?;
+    Ok(Block {
+        rows: count,
+        cols: width,
+        entries: block.entries,
+    })
 }

@@ -19,7 +19,19 @@ loop-step-init g c = record {
 }
 
 pub loop-step-preserved : goal.loop-step-preserved
-loop-step-preserved g c = ?
+loop-step-preserved g c =
+    let K : Ops = g.F.Scalars.ops c.args.f.now in
+    record {
+      stored = c.in_ok-add.ensures.stored;
+      maps = at-next K (complex_in c.args.base.now) c.args.log.now c.loop-step.step-index c.step-item.result
+          (maps_of c.loop-step.maps) c.requires.complex c.requires.closed c.loop-step-test.true c.step-item.is
+          c.loop-step.invariant.maps (maps_of c.add.new.self) c.in_ok-add.ensures.step;
+    }
+
+pub join-requires-clause-shapes : goal.join-requires-clause-shapes
+join-requires-clause-shapes g c =
+    let at = c.loop-step.invariant.maps in
+    maps-shapes (g.F.Scalars.ops c.args.f.now) (complex_in c.args.base.now) at.0 (maps_of c.loop-step.maps) at.4
 
 pub returns-clause-composite : goal.returns-clause-composite
 returns-clause-composite g c =
@@ -32,7 +44,7 @@ returns-clause-composite g c =
       at.3 ∙ ap pairs_of (take_all c.loop-step.step-index log end),
       at.2,
       joined_composite K F (complex_in c.args.base.now) at.0 c.requires.complex c.requires.closed at.2
-          (maps_of c.loop-step.maps) at.4 c.live-_live.ensures.live_cells c.loop-step.invariant.stored.live_cells
+          (maps_of c.loop-step.maps) at.4 c.live-live.ensures.live_cells c.loop-step.invariant.stored.live_cells
           c.in_ok-equivalence.equivalence c.in_ok-equivalence.ensures,
     )
 
@@ -44,6 +56,6 @@ returns-clause-equivalence g c = λ w steps.
     let log = c.args.log.now in
     let end : length log ≤ c.loop-step.step-index = c.loop-step-test.false in
     joined_after K F (complex_in c.args.base.now) at.0 c.requires.complex c.requires.closed at.2
-    (maps_of c.loop-step.maps) at.4 c.live-_live.ensures.live_cells c.loop-step.invariant.stored.live_cells
+    (maps_of c.loop-step.maps) at.4 c.live-live.ensures.live_cells c.loop-step.invariant.stored.live_cells
     c.in_ok-equivalence.equivalence c.in_ok-equivalence.ensures log w
     (at.3 ∙ ap pairs_of (take_all c.loop-step.step-index log end)) steps

@@ -11,7 +11,7 @@ use Rattle.block_complexes.proofs.DegreeLaws.{value-within}
 use Rattle.block_sparse.specs.StoredBlocks.{AreLive}
 use Rattle.equivalence_laws.specs.Updates.{cell_rows}
 use Rattle.equivalences.specs.Rows.{cell_rows_of, unit_rows}
-use Rattle.equivalences.proofs.UnitLaws.{units_at, units-found, starts-next, units-next, coordinates-fit, no-starts}
+use Rattle.equivalences.proofs.UnitLaws.{units_at, units-found, starts-next, members-next, coordinates-fit, no-starts}
 use Rattle.equivalences.proofs.cell_rows.CellRows.units.Goals as goal
 
 pub loop-cell-init : goal.loop-cell-init
@@ -81,7 +81,7 @@ loop-cell-preserved c =
       starts = λ k l. ap₂ (λ d s. get_or (set starts d (get_or starts d 0 + s)) k 0) c.from-degree.ensures
           c.from-size.ensures
           ∙ starts-next live starts i inside c.loop-cell.invariant.starts_count below c.loop-cell.invariant.starts k l;
-      rows = units-next live c.loop-cell.rows.items c.push.new.self.items i c.units.result
+      rows = members-next (units_at live) [] c.loop-cell.rows.items c.push.new.self.items i c.units.result
           c.loop-cell.invariant.count c.in_ok-push.ensures.items made c.loop-cell.invariant.rows;
     }
 
