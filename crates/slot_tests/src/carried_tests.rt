@@ -36,37 +36,43 @@ fn next(rt: &impl Abort, alloc: Global, entry: Entry) -> Result<Slot<Field>, Fai
     Ok(Slot::start(alloc, slot.field(), b, kept)?)
 }
 
-/// Commits a carried pair with the inverse that comes along, and tells the pair and the inverse.
-fn commit_carried(rt: &impl Abort, alloc: Global, slot: &mut Slot<Field>) -> Result<Entry, Fail> {
+/// Commits a carried pair with the inverse that comes along, which have to be the cells and the entry of `wanted`.
+fn commit_carried(
+    rt: &impl Abort,
+    alloc: Global,
+    slot: &mut Slot<Field>,
+    wanted: Entry,
+) -> Result<(), Fail> {
     let Work::Carried(foot, inverse) = slot.take((0, 0))? else {
         panic!(rt; "nothing is carried")
     };
-    let entry = (foot.x, foot.y, inverse.entries.as_slice()[0]);
+    assert!(rt; (foot.x, foot.y) == (wanted.0, wanted.1));
+    assert!(rt; inverse.entries.as_slice() == [wanted.2].as_slice());
     let record = foot.finish_with(alloc, &slot.field(), inverse)?;
     commit(rt, slot, record)?;
-    Ok(entry)
-}
-
-/// With 2 from 2 to 5 both pivots stand; the inverse of 2 is 2. The removal of (0, 3) leaves 0 - 2 * 2 * 1 = 2 from 1
-/// to 5, that of (1, 4) leaves 2 - 2 * 2 * 1 = 1 from 2 to 5, and so (2, 5) is left to be tried.
-#[test]
-fn carries_pivots_over(rt: HostRuntime) -> Result<(), Fail> {
-    let mut slot = next(&rt, rt.alloc(), (2, 5, 2))?;
-    assert!(rt; commit_carried(&rt, rt.alloc(), &mut slot)? == (0, 3, 2));
-    assert!(rt; commit_carried(&rt, rt.alloc(), &mut slot)? == (1, 4, 2));
-    step(&rt, rt.alloc(), &mut slot)?;
-    assert!(rt; is_done(&mut slot)? && slot.now().live().is_empty());
     Ok(())
 }
 
-/// With 1 from 0 to 3 the pivot of (0, 3) no longer stands, and that of (1, 4) does. A copy carries as much.
+/// With 2 from 2 to 5 both pivots stand; the inverse of 2 is 2. The removal of (0, 3) leaves 0 - 2 * 2 * 1 = 2 from 1
+/// to 5, that of (1, 4) leaves 2 - 2 * 2 * 1 = 1 from 2 to 5, and so (2, 5) is left to be tried. A copy goes on alone.
+#[test]
+fn carries_pivots_over(rt: HostRuntime) -> Result<(), Fail> {
+    let mut slot = next(&rt, rt.alloc(), (2, 5, 2))?;
+    commit_carried(&rt, rt.alloc(), &mut slot, (0, 3, 2))?;
+    let mut copy = slot.copy(rt.alloc())?;
+    commit_carried(&rt, rt.alloc(), &mut copy, (1, 4, 2))?;
+    step(&rt, rt.alloc(), &mut copy)?;
+    assert!(rt; is_done(&mut copy)? && copy.now().live().is_empty());
+    assert!(rt; copy.log().len() == 3 && slot.log().len() == 1);
+    Ok(())
+}
+
+/// With 1 from 0 to 3 the pivot of (0, 3) no longer stands, and that of (1, 4) does.
 #[test]
 fn drops_a_pivot(rt: HostRuntime) -> Result<(), Fail> {
     let mut slot = next(&rt, rt.alloc(), (0, 3, 1))?;
     let dropped = slot.take((0, 0))?;
     assert!(rt; matches!(dropped, Work::Dropped { x: 0, y: 3 }));
-    let mut copy = slot.copy(rt.alloc())?;
-    assert!(rt; commit_carried(&rt, rt.alloc(), &mut copy)? == (1, 4, 2));
-    assert!(rt; slot.now().live().len() == 6);
+    commit_carried(&rt, rt.alloc(), &mut slot, (1, 4, 2))?;
     Ok(())
 }
