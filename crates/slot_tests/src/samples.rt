@@ -50,27 +50,6 @@ pub(crate) fn put_all(
     Ok(())
 }
 
-/// The circle with these blocks.
-pub(crate) fn circle(
-    rt: &impl Abort,
-    alloc: Global,
-    entries: &[Entry],
-) -> Result<Blocks, NoMemory> {
-    assert!(rt; Blocks::may_live(&CIRCLE));
-    let mut b = Blocks::of_cells(alloc, &CIRCLE)?;
-    put_all(rt, alloc, &mut b, entries)?;
-    Ok(b)
-}
-
-/// Two cells of two coordinates, with this block from 0 to 1.
-pub(crate) fn arrow(rt: &impl Abort, alloc: Global, entries: &[u8]) -> Result<Blocks, NoMemory> {
-    let cells = [(0, 0, 2), (1, 1, 2)];
-    assert!(rt; Blocks::may_live(&cells));
-    let mut b = Blocks::of_cells(alloc, &cells)?;
-    put(rt, alloc, &mut b, (0, 1), 2, entries)?;
-    Ok(b)
-}
-
 /// The slot of a block complex over the field, to which nothing is carried.
 pub(crate) fn start(
     rt: &impl Abort,
@@ -80,4 +59,26 @@ pub(crate) fn start(
 ) -> Result<Slot<Field>, NoMemory> {
     assert!(rt; b.is_over(&f) && b.has_no_flags());
     Slot::start(alloc, f, b, Vec::new(alloc))
+}
+
+/// The slot of the circle with these blocks.
+pub(crate) fn circle(
+    rt: &impl Abort,
+    alloc: Global,
+    f: Field,
+    entries: &[Entry],
+) -> Result<Slot<Field>, NoMemory> {
+    assert!(rt; Blocks::may_live(&CIRCLE));
+    let mut b = Blocks::of_cells(alloc, &CIRCLE)?;
+    put_all(rt, alloc, &mut b, entries)?;
+    start(rt, alloc, f, b)
+}
+
+/// Two cells of two coordinates, with this block from 0 to 1.
+pub(crate) fn arrow(rt: &impl Abort, alloc: Global, entries: &[u8]) -> Result<Blocks, NoMemory> {
+    let cells = [(0, 0, 2), (1, 1, 2)];
+    assert!(rt; Blocks::may_live(&cells));
+    let mut b = Blocks::of_cells(alloc, &cells)?;
+    put(rt, alloc, &mut b, (0, 1), 2, entries)?;
+    Ok(b)
 }
