@@ -29,12 +29,14 @@ fn mark_pivot(
 ) -> Result<Result<(), Differs>, NoMemory> {
     assert!(rt; foot.is_over(&slot.field()));
     match foot.finish(alloc, &slot.field()) {
-        Ok(Finish::Singular {
-            x,
-            y,
-            pivot,
-            kernel,
-        }) => Ok(slot.mark(x, y, &pivot, &kernel)),
+        Ok(
+            Finish::Singular {
+                x,
+                y,
+                pivot,
+                kernel,
+            },
+        ) => Ok(slot.mark(x, y, &pivot, &kernel)),
         Ok(Finish::Made(_)) => panic!(rt; "an inverse"),
         Err((_, fault)) => Err(fault),
     }

@@ -102,9 +102,7 @@ pub(crate) fn carried_step(
 }
 
 fn is_entry(foot: &Footprint, inverse: &Block, wanted: Entry) -> bool {
-    foot.x == wanted.0
-        && foot.y == wanted.1
-        && inverse.entries.as_slice() == [wanted.2].as_slice()
+    foot.x == wanted.0 && foot.y == wanted.1 && inverse.entries.as_slice() == [wanted.2].as_slice()
 }
 
 /// Whether the record with this inverse is committed.
