@@ -1,5 +1,5 @@
 -- Equivalences in memory, as those of two complexes.
-use Rattle.std.specs.Prelude.{ℕ, suc}
+use Rattle.std.specs.Prelude.{suc}
 use Rattle.dense_blocks.specs.Field.{Ops}
 use Rattle.cochain_vec.specs.Complexes.{CellularComplex, coordinates}
 use Rattle.equivalence_laws.specs.Equivalences.{IsEquivalence}

@@ -1,4 +1,4 @@
-use Rattle.std.proofs.Common.{◌≡◌, ◌≢◌, ◌≤◌, ◌+◌, ℕ, List, [], true, All, ap, ap₂, sym, ◌∙◌, refl, subst, arith, length}
+use Rattle.std.proofs.Common.{◌≡◌, ◌≤◌, ℕ, [], true, All, ap, sym, ◌∙◌, refl, subst, arith, length}
 use Rattle.std.proofs.lemmas.List.{length-set}
 use Rattle.dense_blocks.specs.Field.{Ops}
 use Rattle.dense_blocks.specs.FieldLaws.{IsField}
