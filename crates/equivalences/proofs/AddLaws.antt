@@ -1,19 +1,19 @@
 -- What a step's calls ask for: the shapes of its blocks, and of the rows at its cells.
-use Rattle.std.proofs.Common.{◌≡◌, ◌≢◌, ◌≤◌, ◌<◌, ◌*◌, ℕ, zero, suc, ◌+◌, Bool, true, false, cond, ◌&&◌, ◌||◌, eqb, not}
-use Rattle.std.proofs.Common.{inl, inr, refl, sym, ap, ap₂, ◌∙◌, subst, arith, List, [], ◌∷◌, ◌++◌, length, map, take, drop}
+use Rattle.std.proofs.Common.{◌≡◌, ◌≢◌, ◌≤◌, ◌<◌, ℕ, suc, ◌+◌, Bool, true, false, cond, ◌||◌, eqb, not}
+use Rattle.std.proofs.Common.{refl, sym, ap, ap₂, ◌∙◌, subst, arith, List, [], ◌∷◌, length, take, drop}
 use Rattle.std.proofs.Common.{get_or, All, take-append-drop, length-drop}
 use Rattle.std.specs.Prelude.{◌==◌, filter}
-use Rattle.std.proofs.lemmas.Bool.{cases_eq, eq-eqb, ne_eqb, and_parts}
+use Rattle.std.proofs.lemmas.Bool.{eq-eqb, ne_eqb}
 use Rattle.std.proofs.lemmas.List.{get_or-map, length-map}
 use Rattle.dense_blocks.specs.Field.{Ops}
 use Rattle.dense_blocks.specs.FieldLaws.{IsField}
 use Rattle.dense_blocks.specs.Vectors.{AllScalars}
 use Rattle.dense_blocks.specs.Matrices.{product}
-use Rattle.dense_blocks.specs.MatrixFacts.{IsMatrix, matrix_negative, zero_matrix}
+use Rattle.dense_blocks.specs.MatrixFacts.{IsMatrix, matrix_negative}
 use Rattle.dense_blocks.specs.Blocks.{matrix_of}
 use Rattle.dense_blocks.specs.BlockFacts.{IsBlock}
 use Rattle.dense_blocks.specs.declared.block.Block.{Block}
-use Rattle.dense_blocks.proofs.Shapes.{Matrix, to_matrix, from_matrix, matrix-size, append-matrix}
+use Rattle.dense_blocks.proofs.Shapes.{Matrix, to_matrix, matrix-size, append-matrix}
 use Rattle.dense_blocks.proofs.Cutting.{Sized, cut-size, flat-cut, flat-scalars}
 use Rattle.cochain_vec.specs.Complexes.{CellularComplex, coordinates, total_size}
 use Rattle.rising_lists.specs.Rising.{ByCell, IsRising, has, keys}
@@ -21,9 +21,9 @@ use Rattle.rising_lists.proofs.Keyed.{rising_tail, head-absent, has-at}
 use Rattle.block_complexes.specs.BlockComplexes.{BlockComplex, IsBlockComplex, cells, degree_of, size_of}
 use Rattle.block_complexes.specs.Cochains.{complex_of, of_degree}
 use Rattle.removals.proofs.CornerLaws.{without-twice}
-use Rattle.block_sparse.specs.StoredBlocks.{AreLive, is_zero}
+use Rattle.block_sparse.specs.StoredBlocks.{AreLive}
 use Rattle.block_sparse.specs.Grids.{segment, width}
-use Rattle.block_sparse.proofs.GridLaws.{sized-live, key-listed}
+use Rattle.block_sparse.proofs.GridLaws.{sized-live}
 use Rattle.block_sparse.proofs.Windows.{sized-cut}
 use Rattle.reduce_step.specs.declared.record.Step.{Step}
 use Rattle.reduce_step.specs.Differences.{listed_size}
@@ -32,12 +32,12 @@ use Rattle.reduce_step.proofs.DifferenceLaws.{live-size}
 use Rattle.equivalence_laws.specs.RemovalMaps.{Removal}
 use Rattle.equivalence_laws.specs.Composites.{rest_of}
 use Rattle.equivalence_laws.specs.Transposes.{transpose}
-use Rattle.equivalence_laws.specs.CellMaps.{CellMaps, AreRowsAt}
+use Rattle.equivalence_laws.specs.CellMaps.{CellMaps}
 use Rattle.equivalence_laws.proofs.TransposeLaws.{transpose-matrix, transpose-length}
 use Rattle.equivalence_laws.proofs.CompositeLaws.{last_is}
 use Rattle.equivalences.specs.GradedBlocks.{IsBlockOver}
 use Rattle.equivalences.specs.Rows.{cell_rows_of, with_product, with_products}
-use Rattle.equivalences.specs.LogMaps.{IsNextStep, step_removal}
+use Rattle.equivalences.specs.LogMaps.{IsNextStep}
 use Rattle.equivalences.proofs.RowLaws.{width-known}
 use Rattle.equivalences.proofs.BlockLaws.{matrix-scalars}
 use Rattle.equivalences.proofs.LiveLaws.{degree-within, rest-coordinates}

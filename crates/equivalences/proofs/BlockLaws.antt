@@ -15,7 +15,7 @@ use Rattle.dense_blocks.proofs.Shapes.{Matrix}
 use Rattle.dense_blocks.proofs.Cutting.{Sized, cut-size, flat-cut, flat-scalars}
 use Rattle.cochain_vec.specs.Complexes.{total_size, coordinates}
 use Rattle.block_complexes.specs.BlockComplexes.{BlockComplex}
-use Rattle.block_complexes.specs.Cochains.{complex_of, of_degree}
+use Rattle.block_complexes.specs.Cochains.{complex_of}
 use Rattle.block_sparse.specs.StoredBlocks.{AreLive}
 use Rattle.block_sparse.proofs.Windows.{sized-cut}
 use Rattle.equivalence_laws.specs.Transposes.{transpose}

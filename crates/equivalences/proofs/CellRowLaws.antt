@@ -2,8 +2,8 @@
 use Rattle.std.specs.List.{flat_map}
 use Rattle.std.specs.Option.{unwrap_or}
 use Rattle.std.proofs.Common.{◌≡◌, ◌≢◌, ℕ, zero, suc, ◌+◌, ◌*◌, ◌<◌, ◌≤◌, Bool, true, false, cond, eqb, List, [], ◌∷◌, ◌++◌}
-use Rattle.std.proofs.Common.{length, map, take, drop, get_or, set, All, refl, sym, ap, ap₂, ◌∙◌, subst, arith, Some}
-use Rattle.std.proofs.Common.{append_assoc, suc-add, zero-add, inl, inr, length-drop}
+use Rattle.std.proofs.Common.{length, take, drop, get_or, set, All, refl, sym, ap, ap₂, ◌∙◌, subst, arith, Some}
+use Rattle.std.proofs.Common.{suc-add, zero-add, inl, inr, length-drop}
 use Rattle.std.proofs.lemmas.Bool.{ne_eqb, eq-eqb, cases_eq}
 use Rattle.std.proofs.lemmas.List.{append-nil, drop_more, drop-drop, drop_all, length-take-le}
 use Rattle.std.proofs.lemmas.List.Elements.{All-tail, All-head, All-take, All-drop}

@@ -2,8 +2,8 @@
 use Rattle.std.specs.List.{flat_map}
 use Rattle.std.specs.Prelude.{slice_get}
 use Rattle.std.specs.Option.{option_map_or}
-use Rattle.std.proofs.Common.{◌≡◌, ℕ, zero, suc, ◌+◌, ◌<◌, ◌≤◌, Bool, true, false, List, [], ◌∷◌, length, All, eqb}
-use Rattle.std.proofs.Common.{refl, sym, ap, ap₂, ◌∙◌, subst, arith, Option, Some, None}
+use Rattle.std.proofs.Common.{◌≡◌, ℕ, zero, suc, ◌≤◌, List, [], ◌∷◌, length, All}
+use Rattle.std.proofs.Common.{refl, sym, ap, subst, arith, Option, Some, None}
 use Rattle.std.proofs.lemmas.Bool.{ne_eqb}
 use Rattle.std.proofs.lemmas.List.Elements.{All-tail, All-head}
 use Rattle.dense_blocks.specs.Field.{Ops}
@@ -20,8 +20,8 @@ use Rattle.dense_blocks.proofs.Cutting.{flat-cut, flat-scalars}
 use Rattle.cochain_vec.specs.declared.cell.Cell.{Cell}
 use Rattle.cochain_vec.specs.Complexes.{CellularComplex, coordinates, total_size}
 use Rattle.cochain_vec.specs.CochainComplexes.{IsCochainComplex}
-use Rattle.block_complexes.specs.BlockComplexes.{BlockComplex, IsBlockComplex, HaveSameMatrices}
-use Rattle.block_complexes.specs.Cochains.{complex_of, of_degree, cell_of}
+use Rattle.block_complexes.specs.BlockComplexes.{BlockComplex, IsBlockComplex}
+use Rattle.block_complexes.specs.Cochains.{complex_of, of_degree}
 use Rattle.block_complexes.proofs.SameLaws.{same-refl, same-complex}
 use Rattle.block_sparse.specs.StoredBlocks.{AreLive}
 use Rattle.removals.specs.Reductions.{IsAfter}
@@ -29,9 +29,9 @@ use Rattle.removals.proofs.ReductionLaws.{removals_leave_one}
 use Rattle.reduce_step.specs.declared.record.Step.{Step}
 use Rattle.reduce_step.specs.Logs.{AreStepsFrom, pairs_of}
 use Rattle.reduce_step.proofs.LogLaws.{steps-after}
-use Rattle.equivalence_laws.specs.Equivalences.{GradedMatrix, IsEquivalence, AreMatricesOf}
+use Rattle.equivalence_laws.specs.Equivalences.{GradedMatrix}
 use Rattle.equivalence_laws.specs.RemovalMaps.{Removal}
-use Rattle.equivalence_laws.specs.Composites.{AreRemovals, removal_pairs, rest_of, IsComposite, IsCompositeOfPairs}
+use Rattle.equivalence_laws.specs.Composites.{AreRemovals, removal_pairs, rest_of, IsComposite}
 use Rattle.equivalence_laws.specs.Composites.{removals_pi, removals_iota, removals_h}
 use Rattle.equivalence_laws.proofs.CompositeLaws.{composite_is_equivalence}
 use Rattle.equivalence_laws.proofs.ReductionLaws.{removals-after}

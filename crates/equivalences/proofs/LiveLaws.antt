@@ -5,9 +5,9 @@ use Rattle.std.proofs.lemmas.List.Elements.{All-filter, All-get_or}
 use Rattle.dense_blocks.specs.Field.{Ops}
 use Rattle.rising_lists.specs.Rising.{has}
 use Rattle.rising_lists.proofs.Keyed.{place_of}
-use Rattle.cochain_vec.specs.Complexes.{coordinates, total_size}
+use Rattle.cochain_vec.specs.Complexes.{total_size}
 use Rattle.block_complexes.specs.BlockComplexes.{BlockComplex, cells, degree_of}
-use Rattle.block_complexes.specs.Cochains.{complex_of, of_degree, cell_of}
+use Rattle.block_complexes.specs.Cochains.{of_degree, cell_of}
 use Rattle.block_complexes.proofs.LiveLaws.{cell-at, length-cells, of_cell-at}
 use Rattle.block_complexes.proofs.DegreeLaws.{value-within}
 use Rattle.block_complexes.proofs.WithoutLaws.{without, still-live, rising-without, total-without}

@@ -1,15 +1,12 @@
 -- The maps of a log, step by step, and the equivalence that they are.
-use Rattle.std.specs.List.{flat_map}
-use Rattle.std.proofs.Common.{◌≡◌, ℕ, zero, suc, ◌+◌, ◌<◌, ◌≤◌, List, [], ◌∷◌, ◌++◌, length, map, take, drop, get_or, All}
-use Rattle.std.proofs.Common.{refl, sym, ap, ap₂, ◌∙◌, subst, arith, Option, Some, None}
+use Rattle.std.proofs.Common.{◌≡◌, ℕ, ◌+◌, ◌<◌, List, [], ◌∷◌, ◌++◌, length, take, drop, get_or}
+use Rattle.std.proofs.Common.{refl, sym, ap, ap₂, ◌∙◌, subst}
 use Rattle.std.proofs.lemmas.List.{take_more, drop_more, map-append}
 use Rattle.dense_blocks.specs.Field.{Ops}
 use Rattle.dense_blocks.specs.FieldLaws.{IsField}
-use Rattle.rising_lists.specs.Rising.{IsRising, has}
-use Rattle.block_complexes.specs.BlockComplexes.{BlockComplex, IsBlockComplex, HaveSameMatrices, cells}
+use Rattle.block_complexes.specs.BlockComplexes.{BlockComplex, IsBlockComplex}
 use Rattle.block_complexes.specs.Cochains.{complex_of}
 use Rattle.cochain_vec.specs.CochainComplexes.{IsCochainComplex}
-use Rattle.block_complexes.proofs.SameLaws.{same-refl}
 use Rattle.reduce_step.specs.declared.record.Step.{Step}
 use Rattle.reduce_step.specs.Logs.{AreStepsFrom, pairs_of}
 use Rattle.equivalence_laws.specs.RemovalMaps.{Removal, IsRemovalFrom}

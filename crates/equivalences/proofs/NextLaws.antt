@@ -1,8 +1,8 @@
 -- What a step makes of the maps, by products added at listed cells, is what its removal makes of them.
 use Rattle.std.specs.Prelude.{◌==◌, not}
 use Rattle.std.specs.List.{list_all}
-use Rattle.std.proofs.Common.{◌≡◌, ◌≢◌, ◌≤◌, ℕ, zero, suc, Bool, true, false, cond, ◌&&◌, ◌||◌, ◌+◌, eqb, inl, inr, refl, sym, ap}
-use Rattle.std.proofs.Common.{ap₂, ◌∙◌, subst, arith, List, [], ◌∷◌, ◌++◌, length, map, All}
+use Rattle.std.proofs.Common.{◌≡◌, ◌≢◌, ℕ, zero, suc, Bool, true, false, ◌&&◌, ◌||◌, eqb, inl, inr, refl, sym, ap}
+use Rattle.std.proofs.Common.{ap₂, ◌∙◌, subst, arith, List, length}
 use Rattle.std.proofs.lemmas.Bool.{cases_eq, cases_Bool, eq-eqb, ne_eqb}
 use Rattle.dense_blocks.specs.Field.{Ops}
 use Rattle.dense_blocks.specs.FieldLaws.{IsField}
@@ -10,7 +10,6 @@ use Rattle.dense_blocks.specs.Vectors.{zeros, plus, combination}
 use Rattle.dense_blocks.specs.Matrices.{image_of, product}
 use Rattle.dense_blocks.specs.MatrixFacts.{IsMatrix, negative, matrix_negative, zero_matrix}
 use Rattle.dense_blocks.specs.Blocks.{matrix_of}
-use Rattle.dense_blocks.specs.declared.block.Block.{Block}
 use Rattle.dense_blocks.proofs.Shapes.{Vector, Matrix, to_matrix, from_matrix, matrix-size}
 use Rattle.dense_blocks.proofs.VectorLaws.{plus-zeros, negative-zeros, combination-vector, combination-combination}
 use Rattle.dense_blocks.proofs.VectorLaws.{combination-zeros}
@@ -22,17 +21,15 @@ use Rattle.dense_blocks.proofs.MatrixLaws.{combination-matrix_negative, zero_mat
 use Rattle.cochain_vec.specs.Complexes.{CellularComplex, coordinates}
 use Rattle.rising_lists.specs.Rising.{has, keys}
 use Rattle.block_complexes.specs.BlockComplexes.{BlockComplex, IsBlockComplex, cells, degree_of, size_of}
-use Rattle.block_complexes.specs.Cochains.{complex_of}
 use Rattle.removals.specs.Removals.{live_without}
 use Rattle.block_sparse.specs.StoredBlocks.{is_zero}
-use Rattle.block_sparse.specs.Grids.{segment, part, columns_of, width}
+use Rattle.block_sparse.specs.Grids.{segment, columns_of}
 use Rattle.block_sparse.proofs.ScalarBlocks.{zero-is}
 use Rattle.reduce_step.specs.declared.record.Step.{Step}
-use Rattle.reduce_step.specs.Differences.{listed_size}
 use Rattle.reduce_step.specs.Logs.{IsStepFrom}
 use Rattle.reduce_step.proofs.JoinedParts.{listed_size-live}
 use Rattle.reduce_step.proofs.PartLaws.{row-part, column-part}
-use Rattle.equivalence_laws.specs.RemovalMaps.{Removal, IsRemovalFrom}
+use Rattle.equivalence_laws.specs.RemovalMaps.{IsRemovalFrom}
 use Rattle.removals.proofs.CornerLaws as corners
 use Rattle.equivalences.specs.Rows.{with_product, with_products}
 use Rattle.equivalence_laws.specs.Transposes.{transpose}

@@ -1,24 +1,21 @@
 -- Joined coefficients times rows, added at listed cells; and the part of a transposed matrix at a cell.
-use Rattle.std.proofs.Common.{◌≡◌, ℕ, zero, suc, ◌+◌, ◌<◌, Bool, true, false, cond, ◌||◌, eqb, inl, inr, refl, sym, ap}
-use Rattle.std.proofs.Common.{ap₂, ◌∙◌, subst, arith, List, [], ◌∷◌, length, map, take, drop, get_or, suc-add, zero-add}
-use Rattle.std.proofs.lemmas.Bool.{cases_eq, eq-eqb, ne_eqb, eqb-true}
+use Rattle.std.proofs.Common.{◌≡◌, ℕ, zero, suc, ◌+◌, Bool, true, false, cond, ◌||◌, eqb, refl, sym, ap}
+use Rattle.std.proofs.Common.{ap₂, ◌∙◌, List, [], ◌∷◌, map, take, drop, get_or, suc-add, zero-add}
+use Rattle.std.proofs.lemmas.Bool.{eqb-true}
 use Rattle.dense_blocks.specs.Field.{Ops}
 use Rattle.dense_blocks.specs.FieldLaws.{IsField}
 use Rattle.dense_blocks.specs.Vectors.{plus, combination}
-use Rattle.dense_blocks.specs.MatrixFacts.{negative, matrix_sum, matrix_negative}
 use Rattle.dense_blocks.specs.Matrices.{image_of, product}
-use Rattle.dense_blocks.proofs.Shapes.{Vector, Matrix}
-use Rattle.dense_blocks.proofs.VectorLaws.{combination-combination, combination-vector}
+use Rattle.dense_blocks.proofs.Shapes.{Matrix}
+use Rattle.dense_blocks.proofs.VectorLaws.{combination-combination}
 use Rattle.dense_blocks.proofs.MatrixLaws.{matrix_sum-image_of, product-image_of, product-matrix, matrix_sum-matrix}
-use Rattle.dense_blocks.proofs.MatrixLaws.{matrix_negative-matrix, matrix_negative-image_of, image_of-negative}
-use Rattle.dense_blocks.proofs.MatrixLaws.{combination-matrix_negative, combination-zero_matrix}
 use Rattle.rising_lists.specs.Rising.{IsRising, has, keys}
 use Rattle.rising_lists.proofs.Keyed.{rising_tail, head-absent}
 use Rattle.block_sparse.specs.Grids.{segment, width}
 use Rattle.reduce_step.specs.Differences.{listed_size}
 use Rattle.equivalences.specs.Rows.{with_product, with_products}
 use Rattle.equivalence_laws.specs.Transposes.{transpose}
-use Rattle.equivalence_laws.proofs.TransposeLaws.{combination-matrix_sum, combination-transpose, transpose-matrix}
+use Rattle.equivalence_laws.proofs.TransposeLaws.{combination-matrix_sum}
 
 -- an unlisted cell keeps its rows
 pub products-absent : (K : Ops) (n : ℕ) (ls : List (ℕ × ℕ)) (J R : List (List ℕ)) (c : ℕ) (A : List (List ℕ))

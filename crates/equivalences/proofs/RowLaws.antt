@@ -1,14 +1,14 @@
 -- Rows in one list of entries, worked out row by row.
 use Rattle.std.proofs.Common.{◌≡◌, ℕ, zero, suc, ◌+◌, ◌-◌, ◌*◌, ◌<◌, ◌≤◌, Bool, true, false, List, [], ◌∷◌, ◌++◌, length}
-use Rattle.std.proofs.Common.{take, drop, get_or, refl, sym, ap, ap₂, ◌∙◌, subst, arith, append_assoc, All, map, length-drop}
-use Rattle.std.proofs.lemmas.List.{length-map, map-append, take_more, append-nil, take_at, drop_at, drop-drop, drop_all, get_or-take, get_or-drop, length-take-le}
+use Rattle.std.proofs.Common.{take, drop, get_or, refl, sym, ap, ap₂, ◌∙◌, subst, arith, append_assoc, All, map}
+use Rattle.std.proofs.lemmas.List.{length-map, map-append, take_more, append-nil, take_at, drop_at, drop-drop, drop_all, get_or-take, get_or-drop}
 use Rattle.std.proofs.lemmas.List.Elements.{All-append, All-take, All-drop, All-head, All-tail}
 use Rattle.dense_blocks.specs.Field.{Ops}
 use Rattle.dense_blocks.specs.FieldLaws.{IsField}
 use Rattle.dense_blocks.specs.Vectors.{AllScalars, zeros, plus, combination}
 use Rattle.dense_blocks.specs.Matrices.{cut, product}
 use Rattle.dense_blocks.specs.MatrixFacts.{IsMatrix, identity, matrix_sum}
-use Rattle.dense_blocks.proofs.Shapes.{Vector, Matrix, to_matrix, vector_of, row-vector, vector-scalars, vector-size, matrix-size}
+use Rattle.dense_blocks.proofs.Shapes.{Matrix, to_matrix, vector_of, row-vector, vector-scalars, vector-size}
 use Rattle.dense_blocks.proofs.VectorLaws.{plus-zeros, combination-zeros}
 use Rattle.dense_blocks.proofs.MatrixLaws.{product-row, product-matrix, matrix_sum-matrix}
 use Rattle.dense_blocks.proofs.Cutting.{flat, Sized, matrix-sized, sized-size, sized-identity, flat-size, cut-size}

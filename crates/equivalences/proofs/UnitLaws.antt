@@ -1,17 +1,17 @@
 -- Rows of the identity at each cell, one cell after another.
 use Rattle.std.specs.Option.{unwrap_or}
 use Rattle.std.specs.List.{list_all}
-use Rattle.std.proofs.Common.{◌≡◌, ◌≢◌, ℕ, zero, suc, ◌+◌, ◌<◌, ◌≤◌, Bool, true, false, cond, eqb, List, [], ◌∷◌, ◌++◌}
-use Rattle.std.proofs.Common.{length, take, drop, get_or, set, refl, sym, ap, ap₂, ◌∙◌, subst, arith, inl, inr}
+use Rattle.std.proofs.Common.{◌≡◌, ℕ, zero, suc, ◌+◌, ◌<◌, ◌≤◌, true, false, cond, eqb, List, [], ◌∷◌, ◌++◌}
+use Rattle.std.proofs.Common.{length, take, get_or, set, refl, sym, ap, ap₂, ◌∙◌, subst, arith, inl, inr}
 use Rattle.std.proofs.lemmas.Bool.{cases_eq, eq-eqb, ne_eqb, eqb-true, and_parts}
 use Rattle.std.proofs.lemmas.List.{get_or_at, get_or_append_left, take_all}
 use Rattle.dense_blocks.specs.MatrixFacts.{identity}
-use Rattle.rising_lists.specs.Rising.{ByCell, IsRising, has}
+use Rattle.rising_lists.specs.Rising.{IsRising, has}
 use Rattle.rising_lists.proofs.Keyed.{place_of, look-at}
 use Rattle.cochain_vec.specs.declared.cell.Cell.{Cell}
-use Rattle.cochain_vec.specs.Complexes.{total_size, coordinates}
-use Rattle.block_complexes.specs.BlockComplexes.{BlockComplex, cells, degree_of, size_of}
-use Rattle.block_complexes.specs.Cochains.{complex_of, of_degree, cell_of}
+use Rattle.cochain_vec.specs.Complexes.{total_size}
+use Rattle.block_complexes.specs.BlockComplexes.{cells, degree_of}
+use Rattle.block_complexes.specs.Cochains.{of_degree, cell_of}
 use Rattle.block_complexes.proofs.LiveLaws.{cell-at, length-cells, of_cell-at}
 use Rattle.block_complexes.proofs.DegreeLaws.{start-next, start-within}
 use Rattle.block_sparse.specs.StoredBlocks.{AreLive}

@@ -1,5 +1,5 @@
 -- The maps of a composite as they are stored.
-use Rattle.std.specs.Prelude.{◌≡◌, ℕ, true, List, [], length, slice_index_or}
+use Rattle.std.specs.Prelude.{◌≡◌, ℕ, true, [], length, slice_index_or}
 use Rattle.rising_lists.specs.Rising.{has}
 use Rattle.block_complexes.specs.BlockComplexes.{cells}
 use Rattle.block_sparse.specs.StoredBlocks.{AreLive}

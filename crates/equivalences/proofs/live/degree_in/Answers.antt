@@ -1,4 +1,4 @@
-use Rattle.std.proofs.Common.{sym, ◌∙◌}
+use Rattle.std.proofs.Common.{sym}
 use Rattle.block_complexes.proofs.LiveLaws.{of_cell-at}
 use Rattle.equivalences.proofs.live.degree_in.Goals as goal
 

@@ -1,11 +1,11 @@
-use Rattle.std.proofs.Common.{◌≡◌, ◌≤◌, ℕ, ap, sym, ◌∙◌, arith, length, get_or, subst, take}
+use Rattle.std.proofs.Common.{◌≤◌, ap, ◌∙◌, length}
 use Rattle.std.proofs.lemmas.List.{take_all}
 use Rattle.dense_blocks.specs.Field.{Ops}
 use Rattle.dense_blocks.specs.FieldLaws.{IsField}
 use Rattle.block_sparse.specs.StoredBlocks.{complex_in}
 use Rattle.reduce_step.specs.Logs.{pairs_of}
 use Rattle.equivalences.specs.Stored.{maps_of}
-use Rattle.equivalences.proofs.LogLaws.{at-start, at-ready, at-next}
+use Rattle.equivalences.proofs.LogLaws.{at-start, at-next}
 use Rattle.equivalences.proofs.EndLaws.{joined_composite, joined_after}
 use Rattle.equivalences.proofs.StoredLaws.{maps-shapes}
 use Rattle.equivalences.proofs.log.of_log.Goals as goal

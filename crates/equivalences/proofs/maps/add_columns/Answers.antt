@@ -1,4 +1,4 @@
-use Rattle.std.proofs.Common.{◌≡◌, ℕ, List, [], ap, sym, ◌∙◌, subst, get_or, length}
+use Rattle.std.proofs.Common.{◌≡◌, [], sym, subst, get_or}
 use Rattle.std.proofs.lemmas.List.{get_or_read}
 use Rattle.dense_blocks.specs.Field.{Ops}
 use Rattle.dense_blocks.specs.Vectors.{AllScalars}

@@ -1,6 +1,5 @@
-use Rattle.std.proofs.Common.{◌≡◌, ◌+◌, ◌<◌, ℕ, List, [], ap, sym, ◌∙◌, subst, length, get_or, arith}
+use Rattle.std.proofs.Common.{◌+◌, ◌<◌, ℕ, [], ap, sym, ◌∙◌, subst, length, get_or, arith}
 use Rattle.std.proofs.lemmas.List.{length_push, get_or_read}
-use Rattle.dense_blocks.specs.BlockFacts.{IsBlock}
 use Rattle.cochain_vec.specs.Complexes.{coordinates}
 use Rattle.block_complexes.specs.Cochains.{complex_of}
 use Rattle.block_sparse.specs.StoredBlocks.{complex_in}

@@ -1,5 +1,5 @@
 use Rattle.std.specs.List.{flat_map}
-use Rattle.std.proofs.Common.{◌≡◌, ◌+◌, ℕ, List, All, ap, sym, ◌∙◌, subst, length}
+use Rattle.std.proofs.Common.{◌+◌, ℕ, All, ap, sym, ◌∙◌, subst, length}
 use Rattle.std.proofs.lemmas.List.{length_push}
 use Rattle.dense_blocks.specs.BlockFacts.{IsBlock}
 use Rattle.cochain_vec.specs.declared.cell.Cell.{Cell}

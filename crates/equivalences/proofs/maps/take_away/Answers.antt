@@ -1,5 +1,4 @@
 use Rattle.std.proofs.Common.{◌≡◌, ◌≤◌, ℕ, true, All, ap₂, sym, ◌∙◌, subst}
-use Rattle.dense_blocks.specs.Field.{Ops}
 use Rattle.dense_blocks.specs.MatrixFacts.{IsMatrix}
 use Rattle.dense_blocks.specs.Blocks.{matrix_of}
 use Rattle.rising_lists.specs.Rising.{has}

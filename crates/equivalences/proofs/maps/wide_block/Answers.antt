@@ -1,4 +1,4 @@
-use Rattle.std.proofs.Common.{ap, sym, ◌∙◌, arith, refl, subst, ◌≤◌, length}
+use Rattle.std.proofs.Common.{refl, subst, ◌≤◌}
 use Rattle.equivalences.proofs.BlockLaws.{wide-block}
 use Rattle.equivalences.proofs.maps.wide_block.Goals as goal
 

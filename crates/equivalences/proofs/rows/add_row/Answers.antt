@@ -1,4 +1,3 @@
-use Rattle.std.proofs.Common.{length}
 use Rattle.equivalences.proofs.RowLaws.{add_row-zero}
 use Rattle.equivalences.proofs.rows.add_row.Goals as goal
 

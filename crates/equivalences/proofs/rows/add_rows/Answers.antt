@@ -1,4 +1,4 @@
-use Rattle.std.proofs.Common.{◌≡◌, ℕ, ◌+◌, ◌-◌, ◌*◌, ◌<◌, List, ◌++◌, length, take, drop, ap, ap₂, sym, ◌∙◌, arith, get_or, []}
+use Rattle.std.proofs.Common.{◌≡◌, ℕ, ◌+◌, ◌-◌, ◌*◌, ◌<◌, List, ◌++◌, take, drop, ap, ap₂, sym, ◌∙◌, arith, get_or, []}
 use Rattle.std.proofs.lemmas.List.Elements.{All-take, All-drop}
 use Rattle.dense_blocks.specs.Field.{Ops}
 use Rattle.dense_blocks.specs.FieldLaws.{IsField}
@@ -8,7 +8,7 @@ use Rattle.dense_blocks.specs.Blocks.{matrix_of}
 use Rattle.dense_blocks.proofs.Cutting.{cut-matrix, cut-row}
 use Rattle.equivalences.specs.Rows.{with_product}
 use Rattle.equivalences.proofs.RowLaws.{rows_done-start, rows_done-row, rows_done-next, rows_done-end}
-use Rattle.equivalences.proofs.RowLaws.{rows_done-length, with_product-matrix, with_product-row}
+use Rattle.equivalences.proofs.RowLaws.{with_product-matrix, with_product-row}
 use Rattle.equivalences.proofs.rows.add_rows.Goals as goal
 
 pub loop-i-init : goal.loop-i-init

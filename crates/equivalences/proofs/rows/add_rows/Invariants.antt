@@ -1,4 +1,3 @@
-use Rattle.std.proofs.Common.{ℕ}
 use Rattle.dense_blocks.specs.Matrices.{cut}
 use Rattle.dense_blocks.specs.Blocks.{matrix_of}
 use Rattle.equivalences.specs.Rows.{with_product}

@@ -1,4 +1,4 @@
-use Rattle.std.proofs.Common.{◌≡◌, ◌≤◌, ℕ, ◌+◌, ◌*◌, List, ◌++◌, ◌∷◌, [], ap, sym, ◌∙◌, arith, map, take, get_or}
+use Rattle.std.proofs.Common.{◌≤◌, ℕ, ◌+◌, ◌*◌, List, ◌++◌, ◌∷◌, [], ap, sym, ◌∙◌, arith, map, take, get_or}
 use Rattle.std.proofs.Common.{append_assoc, length}
 use Rattle.std.proofs.lemmas.List.{take_all}
 use Rattle.dense_blocks.specs.Blocks.{matrix_of}

@@ -1,4 +1,4 @@
-use Rattle.std.proofs.Common.{◌≡◌, ◌++◌, map, get_or, ap, sym, ◌∙◌, arith, refl, subst}
+use Rattle.std.proofs.Common.{◌++◌, map, get_or, ap, sym, ◌∙◌, arith, refl, subst}
 use Rattle.dense_blocks.specs.Blocks.{matrix_of}
 use Rattle.dense_blocks.proofs.Cutting.{first_rows-none, first_rows-size, cut-first_rows, cut-size, Sized}
 use Rattle.equivalence_laws.specs.Transposes.{transpose}

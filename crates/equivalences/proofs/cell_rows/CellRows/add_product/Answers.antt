@@ -1,4 +1,4 @@
-use Rattle.std.proofs.Common.{◌≡◌, ◌≤◌, ◌*◌, ℕ, List, ap, ap₂, sym, ◌∙◌, subst, length, cond, eqb}
+use Rattle.std.proofs.Common.{◌≡◌, ◌≤◌, ◌*◌, ℕ, ap, ap₂, sym, ◌∙◌, subst, length, cond, eqb}
 use Rattle.dense_blocks.specs.Field.{Ops}
 use Rattle.dense_blocks.specs.Matrices.{cut}
 use Rattle.dense_blocks.specs.MatrixFacts.{IsMatrix}

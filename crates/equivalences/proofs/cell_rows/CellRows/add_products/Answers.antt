@@ -1,4 +1,4 @@
-use Rattle.std.proofs.Common.{◌≡◌, ◌*◌, ℕ, List, ap, sym, ◌∙◌, subst, length, get_or, cond, eqb, take, drop}
+use Rattle.std.proofs.Common.{◌*◌, ℕ, List, ap, sym, ◌∙◌, subst, length, get_or, cond, eqb, take, drop}
 use Rattle.dense_blocks.specs.Field.{Ops}
 use Rattle.dense_blocks.specs.FieldLaws.{IsField}
 use Rattle.dense_blocks.specs.Matrices.{cut}

@@ -1,5 +1,4 @@
 use Rattle.std.proofs.Common.{ap, sym, ◌∙◌, ◌++◌}
-use Rattle.dense_blocks.specs.Blocks.{matrix_of}
 use Rattle.equivalences.specs.Rows.{cell_rows_of, entries_of}
 use Rattle.equivalences.proofs.CellRowLaws.{rows-found, block-entries}
 use Rattle.equivalences.proofs.cell_rows.CellRows.push_at.Goals as goal

@@ -1,6 +1,6 @@
-use Rattle.std.proofs.Common.{◌≡◌, ◌≤◌, ◌<◌, ◌+◌, ◌∷◌, [], ℕ, List, ap, ap₂, sym, ◌∙◌, arith, length, get_or, set, subst, take}
+use Rattle.std.proofs.Common.{◌≡◌, ◌≤◌, ◌<◌, ◌+◌, [], ℕ, List, ap, ap₂, sym, ◌∙◌, arith, length, get_or, set, subst, take}
 use Rattle.std.proofs.Common.{refl, true}
-use Rattle.std.proofs.lemmas.List.{length-set, length_push, take_all}
+use Rattle.std.proofs.lemmas.List.{length-set, length_push}
 use Rattle.cochain_vec.specs.Complexes.{total_size}
 use Rattle.dense_blocks.specs.MatrixFacts.{identity}
 use Rattle.rising_lists.specs.Rising.{IsRising, has}

@@ -1,4 +1,4 @@
-use Rattle.std.proofs.Common.{◌≡◌, ◌≢◌, ◌≤◌, ◌+◌, ℕ, List, [], true, All, ap, ap₂, sym, ◌∙◌, refl, subst, arith, length}
+use Rattle.std.proofs.Common.{◌≡◌, ◌≤◌, ℕ, [], true, All, ap, sym, ◌∙◌, refl, subst, arith, length}
 use Rattle.std.proofs.lemmas.List.{length-set}
 use Rattle.dense_blocks.specs.Field.{Ops}
 use Rattle.dense_blocks.specs.FieldLaws.{IsField}
@@ -118,11 +118,13 @@ take_away-requires-clause-listed g c =
     let m : CellMaps = maps_of c.args.self.now in
     let step : Step = c.args.step.now in
     let s = c.requires.next in
-    subst (λ n. All (λ (l : ℕ × ℕ). (has l.0 c.take.new.self.cells ≡ true) × (1 ≤ l.1)
+    subst (All (λ (l : ℕ × ℕ). (has l.0 c.take.new.self.cells ≡ true) × (1 ≤ l.1)
+    × IsMatrix K l.1 c.in_ok-moved.moved.cols (cell_rows_of c.take.new.self l.0))) (sym c.as_slice.ensures)
+    (subst (λ n. All (λ (l : ℕ × ℕ). (has l.0 c.take.new.self.cells ≡ true) × (1 ≤ l.1)
     × IsMatrix K l.1 n (cell_rows_of c.take.new.self l.0)) step.below)
     (sym (c.in_ok-moved.ensures.block.columns_are ∙ (add_laws.rows-over K F s.0 s.1 m step s.2 s.3 c.requires.stored.live_cells c.in_ok-rows.rows c.in_ok-rows.ensures.block).columns_are))
     (add_laws.below-all K F s.0 s.1 m step s.2 s.3 c.requires.stored.live_cells c.take.new.self
-    (λ q h. ap (has q) c.in_ok-rows.ensures.cells ∙ c.requires.stored.pi_cells q h) c.in_ok-rows.ensures.rows)
+    (λ q h. ap (has q) c.in_ok-rows.ensures.cells ∙ c.requires.stored.pi_cells q h) c.in_ok-rows.ensures.rows))
 
 pub take_away-requires-clause-coefficient_scalars : goal.take_away-requires-clause-coefficient_scalars
 take_away-requires-clause-coefficient_scalars g c =
@@ -140,11 +142,13 @@ take_away-requires-2-clause-listed g c =
     let m : CellMaps = maps_of c.args.self.now in
     let step : Step = c.args.step.now in
     let s = c.requires.next in
-    subst (λ n. All (λ (l : ℕ × ℕ). (has l.0 c.take-2.new.self.cells ≡ true) × (1 ≤ l.1)
+    subst (All (λ (l : ℕ × ℕ). (has l.0 c.take-2.new.self.cells ≡ true) × (1 ≤ l.1)
+    × IsMatrix K l.1 c.in_ok-through.through.cols (cell_rows_of c.take-2.new.self l.0))) (sym c.as_slice-2.ensures)
+    (subst (λ n. All (λ (l : ℕ × ℕ). (has l.0 c.take-2.new.self.cells ≡ true) × (1 ≤ l.1)
     × IsMatrix K l.1 n (cell_rows_of c.take-2.new.self l.0)) step.left)
     (sym (c.in_ok-through.ensures.block.columns_are ∙ (add_laws.columns-over K F s.0 s.1 m step s.2 s.3 c.requires.stored.live_cells c.in_ok-columns.columns c.in_ok-columns.ensures.block).columns_are))
     (add_laws.left-all K F s.0 s.1 m step s.2 s.3 c.requires.stored.live_cells c.take-2.new.self
-    (λ q h. ap (has q) c.in_ok-columns.ensures.cells ∙ c.requires.stored.iota_cells q h) c.in_ok-columns.ensures.rows)
+    (λ q h. ap (has q) c.in_ok-columns.ensures.cells ∙ c.requires.stored.iota_cells q h) c.in_ok-columns.ensures.rows))
 
 pub take_away-requires-2-clause-coefficient_scalars : goal.take_away-requires-2-clause-coefficient_scalars
 take_away-requires-2-clause-coefficient_scalars g c =
@@ -205,9 +209,13 @@ returns-clause-step g c = λ v rs w next.
     (block-same c.in_ok-through.through refl refl refl c.in_ok-through.ensures.block) c.in_ok-row.ensures.block.matrix_is
     m' (c.remove-2.ensures ∙ ap (without step.y) c.remove.ensures)
     (λ q nx ny. c.drop_rows.ensures.rows q nx ∙ c.in_ok-take_away.ensures.rows q
+    ∙ ap (λ ls. with_products K c.in_ok-moved.moved.cols ls (matrix_of step.column)
+    (matrix_negative K (matrix_of c.in_ok-moved.moved)) q (cell_rows_of c.take.new.self q)) c.as_slice.ensures
     ∙ ap (with_products K c.in_ok-moved.moved.cols step.below (matrix_of step.column)
     (matrix_negative K (matrix_of c.in_ok-moved.moved)) q) (c.in_ok-rows.ensures.rows q ny))
     (λ q nx ny. c.drop_rows-2.ensures.rows q ny ∙ c.in_ok-take_away-2.ensures.rows q
+    ∙ ap (λ ls. with_products K c.in_ok-through.through.cols ls (matrix_of c.in_ok-row.row)
+    (matrix_negative K (matrix_of c.in_ok-through.through)) q (cell_rows_of c.take-2.new.self q)) c.as_slice-2.ensures
     ∙ ap (with_products K c.in_ok-through.through.cols step.left (matrix_of c.in_ok-row.row)
     (matrix_negative K (matrix_of c.in_ok-through.through)) q) (c.in_ok-columns.ensures.rows q nx))
     h.0

@@ -1,4 +1,4 @@
-use Rattle.std.proofs.Common.{◌≡◌, ◌+◌, ◌<◌, ◌≤◌, ℕ, List, [], ap, ap₂, sym, ◌∙◌, subst, length, arith}
+use Rattle.std.proofs.Common.{◌≡◌, ◌+◌, ℕ, [], ap, ap₂, ◌∙◌, length, arith}
 use Rattle.std.proofs.lemmas.List.{length_push}
 use Rattle.dense_blocks.specs.MatrixFacts.{zero_matrix}
 use Rattle.cochain_vec.specs.Complexes.{coordinates}

@@ -1,5 +1,5 @@
 use Rattle.std.specs.List.{flat_map}
-use Rattle.std.proofs.Common.{◌≡◌, ◌+◌, ℕ, List, [], suc, ap, sym, refl, subst, get_or, arith}
+use Rattle.std.proofs.Common.{◌≡◌, ◌+◌, ℕ, [], suc, ap, sym, refl, subst, get_or, arith}
 use Rattle.cochain_vec.specs.declared.cell.Cell.{Cell}
 use Rattle.cochain_vec.specs.Complexes.{coordinates, total_size}
 use Rattle.block_complexes.specs.Cochains.{complex_of, of_degree}
