@@ -130,9 +130,6 @@ module _ (K : Ops) (F : IsField K) (v : BlockComplex) (rs : List Removal) (m : C
   pub x-in : has step.x (cells m.live) ≡ true
   x-in = still step.x x-live
 
-  pub y-in : has step.y (cells m.live) ≡ true
-  y-in = still step.y y-live
-
   pub degree-x : degree_of m.live step.x ≡ k
   degree-x = ap (λ live. degree_of live step.x) next.maps.live_is
 

@@ -136,17 +136,11 @@ module _ (K : Ops) (F : IsField K) (n k : ℕ) (ls : List (ℕ × ℕ)) (J R : L
   size-is : width (drop i ls) ≡ l.1 + width (drop (i + 1) ls)
   size-is = ap width later-is
 
-  pub next-has : has l.0 now.cells ≡ true
-  next-has = here.0
-
   pub next-size : length (cell_rows_of now l.0) ≡ l.1
   next-size = here.2.size
 
   pub next-rows : IsMatrix K (length (cell_rows_of now l.0)) n (cell_rows_of now l.0)
   next-rows = subst (λ m. IsMatrix K m n (cell_rows_of now l.0)) (sym next-size) here.2
-
-  pub next-some : 1 ≤ length (cell_rows_of now l.0)
-  next-some = subst (λ m. 1 ≤ m) (sym next-size) here.1
 
   pub next-within : l.1 * k ≤ length rest
   next-within =
@@ -302,12 +296,6 @@ gathered-matrix n f ts entries h e =
 -- the entries of a block
 pub block-entries : (b : Block) → b.entries ≡ entries_of (matrix_of b)
 block-entries b = sym (entries-flat (matrix_of b) ∙ flat-cut b.rows b.cols b.entries b.full)
-
--- rows pushed for one cell more
-pub pushed-one : (f : Cell → List ℕ) (b : Bool) (t : Cell) (old new : List ℕ) → (b ≡ true → new ≡ old ++ f t)
-    → (b ≡ false → new ≡ old) → new ≡ old ++ flat_map f (cond b (t ∷ []) [])
-pushed-one f true t old new h n = h refl ∙ ap (λ u. old ++ u) (sym (append-nil (f t)))
-pushed-one f false t old new h n = n refl ∙ sym (append-nil old)
 
 -- a member is the same whatever stands for none
 pub get_or-same : {A : Type 0} (xs : List A) (i : ℕ) (d e : A) → i < length xs → get_or xs i d ≡ get_or xs i e

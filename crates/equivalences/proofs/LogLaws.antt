@@ -53,9 +53,6 @@ module _ (K : Ops) (v : BlockComplex) (log : List Step) (i : ℕ) (step : Step) 
     removal = later.2;
   }
 
-  pub at-ready : HasNextStep K m step
-  at-ready = (v, at.0, later.0, next)
-
   pub at-next : (m' : CellMaps) → TakesStep K m step m' → AreMapsAt K v log (i + 1) m'
   at-next m' takes =
       let rs = at.0 in

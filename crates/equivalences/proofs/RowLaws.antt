@@ -106,16 +106,6 @@ module _ (K : Ops) (m w : ℕ) (start : List ℕ) (B : List (List ℕ)) (hB : Ma
       ∙ append-nil (flat B))
       ∙ cut-flat m w B sized
 
-  pub rows_done-length : (i : ℕ) (now : List ℕ) → length start ≡ m * w → i ≡ m → AreRowsDone K w start B i now
-      → length now ≡ m * w
-  rows_done-length i now full e done =
-      ap length
-      (done.rows
-      ∙ ap₂ (λ F t. F ++ t) (first_rows-all i B (omega (arith, sized-size m w B sized)))
-      (ap (λ j. drop (j * w) start) e ∙ drop_all (m * w) start (omega arith))
-      ∙ append-nil (flat B))
-      ∙ flat-size m w B sized
-
 -- the row at i of a sum
 sum-row : (K : Ops) (m n i : ℕ) (A B : List (List ℕ)) → Matrix K m n A → Matrix K m n B → i < m
     → get_or (matrix_sum K A B) i [] ≡ plus K (get_or A i []) (get_or B i [])
