@@ -77,8 +77,7 @@ degree-within live c are h =
     let degree : degree_of live c ≡ (get_or live p.at (0, 0, 0)).1 =
     of_cell-at (λ l. l.1) live p.at c are.rising l (sym (cell-at live p.at l) ∙ p.is) in
     let within : total_size (of_degree (degree_of live c) (take p.at live)) + (get_or live p.at (0, 0, 0)).2
-    ≤ total_size (of_degree (degree_of live c) live) = value-within (degree_of live c) live p.at l (sym degree) in
-    (
+    ≤ total_size (of_degree (degree_of live c) live) = value-within (degree_of live c) live p.at l (sym degree) in (
       omega (arith, degree, All-get_or (λ l. l.1 ≤ 15) live p.at (0, 0, 0) l are.degrees),
       omega (arith, within, All-get_or (λ l. 1 ≤ l.2) live p.at (0, 0, 0) l are.sizes),
     )

@@ -84,8 +84,22 @@ impl Maps {
         let through = moved_columns(alloc, f, step, &columns)?;
         let row = transposed(alloc, &step.row)?;
         add_columns(alloc, f, &mut self.h, k, &columns, &moved)?;
-        take_away(alloc, f, &mut self.pi, step.below.as_slice(), &step.column, &moved)?;
-        take_away(alloc, f, &mut self.iota, step.left.as_slice(), &row, &through)?;
+        take_away(
+            alloc,
+            f,
+            &mut self.pi,
+            step.below.as_slice(),
+            &step.column,
+            &moved,
+        )?;
+        take_away(
+            alloc,
+            f,
+            &mut self.iota,
+            step.left.as_slice(),
+            &row,
+            &through,
+        )?;
         self.pi.drop_rows(alloc, step.x);
         self.iota.drop_rows(alloc, step.y);
         remove(&mut self.live, step.x);

@@ -13,8 +13,8 @@ ghost use Rattle.sheaf_run.specs.Sessions.{IsSessionCommand, IsSoloQuery, IsSolo
 ghost use Rattle.sheaf_run.specs.Sessions.{IsProgress, IsReducedFrom};
 
 use crate::reduction::{push_pairs, reduction};
-use dense_blocks::Listed;
 use coboundary::start_is_cochain_complex;
+use dense_blocks::Listed;
 use edit_versions::{EditFault, apply};
 use field_table::Field;
 use pair_commit::Slot;
@@ -160,7 +160,9 @@ impl Session {
         // This call is made for its clauses alone.
         start_is_cochain_complex();
         let degrees = degree_count(self.sheaf.draft().complex.dims()) as u8;
-        let Some(slot) = &self.slot else { unreachable!() };
+        let Some(slot) = &self.slot else {
+            unreachable!()
+        };
         let complex = reduced(alloc, slot, degrees)?;
         let maps = maps(alloc, slot, degrees)?;
         Ok(Reply::Equiv(complex, maps))
