@@ -8,7 +8,8 @@ use std::test::Fail;
 const CIRCLE: &[u8] = b"field 2\ncell 0 1\ncell 0 1\ncell 0 1\ncell 1 1\ncell 1 1\ncell 1 1\n\
 face 0 3 - 1\nface 1 3 + 1\nface 1 4 - 1\nface 2 4 + 1\nface 0 5 - 1\nface 2 5 + 1\nclient\nbetti\ndone\n";
 
-const TRANSCRIPT: &[u8] = b"client 0\n1 v0 betti 1 1\norder\nask 0 1\nreply 0 1\nend\n";
+const TRANSCRIPT: &[u8] =
+    b"client 0\n1 v0 betti 1 1\norder\nask 0 1\npair 0 0 3\npair 0 1 4\nreply 0 1\nend\n";
 
 /// Runs over the circle, by reads of 10 bytes and writes of 8, where the calls with these numbers fail.
 fn has_answer(
@@ -34,6 +35,6 @@ fn faults(rt: HostRuntime) -> Result<(), Fail> {
     has_answer(&rt, alloc, &[], &[], Status::Done, TRANSCRIPT)?;
     has_answer(&rt, alloc, &[2], &[], Status::ReadFault, b"")?;
     has_answer(&rt, alloc, &[], &[2], Status::WriteFault, b"client 0")?;
-    // After seven writes comes the flush.
-    has_answer(&rt, alloc, &[], &[8], Status::WriteFault, TRANSCRIPT)
+    // After ten writes comes the flush.
+    has_answer(&rt, alloc, &[], &[11], Status::WriteFault, TRANSCRIPT)
 }
