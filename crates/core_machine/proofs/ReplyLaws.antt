@@ -33,7 +33,8 @@ use Rattle.sheaf_words.specs.declared.reply.Reduced.{Reduced}
 use Rattle.sheaf_words.specs.declared.reply.Maps.{Maps}
 use Rattle.sheaf_words.specs.declared.reply.Reply.{Reply as Answer}
 use Rattle.sheaf_words.specs.declared.reply.Reply.TheVariants as replies
-use Rattle.core_machine.specs.Replies.{Reduction, graded_matrix, AreGradedBlocks, IsRightReduced, AreRightMaps}
+use Rattle.core_machine.specs.Replies.{Reduction, AreGradedBlocks, IsRightReduced, AreRightMaps}
+use Rattle.equivalence_laws.specs.Equivalences.{graded_matrix}
 use Rattle.core_machine.specs.Replies.{IsRightReply}
 use Rattle.core_machine.specs.Machine.{State, IsReductionOf}
 use Rattle.core_machine.specs.Rights.{IsRightForStart}

@@ -9,7 +9,7 @@ use Rattle.cochain_vec.specs.Complexes.{CellularComplex, coordinates, coboundary
 use Rattle.cochain_vec.specs.Cohomology.{AreDimensions}
 use Rattle.block_complexes.specs.BlockComplexes.{BlockComplex}
 use Rattle.block_complexes.specs.Cochains.{complex_of}
-use Rattle.equivalence_laws.specs.Equivalences.{GradedMatrix, IsEquivalence}
+use Rattle.equivalence_laws.specs.Equivalences.{GradedMatrix, IsEquivalence, graded_matrix}
 use Rattle.sheaf_words.specs.declared.query.Query.{Query}
 use Rattle.sheaf_words.specs.declared.query.Query.TheVariants as queries
 use Rattle.sheaf_words.specs.declared.reply.Reduced.{Reduced}
@@ -25,10 +25,6 @@ pub record Reduction : Type 0 where
   pub start : BlockComplex
   pub pairs : List (ℕ × ℕ)
   pub rest : BlockComplex
-
--- the matrix at each degree: that of the block there, and none, without rows, where there is no block
-abbrev pub graded_matrix : List Block → GradedMatrix
-graded_matrix blocks k = option_map_or matrix_of (slice_get blocks k) []
 
 -- a block for each of so many degrees, from 0 on: that of degree k has m k rows and n k columns
 pub record AreGradedBlocks (degrees : ℕ) (m n : ℕ → ℕ) (blocks : List Block) : Type 0 where

@@ -9,7 +9,8 @@ use Rattle.sheaf_words.specs.declared.reply.Reply.{Reply as Answer}
 use Rattle.sheaf_words.specs.declared.reply.Reply.TheVariants as replies
 use Rattle.sheaf_words.specs.declared.event.Event.{Event}
 use Rattle.sheaf_words.specs.declared.event.Event.TheVariants.{Edit, Ask, Pair, Reply}
-use Rattle.core_machine.specs.Replies.{Reduction, graded_matrix}
+use Rattle.core_machine.specs.Replies.{Reduction}
+use Rattle.equivalence_laws.specs.Equivalences.{graded_matrix}
 use Rattle.core_machine.specs.Machine.{State, EditStep, AskStep, PairStep, ReplyStep, IsDone, IsWholeOrder}
 
 -- the maps in a reply, if it has some, are the composite of the removals

@@ -58,7 +58,7 @@ values-joined K (c ∷ cs) z r h =
     sym (ap (λ b. cond b (take c.size z) (value_at cs (drop c.size z) t.cell))
     (ne_eqb c.cell t.cell (λ e. let less = r.0 i d l in absurd (omega arith))))))
 
-rising-cells : (live : List (ℕ × ℕ × ℕ)) → IsRising (cells live) → stalkless.HasRisingCells (map cell_of live)
+pub rising-cells : (live : List (ℕ × ℕ × ℕ)) → IsRising (cells live) → stalkless.HasRisingCells (map cell_of live)
 rising-cells [] r = tt
 rising-cells (l ∷ ls) r = (
   All-map (λ (later : Cell). l.0 < later.cell) cell_of ls

@@ -10,3 +10,7 @@ pub mod UpdateLaws
 pub mod BlocklessLaws
 pub mod PairLaws
 pub mod ReductionLaws
+pub mod TransposeLaws
+pub mod StepLaws
+pub mod MapsLaws
+pub mod StartLaws

@@ -19,14 +19,14 @@ use Rattle.equivalence_laws.proofs.CompositionLaws.{AreEquivalent}
 use Rattle.equivalence_laws.proofs.CompositeLaws.{rest_is, removal-equivalent, removals-equivalent}
 use Rattle.removals.proofs.RemovalLaws as removals
 
-rest-more : (v : BlockComplex) (rs : List Removal) (r : Removal) → rest_of v (rs ++ r ∷ []) ≡ r.rest
+pub rest-more : (v : BlockComplex) (rs : List Removal) (r : Removal) → rest_of v (rs ++ r ∷ []) ≡ r.rest
 rest-more v [] r = refl
 rest-more v (q ∷ qs) r = rest-more q.rest qs r
 
 -- a block complex over the field in which the coboundary of each coboundary is zero
-record IsDifferentialComplex (K : Ops) (v : BlockComplex) : Type 0 where
-  is : IsBlockComplex K v
-  closed : IsCochainComplex K (complex_of v)
+pub record IsDifferentialComplex (K : Ops) (v : BlockComplex) : Type 0 where
+  pub is : IsBlockComplex K v
+  pub closed : IsCochainComplex K (complex_of v)
 
 module _ (K : Ops) (F : IsField K) where
   after_one : (v : BlockComplex) (r : Removal) → IsDifferentialComplex K v → IsRemovalFrom K v r
@@ -36,31 +36,31 @@ module _ (K : Ops) (F : IsField K) where
     closed = removals.removal_keeps_cochain_complex K v r.rest r.x r.y r.inverse F g.is removal g.closed;
   }
 
-  after_all : (v : BlockComplex) (rs : List Removal) → IsDifferentialComplex K v → AreRemovals K v rs
+  pub after_all : (v : BlockComplex) (rs : List Removal) → IsDifferentialComplex K v → AreRemovals K v rs
       → IsDifferentialComplex K (rest_of v rs)
   after_all v [] g h = g
   after_all v (r ∷ rs) g h = after_all r.rest rs (after_one v r g h.0) h.1
 
-  one : (v : BlockComplex) (r : Removal) → IsDifferentialComplex K v → IsRemovalFrom K v r
+  pub one : (v : BlockComplex) (r : Removal) → IsDifferentialComplex K v → IsRemovalFrom K v r
       → AreEquivalent K (complex_of v) (complex_of r.rest) (removal_pi K v r) (removal_iota K v r) (removal_h K v r)
   one v r g removal = removal-equivalent K F v r g.is removal g.closed
 
-  many : (v : BlockComplex) (rs : List Removal) → IsDifferentialComplex K v → AreRemovals K v rs
+  pub many : (v : BlockComplex) (rs : List Removal) → IsDifferentialComplex K v → AreRemovals K v rs
       → AreEquivalent K (complex_of v) (complex_of (rest_of v rs)) (removals_pi K v rs) (removals_iota K v rs)
       (removals_h K v rs)
   many v rs g h = removals-equivalent K F v rs g.is g.closed h
 
-  pi-more : (v : BlockComplex) (rs : List Removal) (r : Removal) (k : ℕ) (z : List ℕ)
+  pub pi-more : (v : BlockComplex) (rs : List Removal) (r : Removal) (k : ℕ) (z : List ℕ)
       → removals_pi K v (rs ++ r ∷ []) k z ≡ removal_pi K (rest_of v rs) r k (removals_pi K v rs k z)
   pi-more v [] r k z = refl
   pi-more v (q ∷ qs) r k z = pi-more q.rest qs r k (removal_pi K v q k z)
 
-  iota-more : (v : BlockComplex) (rs : List Removal) (r : Removal) (k : ℕ) (z : List ℕ)
+  pub iota-more : (v : BlockComplex) (rs : List Removal) (r : Removal) (k : ℕ) (z : List ℕ)
       → removals_iota K v (rs ++ r ∷ []) k z ≡ removals_iota K v rs k (removal_iota K (rest_of v rs) r k z)
   iota-more v [] r k z = refl
   iota-more v (q ∷ qs) r k z = ap (removal_iota K v q k) (iota-more q.rest qs r k z)
 
-  h-more : (v : BlockComplex) (rs : List Removal) (r : Removal) → IsDifferentialComplex K v → AreRemovals K v rs
+  pub h-more : (v : BlockComplex) (rs : List Removal) (r : Removal) → IsDifferentialComplex K v → AreRemovals K v rs
       → IsRemovalFrom K (rest_of v rs) r
       → (k : ℕ) (z : List ℕ) → Vector K (coordinates (complex_of v) (suc k)) z
       → removals_h K v (rs ++ r ∷ []) k z ≡ plus K (removals_h K v rs k z)

@@ -25,7 +25,7 @@ module _ (K : Ops) where
       let rest = by-removals h.0 w pairs h.3 in
       (record { x = p.0; y = p.1; inverse = h.1; rest = h.0 } ∷ rest.0, ap (λ ps. p ∷ ps) rest.1, (h.2, rest.2), rest.3)
 
-  removals-after : (v w : BlockComplex) (rs : List Removal) → AreRemovals K v rs → HaveSameMatrices (rest_of v rs) w
+  pub removals-after : (v w : BlockComplex) (rs : List Removal) → AreRemovals K v rs → HaveSameMatrices (rest_of v rs) w
       → IsAfter K v (removal_pairs rs) w
   removals-after v w [] are same = same
   removals-after v w (r ∷ rs) are same = (r.rest, r.inverse, are.0, removals-after r.rest w rs are.1 same)

@@ -256,7 +256,7 @@ module _ (K : Ops) (v : BlockComplex) (r : Removal) (p : IsSetting K v r) where
       pi-cochain : Vector K (coordinates D k) (removal_pi K v r k z)
       pi-cochain = joined-vector K F (λ (t : Cell). pi t.cell) (of_degree k w.live) pi-parts
 
-      pi-value : (t : ℕ) → IsLeft t → degree t ≡ k → cochain_value w k (removal_pi K v r k z) t ≡ pi t
+      pub pi-value : (t : ℕ) → IsLeft t → degree t ≡ k → cochain_value w k (removal_pi K v r k z) t ≡ pi t
       pi-value t h e =
           value-part w rises_rest k K (λ (t : Cell). pi t.cell) t (pi t) pi-parts h (left-degree t h ∙ e)
           (subst (λ n. Vector K n (pi t)) (sym (left-size t h)) (pi-vector t (left-live t h) e)) (λ c is same. ap pi is)

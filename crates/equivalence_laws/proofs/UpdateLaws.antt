@@ -47,7 +47,7 @@ map-twice f g [] = refl
 map-twice f g (x ∷ xs) = ap (λ u. f (g x) ∷ u) (map-twice f g xs)
 
 -- a cell that is not live has no coordinates
-size-absent : (live : List (ℕ × ℕ × ℕ)) (k c : ℕ) → has c (cells live) ≡ false → size_at (of_degree k live) c ≡ 0
+pub size-absent : (live : List (ℕ × ℕ × ℕ)) (k c : ℕ) → has c (cells live) ≡ false → size_at (of_degree k live) c ≡ 0
 unfolding size_at
 size-absent [] k c h = refl
 size-absent (l ∷ ls) k c h = go (eqb l.1 k) (eqb l.0 c) refl h (size-absent ls k c)
@@ -81,7 +81,7 @@ module _ (K : Ops) where
   take-matrix (suc m) k n (r ∷ A) h = let g : Matrix K (suc (m + k)) n (r ∷ A) =
       subst (λ l. Matrix K l n (r ∷ A)) (suc-add m k) h in (g.0, take-matrix m k n A g.1)
 
-  drop-matrix : (m k n : ℕ) (A : List (List ℕ)) → Matrix K (m + k) n A → Matrix K k n (drop m A)
+  pub drop-matrix : (m k n : ℕ) (A : List (List ℕ)) → Matrix K (m + k) n A → Matrix K k n (drop m A)
   drop-matrix zero k n A h = subst (λ l. Matrix K l n A) (zero-add k) h
   drop-matrix (suc m) k n [] h = absurd (subst (λ l. Matrix K l n []) (suc-add m k) h)
   drop-matrix (suc m) k n (r ∷ A) h = let g : Matrix K (suc (m + k)) n (r ∷ A) =
@@ -98,13 +98,13 @@ module _ (K : Ops) where
         | false ↦ rows-matrix ts n (drop t.size A) c (drop-matrix t.size (total_size ts) n A h)
       ]
 
-  image_of-joined : (g : Cell → List (List ℕ)) (cs : List Cell) (z : List ℕ) → image_of K (flat_map g cs) z
+  pub image_of-joined : (g : Cell → List (List ℕ)) (cs : List Cell) (z : List ℕ) → image_of K (flat_map g cs) z
       ≡ flat_map (λ t. image_of K (g t) z) cs
   image_of-joined g [] z = refl
   image_of-joined g (t ∷ ts) z = map-append (λ row. dot K row z) (g t) (flat_map g ts)
       ∙ ap (λ u. image_of K (g t) z ++ u) (image_of-joined g ts z)
 
-  joined-matrix : (g : Cell → List (List ℕ)) (n : ℕ) (cs : List Cell) → All (λ (t : Cell). Matrix K t.size n (g t)) cs
+  pub joined-matrix : (g : Cell → List (List ℕ)) (n : ℕ) (cs : List Cell) → All (λ (t : Cell). Matrix K t.size n (g t)) cs
       → Matrix K (total_size cs) n (flat_map g cs)
   joined-matrix g n [] h = tt
   joined-matrix g n (t ∷ ts) h =
@@ -114,7 +114,7 @@ module _ (K : Ops) where
 
   module _ (F : IsField K) where
     -- a product has the rows of the left factor, whatever the right one has
-    product-rows : (l m n : ℕ) (A B : List (List ℕ)) → length A ≡ l → Matrix K m n B → Matrix K l n (product K n A B)
+    pub product-rows : (l m n : ℕ) (A B : List (List ℕ)) → length A ≡ l → Matrix K m n B → Matrix K l n (product K n A B)
     product-rows zero m n [] B e h = tt
     product-rows zero m n (a ∷ A) B e h = absurd (omega arith)
     product-rows (suc l) m n [] B e h = absurd (omega arith)
@@ -200,7 +200,7 @@ module _ (K : Ops) where
             (columns-matrix rest m A l.0 h)))
 
     -- a sum comes out of a matrix of any number of columns
-    image_of-sum : (m j n : ℕ) (A : List (List ℕ)) (f : ℕ → List ℕ) (ks : List ℕ) → Matrix K m j A
+    pub image_of-sum : (m j n : ℕ) (A : List (List ℕ)) (f : ℕ → List ℕ) (ks : List ℕ) → Matrix K m j A
         → ((t : ℕ) → Vector K n (f t))
         → image_of K A (sum_over K n f ks) ≡ sum_over K m (λ t. image_of K A (f t)) ks
     image_of-sum m j n A f [] h v = image_of-zeros K F n m j A h

@@ -1,9 +1,12 @@
 -- Equivalences of complexes: maps of cochains both ways that are inverse up to a homotopy.
-use Rattle.std.specs.Prelude.{◌≡◌, ℕ, zero, suc, List}
+use Rattle.std.specs.Prelude.{◌≡◌, ℕ, zero, suc, List, [], slice_get}
+use Rattle.std.specs.Option.{option_map_or}
 use Rattle.dense_blocks.specs.Field.{Ops}
 use Rattle.dense_blocks.specs.Vectors.{zeros, plus}
 use Rattle.dense_blocks.specs.Matrices.{image_of, product}
 use Rattle.dense_blocks.specs.MatrixFacts.{IsMatrix, matrix_sum}
+use Rattle.dense_blocks.specs.Blocks.{matrix_of}
+use Rattle.dense_blocks.specs.declared.block.Block.{Block}
 use Rattle.dense_blocks.specs.LinearMaps.{IsMatrixOf}
 use Rattle.cochain_vec.specs.Complexes.{CellularComplex, coordinates, IsCochain, coboundary}
 
@@ -14,6 +17,10 @@ GradedMap = ℕ → List ℕ → List ℕ
 -- a matrix for each degree
 abbrev pub GradedMatrix : Type 0
 GradedMatrix = ℕ → List (List ℕ)
+
+-- that of a list of blocks: the matrix of block k in degree k, and none, without rows, where there is no block
+abbrev pub graded_matrix : List Block → GradedMatrix
+graded_matrix blocks k = option_map_or matrix_of (slice_get blocks k) []
 
 -- what the matrices make of cochains
 abbrev pub map_of : Ops → GradedMatrix → GradedMap

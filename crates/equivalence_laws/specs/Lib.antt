@@ -4,3 +4,5 @@ pub mod Composites
 pub mod Updates
 pub mod Bases
 pub mod Laws
+pub mod Transposes
+pub mod CellMaps

@@ -75,7 +75,7 @@ degree-columns : (v : StoredBlocks) (k : ℕ) (b : Block) → IsDegreeBlock v k 
 degree-columns v k b h = (at-cells v k b h).cols ∙ width-sized (of_degree k v.live)
 
 -- above the largest degree there are no cells
-no-cells : (degrees k : ℕ) (live : List (ℕ × ℕ × ℕ)) → All (λ l. l.1 < degrees) live → degrees ≤ k
+pub no-cells : (degrees k : ℕ) (live : List (ℕ × ℕ × ℕ)) → All (λ l. l.1 < degrees) live → degrees ≤ k
     → of_degree k live ≡ []
 no-cells degrees k [] h l = refl
 no-cells degrees k (x ∷ xs) h l =

@@ -4,7 +4,8 @@ use Rattle.dense_blocks.specs.Field.{Ops}
 use Rattle.dense_blocks.specs.LinearMaps.{IsMatrixOf}
 use Rattle.dense_blocks.specs.declared.block.Block.{Block}
 use Rattle.cochain_vec.specs.Complexes.{CellularComplex, coordinates, coboundary}
-use Rattle.core_machine.specs.Replies.{AreGradedBlocks, graded_matrix}
+use Rattle.core_machine.specs.Replies.{AreGradedBlocks}
+use Rattle.equivalence_laws.specs.Equivalences.{graded_matrix}
 
 -- the live cells of degree k, in order, each with its size
 abbrev pub sized_of_degree : ℕ → List (ℕ × ℕ × ℕ) → List (ℕ × ℕ)

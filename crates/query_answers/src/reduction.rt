@@ -40,7 +40,7 @@ fn removed_pairs(alloc: Global, log: &[Step]) -> Result<Listed<(u32, u32)>, NoMe
 }
 
 /// The live cells, each with its degree and its size.
-fn live_cells(alloc: Global, b: &Blocks) -> Result<Listed<(u32, u8, u8)>, NoMemory>
+pub(crate) fn live_cells(alloc: Global, b: &Blocks) -> Result<Listed<(u32, u8, u8)>, NoMemory>
     ensures { IfOk result (λ live. live ≡ b.now.live) }
 {
     Ok(Listed::of(Vec::from_slice(alloc, b.live())?))

@@ -489,6 +489,7 @@ session_command : (dims : List ℕ) (command : Command) → IsServable dims 1000
 session_command dims (commands.Change edit) few = few
 session_command dims (commands.Ask queries.Betti) can = tt
 session_command dims (commands.Ask queries.Reduce) can = tt
+session_command dims (commands.Ask queries.Equiv) can = tt
 session_command dims (commands.Ask q) can = absurd can
 
 pub session_commands : (dims : List ℕ) (scripts : List (List Command)) → AreServable dims scripts

@@ -13,7 +13,7 @@ use Rattle.sheaf_data.specs.Sheaves.{SheafData}
 use Rattle.sheaf_data.specs.Betti.{cochain_complex_of, degree_count}
 use Rattle.sheaf_data.specs.BettiNumbers.{AreBetti}
 use Rattle.sheaf_words.specs.declared.query.Query.{Query}
-use Rattle.sheaf_words.specs.declared.query.Query.TheVariants.{Betti, Reduce}
+use Rattle.sheaf_words.specs.declared.query.Query.TheVariants.{Betti, Reduce, Equiv}
 use Rattle.sheaf_words.specs.declared.query.Command.{Command}
 use Rattle.sheaf_words.specs.declared.query.Command.TheVariants.{Change, Ask}
 use Rattle.sheaf_words.specs.declared.edit.Edit.{Edit}
@@ -60,6 +60,7 @@ pair_events version pairs = map (λ p. Pair version p.0 p.1) pairs
 abbrev pub IsSoloQuery : Query → Type 0
 IsSoloQuery Betti = Unit {0}
 IsSoloQuery Reduce = Unit {0}
+IsSoloQuery Equiv = Unit {0}
 IsSoloQuery query = ⊥
 
 -- a command that a session serves: an edit of at most 1,000,000,000 changes, or a question that it answers

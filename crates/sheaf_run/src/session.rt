@@ -6,19 +6,20 @@ ghost use Rattle.sheaf_data.specs.Sheaves.{SheafData};
 ghost use Rattle.sheaf_data.specs.BettiNumbers.{AreBetti};
 ghost use Rattle.sheaf_words.specs.declared.query.Command.{Command as CommandValue};
 ghost use Rattle.sheaf_words.specs.declared.query.Command.TheVariants.{Change, Ask};
-ghost use Rattle.sheaf_words.specs.declared.query.Query.TheVariants.{Reduce};
+ghost use Rattle.sheaf_words.specs.declared.query.Query.TheVariants.{Reduce, Equiv};
 ghost use Rattle.core_machine.specs.Machine.{command_at, IsLegalAndWhole};
 ghost use Rattle.core_machine.specs.Solo.{IsSoloOrder};
 ghost use Rattle.sheaf_run.specs.Sessions.{IsSessionCommand, IsSoloQuery, IsSoloAnswer, IsJudged, HasReduction};
 ghost use Rattle.sheaf_run.specs.Sessions.{IsProgress, IsReducedFrom};
 
 use crate::reduction::{push_pairs, reduction};
+use coboundary::start_is_cochain_complex;
 use dense_blocks::Listed;
 use edit_versions::{EditFault, apply};
 use field_table::Field;
 use pair_commit::Slot;
 use plain_betti::{betti, degree_count};
-use query_answers::reduced;
+use query_answers::{maps, reduced};
 use sheaf_data::Sheaf;
 use sheaf_words::{Command, Edit, Event, Numbers, Query, Reply, Verdict, copy_values};
 use std::alloc::{AllocError as NoMemory, Global};
@@ -133,6 +134,7 @@ impl Session {
     {
         match query {
             Query::Betti => Ok(Reply::Betti(self.numbers(alloc)?)),
+            Query::Equiv => self.equivalence_reply(alloc),
             _ => self.reduced_reply(alloc),
         }
     }
@@ -147,6 +149,23 @@ impl Session {
             unreachable!()
         };
         Ok(Reply::Reduce(reduced(alloc, slot, degrees)?))
+    }
+
+    /// What the pairs that were removed from the version that stands leave, and the maps between the whole complex and
+    /// that.
+    fn equivalence_reply(&self, alloc: Global) -> Result<Reply, NoMemory>
+        requires { HasReduction self.now }
+        ensures { IfOk result (IsSoloAnswer self.now Equiv) }
+    {
+        // This call is made for its clauses alone.
+        start_is_cochain_complex();
+        let degrees = degree_count(self.sheaf.draft().complex.dims()) as u8;
+        let Some(slot) = &self.slot else {
+            unreachable!()
+        };
+        let complex = reduced(alloc, slot, degrees)?;
+        let maps = maps(alloc, slot, degrees)?;
+        Ok(Reply::Equiv(complex, maps))
     }
 
     /// Asks the question that the client comes to, and answers it.

@@ -82,6 +82,8 @@ query_stands kinds.Betti stages.InClient e h = refl
 query_stands kinds.Betti s e h = absurd cc
 query_stands kinds.Reduce stages.InClient e h = refl
 query_stands kinds.Reduce s e h = absurd cc
+query_stands kinds.Equiv stages.InClient e h = refl
+query_stands kinds.Equiv s e h = absurd cc
 query_stands kind s e h = absurd cc
 
 edit_stands : (s : Stage) → may_stand s kinds.Edit ≡ true → s ≡ stages.InClient

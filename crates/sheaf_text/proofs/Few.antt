@@ -11,7 +11,7 @@ use Rattle.std.proofs.lemmas.List.Sums.{sum_by-append, sum_by-cons, count_by-le-
 use Rattle.std.proofs.lemmas.List.Splits.{length-slice_split}
 use Rattle.sheaf_words.specs.declared.query.Command.{Command}
 use Rattle.sheaf_words.specs.declared.query.Command.TheVariants.{Change, Ask}
-use Rattle.sheaf_words.specs.declared.query.Query.TheVariants.{Betti, Reduce}
+use Rattle.sheaf_words.specs.declared.query.Query.TheVariants.{Betti, Reduce, Equiv}
 use Rattle.sheaf_words.specs.declared.edit.Set.{Set}
 use Rattle.sheaf_text.specs.Cut.{words}
 use Rattle.sheaf_text.specs.Lines.{word, is_skipped, kind_of}
@@ -203,6 +203,7 @@ kind_keeps dims k line kinds.Client ws e few =
     (line_more dims k.input.scripts k.commands line few)
 kind_keeps dims k line kinds.Betti ws e few = command_keeps dims k line (Ask Betti) tt e few
 kind_keeps dims k line kinds.Reduce ws e few = command_keeps dims k line (Ask Reduce) tt e few
+kind_keeps dims k line kinds.Equiv ws e few = command_keeps dims k line (Ask Equiv) tt e few
 kind_keeps dims k line kinds.Edit ws e few =
     command_keeps dims k line (Change (record { sets = [] })) (omega arith) e few
 kind_keeps dims k line kinds.Stalk ws e few =

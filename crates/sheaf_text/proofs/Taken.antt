@@ -24,6 +24,7 @@ with_query-advances : (k : Known) (kind : Kind) (ws : List (List ℕ)) → is_qu
     → with_query k (query_of kind) ≡ advance k (Some kind) ws
 with_query-advances k kinds.Betti ws e = refl
 with_query-advances k kinds.Reduce ws e = refl
+with_query-advances k kinds.Equiv ws e = refl
 with_query-advances k kind ws e = absurd cc
 
 known-with_query : (old : State) (scripts : Scripts) (q : Query) → old.stage ≡ stages.InClient

@@ -26,7 +26,7 @@ Gives (Err fault) reading = GivesFault fault reading
 abbrev pub CanBeServed : List ℕ → Query → Type 0
 CanBeServed dims Betti = Unit {0}
 CanBeServed dims Reduce = Unit {0}
-CanBeServed dims Equiv = ⊥
+CanBeServed dims Equiv = Unit {0}
 CanBeServed dims (Basis k) = ⊥
 CanBeServed dims (Class k z) = ⊥
 CanBeServed dims Sections = ⊥

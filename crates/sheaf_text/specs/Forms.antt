@@ -104,10 +104,12 @@ known_after k ws = advance k (kind_of (word ws 0)) ws
 abbrev pub is_query_kind : Kind → Bool
 is_query_kind kinds.Betti = true
 is_query_kind kinds.Reduce = true
+is_query_kind kinds.Equiv = true
 is_query_kind kind = false
 
 abbrev pub query_of : Kind → Query
 query_of kinds.Reduce = queries.Reduce
+query_of kinds.Equiv = queries.Equiv
 query_of kind = queries.Betti
 
 -- the lines of changes, and the change of one

@@ -73,6 +73,7 @@ kind_refusal k kinds.Face ws = face_refusal k ws
 kind_refusal k kinds.Client ws = if nat_le 8 (length k.input.scripts) then Some (Over limits.Clients) else None
 kind_refusal k kinds.Betti ws = if nat_le 4096 k.commands then Some (Over limits.Commands) else None
 kind_refusal k kinds.Reduce ws = if nat_le 4096 k.commands then Some (Over limits.Commands) else None
+kind_refusal k kinds.Equiv ws = if nat_le 4096 k.commands then Some (Over limits.Commands) else None
 kind_refusal k kinds.Edit ws = if nat_le 4096 k.commands then Some (Over limits.Commands) else None
 kind_refusal k kinds.Done ws = if nat_lt 1073741824 (room k.input.stalks k.input.scripts) then Some (Over limits.Room)
     else None

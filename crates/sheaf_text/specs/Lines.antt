@@ -30,6 +30,7 @@ kind_of w =
     else if bytes_eq w (codes "client") then Some kinds.Client
     else if bytes_eq w (codes "betti") then Some kinds.Betti
     else if bytes_eq w (codes "reduce") then Some kinds.Reduce
+    else if bytes_eq w (codes "equiv") then Some kinds.Equiv
     else if bytes_eq w (codes "edit") then Some kinds.Edit
     else if bytes_eq w (codes "stalk") then Some kinds.Stalk
     else if bytes_eq w (codes "restrict") then Some kinds.Restrict
@@ -49,6 +50,7 @@ may_stand stages.Faces kinds.Client = true
 may_stand stages.Faces kinds.Done = true
 may_stand stages.InClient kinds.Betti = true
 may_stand stages.InClient kinds.Reduce = true
+may_stand stages.InClient kinds.Equiv = true
 may_stand stages.InClient kinds.Edit = true
 may_stand stages.InClient kinds.Client = true
 may_stand stages.InClient kinds.Done = true

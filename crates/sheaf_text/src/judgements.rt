@@ -153,7 +153,7 @@ fn kind_refusal(state: &State, kind: Kind, text: &[u8]) -> Option<Refusal>
         Kind::Cell => cell_refusal(state, text),
         Kind::Face => face_refusal(state, text),
         Kind::Client => client_refusal(state),
-        Kind::Betti | Kind::Reduce | Kind::Edit => command_refusal(state),
+        Kind::Betti | Kind::Reduce | Kind::Equiv | Kind::Edit => command_refusal(state),
         Kind::Stalk | Kind::Restrict | Kind::Commit => None,
         Kind::Done => room_refusal(state),
     }

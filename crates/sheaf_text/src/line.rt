@@ -15,6 +15,7 @@ pub(crate) enum Kind {
     Client,
     Betti,
     Reduce,
+    Equiv,
     Edit,
     Stalk,
     Restrict,
@@ -55,6 +56,8 @@ fn kind_of_word(word: &[u8]) -> Option<Kind>
         Some(Kind::Betti)
     } else if word == b"reduce".as_slice() {
         Some(Kind::Reduce)
+    } else if word == b"equiv".as_slice() {
+        Some(Kind::Equiv)
     } else if word == b"edit".as_slice() {
         Some(Kind::Edit)
     } else if word == b"stalk".as_slice() {
@@ -82,7 +85,7 @@ fn may_stand_in_client(kind: Kind) -> bool
 {
     matches!(
         kind,
-        Kind::Betti | Kind::Reduce | Kind::Edit | Kind::Client | Kind::Done
+        Kind::Betti | Kind::Reduce | Kind::Equiv | Kind::Edit | Kind::Client | Kind::Done
     )
 }
 

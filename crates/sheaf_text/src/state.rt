@@ -31,6 +31,7 @@ fn query_of(kind: Kind) -> Query
 {
     match kind {
         Kind::Reduce => Query::Reduce,
+        Kind::Equiv => Query::Equiv,
         _ => Query::Betti,
     }
 }
@@ -177,6 +178,7 @@ impl State {
             Kind::Client => self.take_client(alloc, text),
             Kind::Betti => self.take_query(Kind::Betti, text),
             Kind::Reduce => self.take_query(Kind::Reduce, text),
+            Kind::Equiv => self.take_query(Kind::Equiv, text),
             Kind::Edit => {
                 self.take_edit(alloc, text);
                 Ok(())

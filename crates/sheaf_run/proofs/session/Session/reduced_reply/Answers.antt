@@ -1,6 +1,5 @@
 use Rattle.std.proofs.Common.{◌∙◌, sym, ap, arith}
 use Rattle.std.proofs.lemmas.Option.{same_Some}
-use Rattle.cell_complex.specs.Invariants.{IsComplex}
 use Rattle.sheaf_data.specs.Sheaves.{SheafData}
 use Rattle.sheaf_run.specs.Sessions.{Progress}
 use Rattle.sheaf_data.specs.Betti.{degree_count}

@@ -1,0 +1,13 @@
+pub mod ProductLaws
+pub mod NextLaws
+pub mod RowLaws
+pub mod LogLaws
+pub mod EndLaws
+pub mod CellRowLaws
+pub mod AddLaws
+pub mod UnitLaws
+pub mod BlockLaws
+pub mod LiveLaws
+pub mod StoredLaws
+pub mod Identities
+pub mod ComposedBlocks
