@@ -113,7 +113,7 @@ impl Row {
             ≡ entry_after (keys listed.now) (map (option_map scalar_block) entries.items) (entry self.now q) q) }
     {
         Ok(Row {
-            entries: self.entries.with_fresh(alloc, listed, entries)?,
+            entries: self.entries.with_copied(alloc, listed, entries.as_slice())?,
             larger: without(alloc, &self.larger, listed)?,
         })
     }

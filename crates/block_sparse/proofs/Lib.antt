@@ -7,3 +7,4 @@ pub mod CandidateLaws
 pub mod ScalarBlocks
 pub mod StoredLaws
 pub mod SizeLaws
+pub mod GapLaws

@@ -84,7 +84,8 @@ fn fresh_column(
     ensures { IfOk result (λ l. IsFreshColumn (matrix_of joined.now) col size below.now old.now l) }
 {
     let marks = column_marks(alloc, joined, col, size, below)?;
-    old.with_fresh(alloc, below, marks)
+    let fresh = old.with_copied(alloc, below, marks.as_slice())?;
+    Ok(fresh)
 }
 
 /// The rows of the cells below once a joined matrix has come in.

@@ -11,6 +11,7 @@ mod coboundary;
 mod comparison;
 mod flags;
 mod fresh;
+mod gapped;
 mod live_cells;
 mod parts;
 

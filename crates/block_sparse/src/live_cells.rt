@@ -4,6 +4,7 @@ ghost use Rattle.std.specs.Prelude.{map, MatchOption, IfOk};
 ghost use Rattle.rising_lists.specs.Rising.{IsRising, has};
 ghost use Rattle.block_complexes.specs.BlockComplexes.{cells, degree_of, size_of};
 
+use crate::gapped::Gapped;
 use rising_lists::Line;
 use std::alloc::{AllocError as NoMemory, Global};
 use std::marker::Model;
@@ -12,7 +13,7 @@ use std::marker::Model;
 /// for.
 #[derive(Debug, Drop)]
 pub(crate) struct LiveCells {
-    live: Vec<(u32, u8, u8)>,
+    live: Gapped,
     /// The size of each cell that was live at first; 0 once it is not.
     sizes: Line<u8>,
 }
@@ -23,9 +24,9 @@ impl Model for LiveCells {
 
     ghost Value = { List (ℕ × ℕ × ℕ) };
 
-    ghost view = { λ l. l.live.items };
+    ghost view = { λ l. l.live };
 
-    ghost invariant = { λ l. AreSizes l.live.items l.sizes };
+    ghost invariant = { λ l. AreSizes l.live l.sizes };
 }
 
 impl LiveCells {
@@ -36,7 +37,7 @@ impl LiveCells {
     {
         let sizes = Line::of_values(cells_of(alloc, live)?, sizes_of(alloc, live)?);
         Ok(LiveCells {
-            live: Vec::from_slice(alloc, live)?,
+            live: Gapped::of(alloc, live)?,
             sizes,
         })
     }
@@ -46,21 +47,21 @@ impl LiveCells {
         ensures { IfOk result (λ l. l ≡ self.now) }
     {
         Ok(LiveCells {
-            live: Vec::from_slice(alloc, &self.live)?,
+            live: Gapped::of(alloc, self.live.as_slice())?,
             sizes: self.sizes.copy(alloc)?,
         })
     }
 
     /// What gives them their memory.
     pub(crate) fn allocator(&self) -> Global {
-        *self.live.allocator()
+        self.live.allocator()
     }
 
     /// The list of them.
     pub(crate) fn as_slice(&self) -> &[(u32, u8, u8)]
         ensures { result.now ≡ self.now }
     {
-        &self.live
+        self.live.as_slice()
     }
 
     /// The size of a cell; 0 for a cell that is not live.
@@ -98,11 +99,11 @@ fn sizes_of(alloc: Global, live: &[(u32, u8, u8)]) -> Result<Vec<u8>, NoMemory>
 }
 
 /// Takes a cell out of a list of live cells.
-fn remove_live(live: &mut Vec<(u32, u8, u8)>, c: u32)
-    requires { IsRising (cells live.old.items) }
-    ensures { live.new.items ≡ filter (λ l. not (l.0 == c)) live.old.items }
+fn remove_live(live: &mut Gapped, c: u32)
+    requires { IsRising (cells live.old) }
+    ensures { live.new ≡ filter (λ l. not (l.0 == c)) live.old }
 {
-    if let Some(at) = find(live, c) {
+    if let Some(at) = find(live.as_slice(), c) {
         live.remove(at);
     }
 }

@@ -10,7 +10,7 @@ use Rattle.rising_lists.proofs.Keyed.{rising_le, place_of, look-at, look-absent,
 use Rattle.rising_lists.proofs.LineLaws.{line-absent}
 use Rattle.open_columns.specs.declared.mark.Mark.{Mark}
 use Rattle.open_columns.specs.declared.mark.First.{First}
-use Rattle.open_columns.specs.Open.{IsFirst, FirstFrom, FirstPair, NoneBelow, AreFirst, is_open, first_of}
+use Rattle.open_columns.specs.Open.{IsFirst, FirstFrom, FirstPair, NoneBelow, AreFirst, AreNoneBelow, is_open, first_of}
 
 abbrev pub nothing : First
 nothing = record { cell = None }
@@ -195,15 +195,48 @@ pub entry-at : {T : Type 0} (line : ByCell T) (i : ℕ) (d : T) → IsLine line 
     → entry line (get_or line.cells i 0) ≡ Some (get_or line.values i d)
 entry-at line i d is l = look-at line.cells line.values is.full is.rising i d l
 
+pub known : (o : Option ℕ) → is_some o ≡ false → o ≡ None
+known None e = refl
+known (Some t) e = cc
+
+-- no column up to a cell has an open block where none below the cell has, it has none, and no later one has
+pub none-after : (firsts : ByCell First) (low : ℕ) → AreNoneBelow firsts low
+    → is_some (first_of (entry firsts low)) ≡ false → (k : ℕ)
+    → (low + 1 ≤ k → is_some (first_of (entry firsts k)) ≡ false) → first_of (entry firsts k) ≡ None
+none-after firsts low below here k after = elim (cases_lt k low) [
+  | inl u ↦ below k u
+  | inr u ↦ elim (cases_eq low k) [
+    | inl e ↦ known (first_of (entry firsts k)) (ap (λ n. is_some (first_of (entry firsts n))) (sym e) ∙ here)
+    | inr n ↦ known (first_of (entry firsts k)) (after (omega arith))
+  ]
+]
+
+-- what is put at a cell keeps that none below another is open
+pub none-put : (firsts firsts' : ByCell First) (low low' x : ℕ) (first : First) → AreNoneBelow firsts low
+    → low' ≤ low → (is_some first.cell ≡ true → low' ≤ x)
+    → ((q : ℕ) → entry firsts' q ≡ cond (eqb q x) (option_map (λ _. first) (entry firsts x)) (entry firsts q))
+    → AreNoneBelow firsts' low'
+none-put firsts firsts' low low' x first none within above put k l = ap first_of (put k) ∙ elim (cases_eq k x) [
+  | inl e ↦
+      ap (λ b. first_of (cond b (option_map (λ _. first) (entry firsts x)) (entry firsts k))) (eq-eqb k x e)
+      ∙ go (entry firsts x) (elim (cases_Bool (is_some first.cell)) [
+        | inl some ↦ absurd (omega (arith, above some, e, l))
+        | inr other ↦ known first.cell other
+      ])
+  | inr n ↦
+      ap (λ b. first_of (cond b (option_map (λ _. first) (entry firsts x)) (entry firsts k))) (ne_eqb k x n)
+      ∙ none k (omega arith)
+]
+  where
+    go : (o : Option First) → first.cell ≡ None → first_of (option_map (λ _. first) o) ≡ None
+    go None e = refl
+    go (Some v) e = e
+
 -- the first open block of the first column after x that has one
 module _ (marks : ByCell (ByCell Mark)) (firsts : ByCell First) (x : ℕ) (are : AreFirst marks firsts) where
   closed : (s t : ℕ) → first_of (entry firsts s) ≡ None → opens marks s t ≡ false
   closed s t e = let f : FirstFrom (opens marks s) 0 None = subst (FirstFrom (opens marks s) 0) e (are.first s) in
       f t (omega arith)
-
-  known : (o : Option ℕ) → is_some o ≡ false → o ≡ None
-  known None e = refl
-  known (Some t) e = cc
 
   pub first_pair-none : FirstFrom (λ s. is_some (first_of (entry firsts s))) (x + 1) None
       → FirstPair (opens marks) x None

@@ -41,6 +41,10 @@ abbrev pub first_of : Option First → Option ℕ
 first_of None = None
 first_of (Some o) = o.cell
 
+-- no column of a cell below this one has an open block
+abbrev pub AreNoneBelow : ByCell First → ℕ → Type 0
+AreNoneBelow firsts low = (c : ℕ) → c < low → first_of (entry firsts c) ≡ None
+
 -- of each column the first open block is known
 pub record AreFirst (marks : ByCell (ByCell Mark)) (firsts : ByCell First) : Type 0 where
   pub noted : (s : ℕ) → is_some (entry firsts s) ≡ has s marks.cells

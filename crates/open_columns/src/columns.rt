@@ -3,6 +3,7 @@ ghost use Rattle.std.specs.Prelude.{option_copied, option_map, unwrap_or, IfOk, 
 ghost use Rattle.rising_lists.specs.Rising.{IsRising, has, keys, look, entry, line_of, entry_of};
 ghost use Rattle.open_columns.specs.Open.{FirstFrom, FirstPair, NoneBelow, is_open, first_of, with_mark_flag};
 
+use crate::firsts::Firsts;
 use crate::mark::{First, Mark};
 use rising_lists::{Line, Lines};
 use std::alloc::{AllocError as NoMemory, Global};
@@ -13,7 +14,7 @@ use std::marker::Model;
 #[derive(Debug, Drop)]
 pub struct Columns {
     marks: Lines<Mark>,
-    firsts: Line<First>,
+    firsts: Firsts,
 }
 
 impl Model for Columns {
@@ -35,10 +36,9 @@ impl Columns {
         ensures cells { IfOk result (λ c. c.cells ≡ cells.now) }
         ensures empty { IfOk result (λ c. (x : ℕ) → line_of c x ≡ record { cells = []; values = [] }) }
     {
-        let none = First { cell: None };
         Ok(Columns {
             marks: Lines::of_cells(alloc, cells)?,
-            firsts: Line::constant(alloc, cells, &none)?,
+            firsts: Firsts::of_cells(alloc, cells)?,
         })
     }
 
@@ -85,11 +85,12 @@ impl Columns {
         }
     }
 
-    /// The first open block of the first column after `x` that has one: one search, then one step for each column.
+    /// The first open block of the first column after `x` that has one: one search, then one step for each column after
+    /// those of which it is noted that none has an open block.
     pub fn first_open_after(&self, x: u32) -> Option<(u32, u32)>
         ensures { FirstPair (λ s t. is_open (entry_of self.now s t)) x result }
     {
-        match first_column_after(&self.firsts, x) {
+        match self.firsts.first_after(x) {
             Some(s) => first_pair(&self.firsts, s),
             None => None,
         }
@@ -130,6 +131,7 @@ impl Columns {
     {
         self.marks.clear(x);
         self.firsts.put(x, First { cell: None });
+        self.firsts.pass();
     }
 
     /// Takes a cell out of the column of a cell.
@@ -169,7 +171,7 @@ impl Columns {
 }
 
 /// The cell of the first open block of a column.
-fn first_of(firsts: &Line<First>, x: u32) -> Option<u32>
+fn first_of(firsts: &Firsts, x: u32) -> Option<u32>
     ensures { result ≡ first_of (entry firsts.now x) }
 {
     match firsts.get(x) {
@@ -179,7 +181,7 @@ fn first_of(firsts: &Line<First>, x: u32) -> Option<u32>
 }
 
 /// The cell and that of the first open block of its column.
-fn first_pair(firsts: &Line<First>, s: u32) -> Option<(u32, u32)>
+fn first_pair(firsts: &Firsts, s: u32) -> Option<(u32, u32)>
     ensures { MatchOption result (first_of (entry firsts.now s) ≡ None)
         (λ p. (p.0 ≡ s) × (first_of (entry firsts.now s) ≡ Some p.1)) }
 {
@@ -187,27 +189,6 @@ fn first_pair(firsts: &Line<First>, s: u32) -> Option<(u32, u32)>
         Some(t) => Some((s, t)),
         None => None,
     }
-}
-
-/// The first cell after `x` whose column has an open block.
-fn first_column_after(firsts: &Line<First>, x: u32) -> Option<u32>
-    ensures { FirstFrom (λ s. is_some (first_of (entry firsts.now s))) (x + 1) result }
-{
-    let cells = firsts.cells();
-    let values = firsts.values();
-    for i in firsts.count_below(x)..cells.len() {
-        if cells[i] > x && has_open(&values[i]) {
-            return Some(cells[i]);
-        }
-    }
-    None
-}
-
-/// Whether a column has an open block.
-fn has_open(first: &First) -> bool
-    ensures { result ≡ is_some first.now.cell }
-{
-    first.cell.is_some()
 }
 
 /// Whether a block that is noted so is open.
@@ -254,7 +235,7 @@ fn first_after(marks: &Lines<Mark>, x: u32, first: u32, from: u32) -> Option<u32
 }
 
 /// Looks again for the first open block of a column, from the one that was the first.
-fn renew(firsts: &mut Line<First>, marks: &Lines<Mark>, x: u32)
+fn renew(firsts: &mut Firsts, marks: &Lines<Mark>, x: u32)
     requires { NoneBelow (λ t. is_open (entry_of marks.now x t)) (first_of (entry firsts.old x)) }
     ensures noted { (k : ℕ) → is_some (entry firsts.new k) ≡ is_some (entry firsts.old k) }
     ensures others { (k : ℕ) → k ≢ x → first_of (entry firsts.new k) ≡ first_of (entry firsts.old k) }

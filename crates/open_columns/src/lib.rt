@@ -3,6 +3,7 @@
 #![tactic(auto)]
 
 mod columns;
+mod firsts;
 mod mark;
 
 pub use columns::Columns;

@@ -1,9 +1,10 @@
 -- Two rising lists are merged into one, cell by cell.
-use Rattle.std.proofs.Common.{◌≡◌, ◌≢◌, ℕ, suc, ◌<◌, ◌≤◌, ◌+◌, ◌-◌, Bool, true, false, cond, refl, sym, ap, ap₂}
+use Rattle.std.proofs.Common.{◌≡◌, ◌≢◌, ℕ, zero, suc, ◌<◌, ◌≤◌, ◌+◌, ◌-◌, Bool, true, false, cond, refl, sym, ap, ap₂}
 use Rattle.std.proofs.Common.{◌∙◌, arith, ◌⊎◌, inl, inr, List, [], ◌∷◌, ◌++◌, length, get_or, drop, Option, Some, None}
-use Rattle.std.proofs.Common.{eqb, subst, length-append, drop-cons, add-one, MatchBool}
-use Rattle.std.specs.Option.{unwrap_or}
-use Rattle.std.proofs.lemmas.List.{get_or_push, get_or_append_left}
+use Rattle.std.proofs.Common.{eqb, subst, length-append, drop-cons, MatchBool}
+use Rattle.std.specs.Option.{unwrap_or, option_map, option_to_list}
+use Rattle.std.proofs.Common.{append-nil, append_assoc, get_or-drop, add-one, take}
+use Rattle.std.proofs.lemmas.List.{get_or_push, get_or_append_left, get_or_default, take_more, length-drop}
 use Rattle.std.proofs.lemmas.Bool.{eq-eqb, ne_eqb, cases_eq, cases_lt, lt-ltb, le-ltb}
 use Rattle.rising_lists.specs.Rising.{has, look, entry_after, IsRising, IsLine, stands, past, IsNext}
 use Rattle.rising_lists.proofs.Keyed.{has-absent, look-absent, look-at, rising_le}
@@ -242,6 +243,126 @@ module _ {A : Type 0} (old : List ℕ) (vs : List A) (listed : List ℕ) (fresh 
           (look-absent q listed fresh (absent-between listed m.low j c q listed_rises m.listed_place next.in_second
           l u))
           (look-absent q old vs (absent-between old m.low i c q old_rises m.old_place next.in_first l u))
+
+-- several cells more of the old list, all below the next listed one
+pub merged-run : {A : Type 0} (old : List ℕ) (vs : List A) (listed : List ℕ) (fresh rest : List (Option A)) (i j : ℕ)
+    (done : List ℕ) (values : List A) → IsRising old → IsRising listed → length vs ≡ length old
+    → length fresh ≡ length listed → Merged old vs listed fresh rest i j done values → (n : ℕ) → i + n ≤ length old
+    → ((a : ℕ) → i ≤ a → a < i + n → j < length listed → get_or old a 0 < get_or listed j 0)
+    → Merged old vs listed fresh rest (i + n) j (done ++ take n (drop i old)) (values ++ take n (drop i vs))
+merged-run {A} old vs listed fresh rest i j done values rises listed_rises full fresh_full m zero l below =
+    subst (λ k. Merged old vs listed fresh rest k j (done ++ []) (values ++ [])) (omega arith)
+    (subst (λ d. Merged old vs listed fresh rest i j d (values ++ [])) (sym (append-nil done))
+    (subst (Merged old vs listed fresh rest i j done) (sym (append-nil values)) m))
+merged-run {A} old vs listed fresh rest i j done values rises listed_rises full fresh_full m (suc n) l below =
+    more vs full (merged-run old vs listed fresh rest i j done values rises listed_rises full fresh_full m n (omega arith)
+    (λ a b d e. below a b (omega arith) e)) refl
+  where
+    cells' : List ℕ
+    cells' = done ++ take n (drop i old)
+
+    next : IsNext old listed (i + n) j (get_or old (i + n) 0)
+    next = record {
+      in_first = λ o. omega arith;
+      in_second = λ o. omega (arith, below (i + n) (omega arith) (omega arith) o);
+      is = inr (omega (arith, l), refl, λ o. below (i + n) (omega arith) (omega arith) o);
+    }
+
+    apart : stands listed j (get_or old (i + n) 0) ≡ false
+    apart = elim (cases_lt j (length listed)) [
+      | inl o ↦ stands-other listed j (get_or old (i + n) 0) o (λ e. absurd (omega (arith, below (i + n) (omega arith) (omega arith) o, e)))
+      | inr o ↦ stands-past listed j (get_or old (i + n) 0) o
+    ]
+
+    more : (ws : List A) → length ws ≡ length old
+        → Merged old vs listed fresh rest (i + n) j cells' (values ++ take n (drop i vs)) → vs ≡ ws
+        → Merged old vs listed fresh rest (i + suc n) j (done ++ take (suc n) (drop i old))
+        (values ++ take (suc n) (drop i vs))
+    more [] size before same = absurd (omega (arith, size, l))
+    more (d ∷ ds) size before same =
+        let inside : i + n < length vs = omega (arith, full, l) in
+        let v : A = get_or vs (i + n) d in
+        let low : before.low ≤ (get_or old (i + n) 0) = before.old_place.from (i + n) (omega arith) (omega (arith, l)) in
+        let due = next-kept old vs listed fresh rest (i + n) j cells' (values ++ take n (drop i vs)) rises listed_rises full
+        fresh_full before (get_or old (i + n) 0) next (Some v) rest apart refl (λ e. ap Some (get_or_default vs (i + n) d e inside)) in
+        let line' = line-push cells' (values ++ take n (drop i vs)) (get_or old (i + n) 0) v before.line
+        (λ q o. before.after q (omega (arith, low, o))) in
+        let entries : (q : ℕ) → look q (cells' ++ (get_or old (i + n) 0) ∷ []) ((values ++ take n (drop i vs)) ++ v ∷ [])
+        ≡ cond (eqb q (get_or old (i + n) 0)) (Some v) (look q cells' (values ++ take n (drop i vs))) =
+        λ q. look-push q cells' (values ++ take n (drop i vs)) (get_or old (i + n) 0) v before.line.full (before.after (get_or old (i + n) 0) low) in
+        let after = merged-next old vs listed fresh rest (i + n) j cells' (values ++ take n (drop i vs)) rises listed_rises
+        full fresh_full before (get_or old (i + n) 0) next (Some v) rest (cells' ++ (get_or old (i + n) 0) ∷ []) ((values ++ take n (drop i vs)) ++ v ∷ []) due
+        line' entries in
+        let old_past : past old (i + n) (get_or old (i + n) 0) ≡ i + suc n = ap (λ b. cond b ((i + n) + 1) (i + n)) (stands-here old (i + n) (get_or old (i + n) 0) (omega (arith, l)) refl)
+        ∙ omega arith in
+        let listed_past : past listed j (get_or old (i + n) 0) ≡ j = ap (λ b. cond b (j + 1) j) apart in
+        let cells_are : cells' ++ (get_or old (i + n) 0) ∷ [] ≡ done ++ take (suc n) (drop i old) =
+        append_assoc done (take n (drop i old)) ((get_or old (i + n) 0) ∷ [])
+        ∙ ap (λ e. done ++ e) (ap (λ e. take n (drop i old) ++ e ∷ []) (sym (get_or-drop i old n 0))
+        ∙ sym (take_more (drop i old) n 0 (omega (arith, length-drop i old, l))) ∙ ap (λ e. take e (drop i old)) (add-one n))
+        in
+        let values_are : (values ++ take n (drop i vs)) ++ v ∷ [] ≡ values ++ take (suc n) (drop i vs) =
+        append_assoc values (take n (drop i vs)) (v ∷ [])
+        ∙ ap (λ e. values ++ e) (ap (λ e. take n (drop i vs) ++ e ∷ []) (sym (get_or-drop i vs n d))
+        ∙ sym (take_more (drop i vs) n d (omega (arith, length-drop i vs, full, l))) ∙ ap (λ e. take e (drop i vs)) (add-one n))
+        in
+        subst (Merged old vs listed fresh rest (i + suc n) j (done ++ take (suc n) (drop i old))) values_are
+        (subst (λ e. Merged old vs listed fresh rest (i + suc n) j e ((values ++ take n (drop i vs)) ++ v ∷ [])) cells_are
+        (subst (λ e. Merged old vs listed fresh rest (i + suc n) e (cells' ++ (get_or old (i + n) 0) ∷ [])
+        ((values ++ take n (drop i vs)) ++ v ∷ [])) listed_past
+        (subst (λ e. Merged old vs listed fresh rest e (past listed j (get_or old (i + n) 0)) (cells' ++ (get_or old (i + n) 0) ∷ [])
+        ((values ++ take n (drop i vs)) ++ v ∷ [])) old_past after)))
+
+-- the next listed cell, with its fresh value where it has one
+pub merged-listed : {A : Type 0} (old : List ℕ) (vs : List A) (listed : List ℕ) (fresh : List (Option A)) (i j : ℕ)
+    (done : List ℕ) (values : List A) → IsRising old → IsRising listed → length vs ≡ length old
+    → length fresh ≡ length listed → Merged old vs listed fresh (drop j fresh) i j done values → j < length listed
+    → (i < length old → get_or listed j 0 ≤ get_or old i 0)
+    → Merged old vs listed fresh (drop (j + 1) fresh) (past old i (get_or listed j 0)) (j + 1)
+    (done ++ option_to_list (option_map (λ _. get_or listed j 0) (get_or fresh j None)))
+    (values ++ option_to_list (get_or fresh j None))
+merged-listed {A} old vs listed fresh i j done values rises listed_rises full fresh_full m inside here =
+    subst (λ k. Merged old vs listed fresh (drop (j + 1) fresh) (past old i (get_or listed j 0)) k
+    (done ++ option_to_list (option_map (λ _. (get_or listed j 0)) (get_or fresh j None))) (values ++ option_to_list (get_or fresh j None))) listed_past
+    (merged-next old vs listed fresh (drop j fresh) i j done values rises listed_rises full fresh_full m (get_or listed j 0) next (get_or fresh j None)
+    (drop (j + 1) fresh) (done ++ option_to_list (option_map (λ _. (get_or listed j 0)) (get_or fresh j None))) (values ++ option_to_list (get_or fresh j None))
+    (next-listed old vs listed fresh (drop j fresh) i j done values rises listed_rises full fresh_full m (get_or listed j 0) next (get_or fresh j None)
+    (drop (j + 1) fresh) (stands-here listed j (get_or listed j 0) inside refl)
+    (drop-cons fresh j None (omega (arith, inside, fresh_full)) ∙ ap (λ k. (get_or fresh j None) ∷ drop k fresh) (sym (add-one j))))
+    (line (get_or fresh j None)) (entries (get_or fresh j None)))
+  where
+    next : IsNext old listed i j (get_or listed j 0)
+    next = record { in_first = here; in_second = λ o. omega arith; is = inl (inside, refl) }
+
+    listed_past : past listed j (get_or listed j 0) ≡ j + 1
+    listed_past = ap (λ b. cond b (j + 1) j) (stands-here listed j (get_or listed j 0) inside refl)
+
+    low : m.low ≤ (get_or listed j 0)
+    low = m.listed_place.from j (omega arith) inside
+
+    line : (o : Option A) → IsLine {A = A} (record {
+      cells = done ++ option_to_list (option_map (λ _. (get_or listed j 0)) o);
+      values = values ++ option_to_list o;
+    })
+    line None = subst (λ d. IsLine {A = A} (record { cells = d; values = values ++ [] })) (sym (append-nil done))
+        (subst (λ d. IsLine {A = A} (record { cells = done; values = d })) (sym (append-nil values)) m.line)
+    line (Some x) = line-push done values (get_or listed j 0) x m.line (λ q o. m.after q (omega (arith, low, o)))
+
+    entries : (o : Option A) (q : ℕ)
+        → look q (done ++ option_to_list (option_map (λ _. (get_or listed j 0)) o)) (values ++ option_to_list o)
+        ≡ cond (eqb q (get_or listed j 0)) o (look q done values)
+    entries None q =
+        ap₂ (λ d e. look q d e) (append-nil done) (append-nil values) ∙ elim (cases_eq q (get_or listed j 0)) [
+          | inl e ↦ m.after q (omega (arith, low, e)) ∙ sym (ap (λ b. cond b None (look q done values)) (eq-eqb q (get_or listed j 0) e))
+          | inr n ↦ sym (ap (λ b. cond b None (look q done values)) (ne_eqb q (get_or listed j 0) n))
+        ]
+    entries (Some x) q = look-push q done values (get_or listed j 0) x m.line.full (m.after (get_or listed j 0) low)
+
+-- a line with its cells said otherwise
+pub line-said : {A : Type 0} (done done' : List ℕ) (values : List A) → done ≡ done'
+    → IsLine {A = A} (record { cells = done; values = values })
+    → IsLine {A = A} (record { cells = done'; values = values })
+line-said {A} done done' values e line = subst (λ d. IsLine {A = A} (record { cells = d; values = values })) e line
 
 -- all was merged
 pub merged-all : {A : Type 0} (old : List ℕ) (vs : List A) (listed : List ℕ) (fresh rest : List (Option A)) (i j : ℕ)

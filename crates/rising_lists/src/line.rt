@@ -3,7 +3,10 @@ ghost use Rattle.std.specs.Prelude.{slice_index, option_copied, option_map, OnOk
 ghost use Rattle.rising_lists.specs.Rising.{IsRising, IsLine, has, keys, look, entry, entry_after};
 
 use crate::duplicate::Duplicate;
-use crate::merges::{append, is_listed, next_cell, next_value, past, past_listed};
+use crate::merges::{
+    append, append_one, append_run, fresh_at, is_listed, next_cell, next_value, past, past_listed,
+    place_from,
+};
 use crate::places::{count_below, place};
 use std::alloc::{AllocError as NoMemory, Global};
 use std::marker::Model;
@@ -163,6 +166,36 @@ impl<T: Duplicate> Line<T> {
             i = past(old, i, c);
             j = past_listed(listed, j, c);
         }
+        Ok(Line { cells, values })
+    }
+}
+
+impl<T: Copy + Drop> Line<T> {
+    /// What [`Line::with_fresh`] gives, of values that are copied: those between two listed cells at once.
+    pub fn with_copied(
+        &self,
+        alloc: Global,
+        listed: &[(u32, u8)],
+        fresh: &[Option<T>],
+    ) -> Result<Line<T>, NoMemory>
+        requires rising { IsRising (keys listed.now) }
+        requires full { length fresh.now ≡ length listed.now }
+        ensures { IfOk result (λ l. (q : ℕ)
+            → entry l q ≡ entry_after (keys listed.now) fresh.now (entry self.now q) q) }
+    {
+        let old = self.cells();
+        let room = old.len().saturating_add(listed.len());
+        let mut cells = Vec::with_capacity(alloc, room)?;
+        let mut values = Vec::with_capacity(alloc, room)?;
+        let mut i = 0;
+        for (j, cell) in listed.iter().enumerate() {
+            let c = cell.0;
+            let to = place_from(old, i, c);
+            append_run(&mut cells, &mut values, self, i, to)?;
+            append_one(&mut cells, &mut values, c, fresh_at(fresh, j))?;
+            i = past(old, to, c);
+        }
+        append_run(&mut cells, &mut values, self, i, old.len())?;
         Ok(Line { cells, values })
     }
 }

@@ -1,9 +1,11 @@
-ghost use Rattle.std.specs.Prelude.{◌≡◌, ◌==◌, ◌<◌, ◌≤◌, ℕ, true, false, None, Some, ◌∷◌, if◌then◌else◌, length};
-ghost use Rattle.std.specs.Prelude.{slice_index_or, MatchBool, OnOk, IfOk};
+ghost use Rattle.std.specs.Prelude.{◌≡◌, ◌==◌, ◌<◌, ◌≤◌, ◌-◌, ◌++◌, ℕ, true, false, None, Some, ◌∷◌, if◌then◌else◌};
+ghost use Rattle.std.specs.Prelude.{length, take, drop, slice_index, slice_index_or, option_map, MatchBool, OnOk, IfOk};
+ghost use Rattle.std.specs.Option.{option_to_list};
 ghost use Rattle.std.specs.Vec.Iter.{into_iter_items};
 ghost use Rattle.rising_lists.specs.Rising.{IsLine, keys, look, stands, past, IsNext};
 
 use crate::duplicate::Duplicate;
+use crate::line::Line;
 use std::alloc::{AllocError as NoMemory, Global};
 use std::vec::IntoIter;
 
@@ -87,4 +89,66 @@ pub(crate) fn append<T: Drop>(
         values.push(value)?;
     }
     Ok(())
+}
+
+/// The first place from `at` on whose cell is not below `c`: one step for each that it passes.
+pub(crate) fn place_from(cells: &[u32], at: usize, c: u32) -> usize
+    requires { at ≤ length cells.now }
+    ensures from { at ≤ result }
+    ensures within { result ≤ length cells.now }
+    ensures passed { (i : ℕ) → at ≤ i → i < result → slice_index cells.now i < c }
+    ensures here { result < length cells.now → c ≤ slice_index cells.now result }
+{
+    let mut place = at;
+    while place < cells.len() && cells[place] < c {
+        place += 1;
+    }
+    place
+}
+
+/// Puts the cells of a line from one place up to another, with their values, at the end; without memory one of the lists
+/// may be longer.
+pub(crate) fn append_run<T: Copy>(
+    cells: &mut Vec<u32>,
+    values: &mut Vec<T>,
+    line: &Line<T>,
+    from: usize,
+    to: usize,
+) -> Result<(), NoMemory>
+    requires order { from ≤ to }
+    requires within { to ≤ length line.now.cells }
+    ensures cells { OnOk result (cells.new.items ≡ cells.old.items ++ take (to - from) (drop from line.now.cells)) }
+    ensures values { OnOk result (values.new.items ≡ values.old.items ++ take (to - from) (drop from line.now.values)) }
+{
+    cells.extend_from_slice(&line.cells()[from..to])?;
+    values.extend_from_slice(&line.values()[from..to])?;
+    Ok(())
+}
+
+/// Puts a cell with its value at the end, if there is one; without memory one of the lists may be longer.
+pub(crate) fn append_one<T: Copy>(
+    cells: &mut Vec<u32>,
+    values: &mut Vec<T>,
+    c: u32,
+    value: Option<T>,
+) -> Result<(), NoMemory>
+    ensures cells { OnOk result (cells.new.items ≡ cells.old.items ++ option_to_list (option_map (λ _. c) value)) }
+    ensures values { OnOk result (values.new.items ≡ values.old.items ++ option_to_list value) }
+{
+    match value {
+        Some(value) => {
+            cells.push(c)?;
+            values.push(value)?;
+            Ok(())
+        }
+        None => Ok(()),
+    }
+}
+
+/// The fresh value at a place.
+pub(crate) fn fresh_at<T: Copy>(fresh: &[Option<T>], j: usize) -> Option<T>
+    requires { j < length fresh.now }
+    ensures { result ≡ slice_index_or fresh.now j None }
+{
+    fresh[j]
 }

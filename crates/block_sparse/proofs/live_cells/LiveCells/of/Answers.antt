@@ -15,5 +15,5 @@ of_values-sizes-requires-clause-full c =
 
 pub invariant_of-result : goal.invariant_of-result
 invariant_of-result c =
-    rw (c.of_values-sizes.ensures, c.in_ok-cells_of.ensures, c.in_ok-sizes_of.ensures, c.in_ok-from_slice.ensures.items)
+    rw (c.of_values-sizes.ensures, c.in_ok-cells_of.ensures, c.in_ok-sizes_of.ensures, c.in_ok-of.ensures)
     (sizes_of-live c.args.live.now)

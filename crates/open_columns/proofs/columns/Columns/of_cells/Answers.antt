@@ -5,8 +5,8 @@ use Rattle.open_columns.proofs.columns.Columns.of_cells.Goals as goal
 
 pub invariant_of-result : goal.invariant_of-result
 invariant_of-result c =
-    first-empty c.in_ok-of_cells.field-0 c.in_ok-constant.field-0 (c.in_ok-constant.ensures.cells
+    first-empty c.in_ok-of_cells.field-0 c.in_ok-of_cells-2.field-0 (c.in_ok-of_cells-2.ensures.cells
     ∙ sym c.in_ok-of_cells.ensures.cells)
-    (c.in_ok-constant.ensures.values
-    ∙ ap (λ cells. replicate (length cells) nothing) (sym c.in_ok-constant.ensures.cells))
+    (c.in_ok-of_cells-2.ensures.none
+    ∙ ap (λ cells. replicate (length cells) nothing) (sym c.in_ok-of_cells-2.ensures.cells))
     (λ s t. ap (λ l. entry l t) (c.in_ok-of_cells.ensures.empty s))

@@ -2,12 +2,13 @@ use Rattle.std.proofs.Common.{◌≡◌, ◌<◌, ◌+◌, ℕ, true, false, is_
 use Rattle.rising_lists.specs.Rising.{entry}
 use Rattle.open_columns.specs.Open.{first_of, IsFirst}
 use Rattle.open_columns.proofs.OpenLaws.{first-listed, none-at_all, none-next, unlisted-column, entry-at, nothing}
-use Rattle.open_columns.proofs.columns.first_column_after.Goals as goal
-use Rattle.open_columns.proofs.columns.first_column_after.Goals.{else-cells-i-via-then-cells-i+else-has_open}
-use Rattle.open_columns.proofs.columns.first_column_after.Goals.{else-cells-i-via-else-cells-i}
+use Rattle.open_columns.proofs.firsts.first_column_after.Goals as goal
+use Rattle.open_columns.proofs.firsts.first_column_after.Goals.{else-cells-i-via-then-cells-i+else-has_open}
+use Rattle.open_columns.proofs.firsts.first_column_after.Goals.{else-cells-i-via-else-cells-i}
 
 pub loop-i-init : goal.loop-i-init
-loop-i-init c = λ j l a. absurd (omega (arith, c.count_below-i.ensures.below j l, a))
+loop-i-init c = λ j l a.
+    ap is_some (c.requires (get_or c.args.firsts.now.cells j 0) (omega arith) (c.count_below-i.ensures.below j l))
 
 pub loop-i-preserved : goal.loop-i-preserved
 loop-i-preserved c =
