@@ -9,6 +9,9 @@ use crate::line::Line;
 use std::alloc::{AllocError as NoMemory, Global};
 use std::vec::IntoIter;
 
+/// Fewer cells than so many are put one by one: a copy of a slice takes longer to begin than they take.
+const SHORT: usize = 8;
+
 /// The least cell of two rising lists from these places on, one of which has some left.
 pub(crate) fn next_cell(first: &[u32], i: usize, second: &[(u32, u8)], j: usize) -> u32
     requires { length first.now ≤ i → j < length second.now }
@@ -109,6 +112,48 @@ pub(crate) fn place_from(cells: &[u32], at: usize, c: u32) -> usize
 /// Puts the cells of a line from one place up to another, with their values, at the end; without memory one of the lists
 /// may be longer.
 pub(crate) fn append_run<T: Copy>(
+    cells: &mut Vec<u32>,
+    values: &mut Vec<T>,
+    line: &Line<T>,
+    from: usize,
+    to: usize,
+) -> Result<(), NoMemory>
+    requires order { from ≤ to }
+    requires within { to ≤ length line.now.cells }
+    ensures cells { OnOk result (cells.new.items ≡ cells.old.items ++ take (to - from) (drop from line.now.cells)) }
+    ensures values { OnOk result (values.new.items ≡ values.old.items ++ take (to - from) (drop from line.now.values)) }
+{
+    if to - from < SHORT {
+        append_each(cells, values, line, from, to)
+    } else {
+        append_at_once(cells, values, line, from, to)
+    }
+}
+
+/// The same, one by one.
+fn append_each<T: Copy>(
+    cells: &mut Vec<u32>,
+    values: &mut Vec<T>,
+    line: &Line<T>,
+    from: usize,
+    to: usize,
+) -> Result<(), NoMemory>
+    requires order { from ≤ to }
+    requires within { to ≤ length line.now.cells }
+    ensures cells { OnOk result (cells.new.items ≡ cells.old.items ++ take (to - from) (drop from line.now.cells)) }
+    ensures values { OnOk result (values.new.items ≡ values.old.items ++ take (to - from) (drop from line.now.values)) }
+{
+    let run = &line.cells()[from..to];
+    let run_values = &line.values()[from..to];
+    for i in 0..run.len() {
+        cells.push(run[i])?;
+        values.push(run_values[i])?;
+    }
+    Ok(())
+}
+
+/// The same, all of them at once.
+fn append_at_once<T: Copy>(
     cells: &mut Vec<u32>,
     values: &mut Vec<T>,
     line: &Line<T>,
