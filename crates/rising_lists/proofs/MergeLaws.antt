@@ -255,7 +255,8 @@ merged-run {A} old vs listed fresh rest i j done values rises listed_rises full 
     (subst (λ d. Merged old vs listed fresh rest i j d (values ++ [])) (sym (append-nil done))
     (subst (Merged old vs listed fresh rest i j done) (sym (append-nil values)) m))
 merged-run {A} old vs listed fresh rest i j done values rises listed_rises full fresh_full m (suc n) l below =
-    more vs full (merged-run old vs listed fresh rest i j done values rises listed_rises full fresh_full m n (omega arith)
+    more vs full (merged-run old vs listed fresh rest i j done values rises listed_rises full fresh_full m n (omega
+    arith)
     (λ a b d e. below a b (omega arith) e)) refl
   where
     cells' : List ℕ
@@ -270,7 +271,12 @@ merged-run {A} old vs listed fresh rest i j done values rises listed_rises full 
 
     apart : stands listed j (get_or old (i + n) 0) ≡ false
     apart = elim (cases_lt j (length listed)) [
-      | inl o ↦ stands-other listed j (get_or old (i + n) 0) o (λ e. absurd (omega (arith, below (i + n) (omega arith) (omega arith) o, e)))
+      | inl o ↦ stands-other listed j (get_or old (i + n) 0) o (λ e. absurd (omega (
+        arith,
+        below (i + n) (omega arith)
+            (omega arith) o,
+        e,
+      )))
       | inr o ↦ stands-past listed j (get_or old (i + n) 0) o
     ]
 
@@ -282,35 +288,47 @@ merged-run {A} old vs listed fresh rest i j done values rises listed_rises full 
     more (d ∷ ds) size before same =
         let inside : i + n < length vs = omega (arith, full, l) in
         let v : A = get_or vs (i + n) d in
-        let low : before.low ≤ (get_or old (i + n) 0) = before.old_place.from (i + n) (omega arith) (omega (arith, l)) in
-        let due = next-kept old vs listed fresh rest (i + n) j cells' (values ++ take n (drop i vs)) rises listed_rises full
-        fresh_full before (get_or old (i + n) 0) next (Some v) rest apart refl (λ e. ap Some (get_or_default vs (i + n) d e inside)) in
+        let low : before.low ≤ (get_or old (i + n) 0) = before.old_place.from (i + n) (omega arith) (omega (arith, l))
+        in
+        let due = next-kept old vs listed fresh rest (i + n) j cells' (values ++ take n (drop i vs)) rises
+        listed_rises full
+        fresh_full before (get_or old (i + n) 0) next (Some v) rest apart refl (λ e. ap Some (get_or_default vs (i +
+        n) d e inside)) in
         let line' = line-push cells' (values ++ take n (drop i vs)) (get_or old (i + n) 0) v before.line
         (λ q o. before.after q (omega (arith, low, o))) in
-        let entries : (q : ℕ) → look q (cells' ++ (get_or old (i + n) 0) ∷ []) ((values ++ take n (drop i vs)) ++ v ∷ [])
+        let entries : (q : ℕ) → look q (cells' ++ (get_or old (i + n) 0) ∷ []) ((values ++ take n (drop i vs)) ++ v ∷
+        [])
         ≡ cond (eqb q (get_or old (i + n) 0)) (Some v) (look q cells' (values ++ take n (drop i vs))) =
-        λ q. look-push q cells' (values ++ take n (drop i vs)) (get_or old (i + n) 0) v before.line.full (before.after (get_or old (i + n) 0) low) in
-        let after = merged-next old vs listed fresh rest (i + n) j cells' (values ++ take n (drop i vs)) rises listed_rises
-        full fresh_full before (get_or old (i + n) 0) next (Some v) rest (cells' ++ (get_or old (i + n) 0) ∷ []) ((values ++ take n (drop i vs)) ++ v ∷ []) due
+        λ q. look-push q cells' (values ++ take n (drop i vs)) (get_or old (i + n) 0) v before.line.full (before.after
+        (get_or old (i + n) 0) low) in
+        let after = merged-next old vs listed fresh rest (i + n) j cells' (values ++ take n (drop i vs)) rises
+        listed_rises
+        full fresh_full before (get_or old (i + n) 0) next (Some v) rest (cells' ++ (get_or old (i + n) 0) ∷ [])
+        ((values ++ take n (drop i vs)) ++ v ∷ []) due
         line' entries in
-        let old_past : past old (i + n) (get_or old (i + n) 0) ≡ i + suc n = ap (λ b. cond b ((i + n) + 1) (i + n)) (stands-here old (i + n) (get_or old (i + n) 0) (omega (arith, l)) refl)
+        let old_past : past old (i + n) (get_or old (i + n) 0) ≡ i + suc n = ap (λ b. cond b ((i + n) + 1) (i + n))
+        (stands-here old (i + n) (get_or old (i + n) 0) (omega (arith, l)) refl)
         ∙ omega arith in
         let listed_past : past listed j (get_or old (i + n) 0) ≡ j = ap (λ b. cond b (j + 1) j) apart in
         let cells_are : cells' ++ (get_or old (i + n) 0) ∷ [] ≡ done ++ take (suc n) (drop i old) =
         append_assoc done (take n (drop i old)) ((get_or old (i + n) 0) ∷ [])
         ∙ ap (λ e. done ++ e) (ap (λ e. take n (drop i old) ++ e ∷ []) (sym (get_or-drop i old n 0))
-        ∙ sym (take_more (drop i old) n 0 (omega (arith, length-drop i old, l))) ∙ ap (λ e. take e (drop i old)) (add-one n))
+        ∙ sym (take_more (drop i old) n 0 (omega (arith, length-drop i old, l))) ∙ ap (λ e. take e (drop i old))
+        (add-one n))
         in
         let values_are : (values ++ take n (drop i vs)) ++ v ∷ [] ≡ values ++ take (suc n) (drop i vs) =
         append_assoc values (take n (drop i vs)) (v ∷ [])
         ∙ ap (λ e. values ++ e) (ap (λ e. take n (drop i vs) ++ e ∷ []) (sym (get_or-drop i vs n d))
-        ∙ sym (take_more (drop i vs) n d (omega (arith, length-drop i vs, full, l))) ∙ ap (λ e. take e (drop i vs)) (add-one n))
+        ∙ sym (take_more (drop i vs) n d (omega (arith, length-drop i vs, full, l))) ∙ ap (λ e. take e (drop i vs))
+        (add-one n))
         in
         subst (Merged old vs listed fresh rest (i + suc n) j (done ++ take (suc n) (drop i old))) values_are
-        (subst (λ e. Merged old vs listed fresh rest (i + suc n) j e ((values ++ take n (drop i vs)) ++ v ∷ [])) cells_are
+        (subst (λ e. Merged old vs listed fresh rest (i + suc n) j e ((values ++ take n (drop i vs)) ++ v ∷ []))
+        cells_are
         (subst (λ e. Merged old vs listed fresh rest (i + suc n) e (cells' ++ (get_or old (i + n) 0) ∷ [])
         ((values ++ take n (drop i vs)) ++ v ∷ [])) listed_past
-        (subst (λ e. Merged old vs listed fresh rest e (past listed j (get_or old (i + n) 0)) (cells' ++ (get_or old (i + n) 0) ∷ [])
+        (subst (λ e. Merged old vs listed fresh rest e (past listed j (get_or old (i + n) 0)) (cells' ++ (get_or old
+        (i + n) 0) ∷ [])
         ((values ++ take n (drop i vs)) ++ v ∷ [])) old_past after)))
 
 -- the next listed cell, with its fresh value where it has one
@@ -323,12 +341,17 @@ pub merged-listed : {A : Type 0} (old : List ℕ) (vs : List A) (listed : List �
     (values ++ option_to_list (get_or fresh j None))
 merged-listed {A} old vs listed fresh i j done values rises listed_rises full fresh_full m inside here =
     subst (λ k. Merged old vs listed fresh (drop (j + 1) fresh) (past old i (get_or listed j 0)) k
-    (done ++ option_to_list (option_map (λ _. (get_or listed j 0)) (get_or fresh j None))) (values ++ option_to_list (get_or fresh j None))) listed_past
-    (merged-next old vs listed fresh (drop j fresh) i j done values rises listed_rises full fresh_full m (get_or listed j 0) next (get_or fresh j None)
-    (drop (j + 1) fresh) (done ++ option_to_list (option_map (λ _. (get_or listed j 0)) (get_or fresh j None))) (values ++ option_to_list (get_or fresh j None))
-    (next-listed old vs listed fresh (drop j fresh) i j done values rises listed_rises full fresh_full m (get_or listed j 0) next (get_or fresh j None)
+    (done ++ option_to_list (option_map (λ _. (get_or listed j 0)) (get_or fresh j None))) (values ++ option_to_list
+    (get_or fresh j None))) listed_past
+    (merged-next old vs listed fresh (drop j fresh) i j done values rises listed_rises full fresh_full m (get_or
+    listed j 0) next (get_or fresh j None)
+    (drop (j + 1) fresh) (done ++ option_to_list (option_map (λ _. (get_or listed j 0)) (get_or fresh j None)))
+    (values ++ option_to_list (get_or fresh j None))
+    (next-listed old vs listed fresh (drop j fresh) i j done values rises listed_rises full fresh_full m (get_or
+    listed j 0) next (get_or fresh j None)
     (drop (j + 1) fresh) (stands-here listed j (get_or listed j 0) inside refl)
-    (drop-cons fresh j None (omega (arith, inside, fresh_full)) ∙ ap (λ k. (get_or fresh j None) ∷ drop k fresh) (sym (add-one j))))
+    (drop-cons fresh j None (omega (arith, inside, fresh_full)) ∙ ap (λ k. (get_or fresh j None) ∷ drop k fresh) (sym
+    (add-one j))))
     (line (get_or fresh j None)) (entries (get_or fresh j None)))
   where
     next : IsNext old listed i j (get_or listed j 0)
@@ -353,7 +376,8 @@ merged-listed {A} old vs listed fresh i j done values rises listed_rises full fr
         ≡ cond (eqb q (get_or listed j 0)) o (look q done values)
     entries None q =
         ap₂ (λ d e. look q d e) (append-nil done) (append-nil values) ∙ elim (cases_eq q (get_or listed j 0)) [
-          | inl e ↦ m.after q (omega (arith, low, e)) ∙ sym (ap (λ b. cond b None (look q done values)) (eq-eqb q (get_or listed j 0) e))
+          | inl e ↦ m.after q (omega (arith, low, e)) ∙ sym (ap (λ b. cond b None (look q done values)) (eq-eqb q
+              (get_or listed j 0) e))
           | inr n ↦ sym (ap (λ b. cond b None (look q done values)) (ne_eqb q (get_or listed j 0) n))
         ]
     entries (Some x) q = look-push q done values (get_or listed j 0) x m.line.full (m.after (get_or listed j 0) low)

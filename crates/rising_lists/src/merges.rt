@@ -109,8 +109,8 @@ pub(crate) fn place_from(cells: &[u32], at: usize, c: u32) -> usize
     place
 }
 
-/// Puts the cells of a line from one place up to another, with their values, at the end; without memory one of the lists
-/// may be longer.
+/// Puts the cells of a line from one place up to another, with their values, at the end; without memory one of the
+/// lists may be longer.
 pub(crate) fn append_run<T: Copy>(
     cells: &mut Vec<u32>,
     values: &mut Vec<T>,

@@ -31,7 +31,15 @@ loop-j-preserved g c =
     (values ++ take (to - i) (drop i vs))) (omega (arith, c.place_from-to.ensures.from))
     (merged-run old vs ks fresh (drop j fresh) i j cells values rises c.requires.rising full fresh_full
     c.loop-j.invariant (to - i) (omega (arith, c.place_from-to.ensures.from, c.place_from-to.ensures.within))
-    (λ a p q o. omega (arith, key, c.place_from-to.ensures.passed a p (omega (arith, q, c.place_from-to.ensures.from)))))
+    (λ a p q o. omega (
+      arith,
+      key,
+      c.place_from-to.ensures.passed a p (omega (
+        arith,
+        q,
+        c.place_from-to.ensures.from,
+      )),
+    )))
     in
     let next = merged-listed old vs ks fresh to j (cells ++ take (to - i) (drop i old))
     (values ++ take (to - i) (drop i vs)) rises c.requires.rising full fresh_full run
@@ -57,7 +65,12 @@ pub place_from-to-requires : goal.place_from-to-requires
 place_from-to-requires g c = c.loop-j.invariant.old_place.within
 
 pub append_run-requires-clause-within : goal.append_run-requires-clause-within
-append_run-requires-clause-within g c = omega (arith, c.place_from-to.ensures.within, ap length c.cells-old.ensures.cells)
+append_run-requires-clause-within g c = omega (
+  arith,
+  c.place_from-to.ensures.within,
+  ap length
+      c.cells-old.ensures.cells,
+)
 
 pub append_run-requires-2-clause-order : goal.append_run-requires-2-clause-order
 append_run-requires-2-clause-order g c = c.loop-j.invariant.old_place.within
@@ -83,10 +96,16 @@ invariant_of-result g c =
     let within : i ≤ length old = c.loop-j.invariant.old_place.within in
     let done : length ks ≤ j = omega (arith, length-map listed (λ s. s.0)) in
     let run = merged-run old vs ks fresh (drop j fresh) i j c.loop-j.cells.items c.loop-j.values.items rises
-    c.requires.rising full fresh_full c.loop-j.invariant n (omega (arith, within)) (λ a p l o. absurd (omega (arith, o, done))) in
+    c.requires.rising full fresh_full c.loop-j.invariant n (omega (arith, within)) (λ a p l o. absurd (omega (
+      arith,
+      o,
+      done,
+    ))) in
     rw (c.in_ok-append_run-2.ensures.cells, c.in_ok-append_run-2.ensures.values)
-    (line-said (c.loop-j.cells.items ++ take n (drop i old)) (c.loop-j.cells.items ++ take n (drop i c.args.self.now.cells))
-    (c.loop-j.values.items ++ take n (drop i vs)) (ap (λ e. c.loop-j.cells.items ++ take n (drop i e)) cells_are) run.line)
+    (line-said (c.loop-j.cells.items ++ take n (drop i old)) (c.loop-j.cells.items ++ take n (drop i
+    c.args.self.now.cells))
+    (c.loop-j.values.items ++ take n (drop i vs)) (ap (λ e. c.loop-j.cells.items ++ take n (drop i e)) cells_are)
+    run.line)
 
 pub returns : goal.returns
 returns g c = λ q.
@@ -106,7 +125,11 @@ returns g c = λ q.
     let within : i ≤ length old = c.loop-j.invariant.old_place.within in
     let done : length ks ≤ j = omega (arith, length-map listed (λ s. s.0)) in
     let run = merged-run old vs ks fresh (drop j fresh) i j c.loop-j.cells.items c.loop-j.values.items rises
-    c.requires.rising full fresh_full c.loop-j.invariant n (omega (arith, within)) (λ a p l o. absurd (omega (arith, o, done))) in
+    c.requires.rising full fresh_full c.loop-j.invariant n (omega (arith, within)) (λ a p l o. absurd (omega (
+      arith,
+      o,
+      done,
+    ))) in
     ap₂ (λ ds ws. look q ds ws)
     (c.in_ok-append_run-2.ensures.cells ∙ ap (λ e. c.loop-j.cells.items ++ take n (drop i e)) (sym cells_are))
     c.in_ok-append_run-2.ensures.values
