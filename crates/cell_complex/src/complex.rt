@@ -1,5 +1,5 @@
 ghost use Rattle.std.specs.Prelude.{◌≡◌, ℕ, ◌<◌, ◌↔◌, [], ◌∷◌, ◌++◌, None, Some, length, map, slice_get, slice_set};
-ghost use Rattle.std.specs.Prelude.{nat_eq, slice_index_or, ◌&&◌, IsTrue, IfOk, OnOk, OnErr, IsErrOf};
+ghost use Rattle.std.specs.Prelude.{nat_eq, slice_index_or, ◌&&◌, IsTrue, IfOk, IfSome, OnOk, OnErr, IsErrOf};
 ghost use Rattle.std.specs.List.Sorted.{IsStrictlyIncreasing, IsNonDecreasing};
 ghost use Rattle.indexmap.specs.IndexMap.{get};
 ghost use Rattle.cell_complex.specs.Neighbours.{neighbour_lists, with_cell};
@@ -10,6 +10,7 @@ ghost use Rattle.cell_complex.specs.Builds.{AllAccepted, IsFirstFault};
 
 use crate::face::{Face, Sign};
 use crate::fault::{AddFault, BuildFault, FaceFault};
+use crate::guesses::Guesses;
 use crate::middles::Middles;
 use crate::neighbours::Neighbours;
 use indexmap::IndexMap;
@@ -19,14 +20,16 @@ use std::marker::Model;
 /// Cells with dimensions, and faces with signs, in order of insertion.
 ///
 /// At most 4,096 cells, each of a dimension of at most 15. The pairs of cells that faces join are distinct, and the
-/// second cell of each is one dimension above the first. The sign and the place of a face are one look-up in a hash
-/// table away; the lists of faces and of cofaces are kept, and rising. Reading takes no memory.
+/// second cell of each is one dimension above the first. The lists of faces and of cofaces are kept, and rising. The
+/// sign and the place of a face are a binary search in the faces of its cell away: it guesses the place, and only where
+/// the face does not stand there a hash table is asked. Reading takes no memory.
 #[derive(Debug, Drop)]
 pub struct Complex {
     dims: Vec<u8>,
     signs: IndexMap<(u32, u32), Sign>,
     below: Neighbours,
     above: Neighbours,
+    guesses: Guesses,
 }
 
 impl Model for Complex {
@@ -68,6 +71,7 @@ impl Complex {
             signs: IndexMap::new(alloc),
             below: Neighbours::of_cells(alloc, dims.len())?,
             above: Neighbours::of_cells(alloc, dims.len())?,
+            guesses: Guesses::of_cells(alloc, dims.len())?,
         })
     }
 
@@ -138,15 +142,35 @@ impl Complex {
     pub fn sign(&self, s: u32, t: u32) -> Option<Sign>
         ensures { result ≡ sign self.now s t }
     {
-        self.signs.get(&(s, t)).copied()
+        let place = self.place(s, t)?;
+        Some(self.face_at(place).sign)
     }
 
     /// The place, in order of insertion, of `s` as a face of `t`; none exactly where it is none.
     pub fn place(&self, s: u32, t: u32) -> Option<u32>
         ensures { result ≡ place self.now s t }
     {
+        if let Some(guess) = self.guess(s, t) {
+            return Some(guess);
+        }
         let place = self.signs.get_index_of(&(s, t))?;
         Some(place as u32)
+    }
+
+    /// The place of `s` as a face of `t`, where the guess is right.
+    fn guess(&self, s: u32, t: u32) -> Option<u32>
+        ensures { IfSome result (λ guess. place self.now s t ≡ Some guess) }
+    {
+        let guess = self.guesses.place(s, t)?;
+        if guess >= self.face_count() {
+            return None;
+        }
+        let face = self.face_at(guess);
+        if face.s == s && face.t == t {
+            Some(guess)
+        } else {
+            None
+        }
     }
 
     /// The cells that are faces of `t`, rising.
@@ -221,6 +245,8 @@ impl Complex {
         ensures ok { OnOk result (self.new ≡ with_face self.old face) }
         ensures err { OnErr result (self.new ≡ self.old) }
     {
+        let place = self.face_count();
+        self.guesses.keep(face.s, face.t, place)?;
         keep_face(&mut self.signs, &mut self.below, &mut self.above, face)?;
         Ok(())
     }
