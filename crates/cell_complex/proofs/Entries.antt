@@ -1,8 +1,9 @@
 -- Faces as the entries of a map from pairs of cells to signs.
 use Rattle.std.proofs.Common.{◌≡◌, ℕ, Bool, true, false, cond, not, ◌+◌, ◌&&◌, ◌||◌, nat_eq, nat_lt, List, [], ◌∷◌, map}
-use Rattle.std.proofs.Common.{Option, None, Some, is_some, position, refl, sym, ap, ap₂, ◌∙◌}
+use Rattle.std.proofs.Common.{Option, None, Some, is_some, find, position, refl, sym, ap, ap₂, ◌∙◌}
 use Rattle.std.specs.List.{list_any, prefix_len}
 use Rattle.std.specs.Map.{lookup, keys_of}
+use Rattle.std.specs.Option.{option_map}
 use Rattle.std.proofs.lemmas.List.{length-map}
 use Rattle.cell_complex.specs.declared.face.Sign.{Sign}
 use Rattle.cell_complex.specs.Complexes.{joins}
@@ -23,6 +24,17 @@ position-map p f xs = ap₂ (λ i n. cond (nat_lt i n) (Some i) None) (prefix_le
     (length-map xs f)
 
 module _ (s t : ℕ) where
+  pub lookup-sign : (es : List ((ℕ × ℕ) × Sign)) → lookup (is_pair s t) es ≡ option_map (λ f. f.sign)
+      (find (joins s t) (map face_of_entry es))
+  lookup-sign [] = refl
+  lookup-sign (e ∷ es) = by (is_pair s t e.0) (lookup-sign es)
+    where
+      by : (b : Bool) → lookup (is_pair s t) es ≡ option_map (λ f. f.sign) (find (joins s t) (map face_of_entry es))
+          → cond b (Some e.1) (lookup (is_pair s t) es) ≡ option_map (λ f. f.sign)
+          (cond b (Some (face_of_entry e)) (find (joins s t) (map face_of_entry es)))
+      by true h = refl
+      by false h = h
+
   pub is_some-lookup : (es : List ((ℕ × ℕ) × Sign)) → is_some (lookup (is_pair s t) es) ≡ list_any (joins s t)
       (map face_of_entry es)
   is_some-lookup [] = refl

@@ -30,9 +30,6 @@ place-of_face c h p f at =
     ap (λ n. cond (nat_lt n (length fs)) (Some n) None) here
     ∙ cond-true (nat_lt p (length fs)) (Some p) None (lt-ltb p (length fs) l)
 
-pub place-within : (c : CellComplex) (s t p : ℕ) → place c s t ≡ Some p → p < length c.faces
-place-within c s t p at = (position-Some (joins s t) c.faces p record { s = s; t = t; sign = Plus } at).0
-
 -- the sign of a face by its place
 pub sign-at : (c : CellComplex) (s t p : ℕ) (f : Face) → place c s t ≡ Some p → slice_get c.faces p ≡ Some f
     → sign c s t ≡ Some f.sign
@@ -44,17 +41,6 @@ sign-at c s t p f at is =
         → position_or_len (joins s t) c.faces ≡ p
     by true e = cc
     by false e = absurd (cc)
-
-pub sign-none : (c : CellComplex) (s t : ℕ) → place c s t ≡ None → sign c s t ≡ None
-sign-none c s t none =
-    ap (option_map (λ f. f.sign)) (find_at (joins s t) c.faces ∙ slice_get_past c.faces
-    (position_or_len (joins s t) c.faces)
-    (ltb-false (position_or_len (joins s t) c.faces) (length c.faces)
-    (by (nat_lt (position_or_len (joins s t) c.faces) (length c.faces)) none)))
-  where
-    by : (b : Bool) → cond b (Some (position_or_len (joins s t) c.faces)) None ≡ None → b ≡ false
-    by true e = absurd (cc)
-    by false e = refl
 
 -- the first element that passes the test
 pub record FirstPassing {X : Type 0} (p : X → Bool) (xs : List X) : Type 0 where

@@ -20,9 +20,9 @@ use std::marker::Model;
 /// Cells with dimensions, and faces with signs, in order of insertion.
 ///
 /// At most 4,096 cells, each of a dimension of at most 15. The pairs of cells that faces join are distinct, and the
-/// second cell of each is one dimension above the first. The lists of faces and of cofaces are kept, and rising. The
-/// sign and the place of a face are a binary search in the faces of its cell away: it guesses the place, and only where
-/// the face does not stand there a hash table is asked. Reading takes no memory.
+/// second cell of each is one dimension above the first. The sign and the place of a face are one look-up in a hash
+/// table away, and none where a guess of the place is right; the lists of faces and of cofaces are kept, and rising.
+/// Reading takes no memory.
 #[derive(Debug, Drop)]
 pub struct Complex {
     dims: Vec<u8>,
@@ -142,32 +142,48 @@ impl Complex {
     pub fn sign(&self, s: u32, t: u32) -> Option<Sign>
         ensures { result ≡ sign self.now s t }
     {
-        let place = self.place(s, t)?;
-        Some(self.face_at(place).sign)
+        self.signs.get(&(s, t)).copied()
+    }
+
+    /// The same as [`Complex::sign`]; without a look-up where the face stands at the place `guess`.
+    pub fn sign_near(&self, guess: usize, s: u32, t: u32) -> Option<Sign>
+        ensures { result ≡ sign self.now s t }
+    {
+        match self.face_near(guess, s, t) {
+            Some((_, sign)) => Some(sign),
+            None => self.sign(s, t),
+        }
     }
 
     /// The place, in order of insertion, of `s` as a face of `t`; none exactly where it is none.
     pub fn place(&self, s: u32, t: u32) -> Option<u32>
         ensures { result ≡ place self.now s t }
     {
-        if let Some(guess) = self.guess(s, t) {
-            return Some(guess);
-        }
         let place = self.signs.get_index_of(&(s, t))?;
         Some(place as u32)
     }
 
-    /// The place of `s` as a face of `t`, where the guess is right.
-    fn guess(&self, s: u32, t: u32) -> Option<u32>
-        ensures { IfSome result (λ guess. place self.now s t ≡ Some guess) }
+    /// The same as [`Complex::place`]; without a look-up where the face stands at the place `guess`.
+    pub fn place_near(&self, guess: usize, s: u32, t: u32) -> Option<u32>
+        ensures { result ≡ place self.now s t }
     {
-        let guess = self.guesses.place(s, t)?;
-        if guess >= self.face_count() {
+        match self.face_near(guess, s, t) {
+            Some((place, _)) => Some(place),
+            None => self.place(s, t),
+        }
+    }
+
+    /// The place and the sign of `s` in `t`, if it stands at the place `guess`.
+    fn face_near(&self, guess: usize, s: u32, t: u32) -> Option<(u32, Sign)>
+        ensures place { IfSome result (λ f. place self.now s t ≡ Some f.0) }
+        ensures sign { IfSome result (λ f. sign self.now s t ≡ Some f.1) }
+    {
+        if guess >= self.face_count() as usize {
             return None;
         }
-        let face = self.face_at(guess);
+        let face = self.face_at(guess as u32);
         if face.s == s && face.t == t {
-            Some(guess)
+            Some((guess as u32, face.sign))
         } else {
             None
         }
@@ -197,7 +213,8 @@ impl Complex {
         requires u_is_cell { u < length self.now.dims }
         ensures { result ≡ middles self.now s u }
     {
-        Middles::of(self.cofaces_of(s), self.faces_of(u))
+        let faces = self.faces_of(u);
+        Middles::of(self.cofaces_of(s), faces, self.guesses.end(u, faces.len()))
     }
 
     /// Why the face does not fit: the first of these that holds. `s` is no cell, `t` is no cell, `t` is not one
@@ -246,7 +263,8 @@ impl Complex {
         ensures err { OnErr result (self.new ≡ self.old) }
     {
         let place = self.face_count();
-        self.guesses.keep(face.s, face.t, place)?;
+        let before = self.faces_of(face.t).len();
+        self.guesses.keep(face.t, before, place);
         keep_face(&mut self.signs, &mut self.below, &mut self.above, face)?;
         Ok(())
     }

@@ -3,4 +3,4 @@ use Rattle.incidence_check.specs.Passes.{PassesAt}
 use Rattle.incidence_check.proofs.pairs.passes_above.Given as goal
 
 abbrev pub invariant-loop-u : goal.invariant-loop-u
-invariant-loop-u l = (k : ℕ) → k < l.u-index → PassesAt l.c l.s l.t (get_or l.u-items k 0)
+invariant-loop-u l = (k : ℕ) → k < l.u-index → PassesAt l.c l.face.s l.face.t (get_or l.u-items k 0)
