@@ -154,10 +154,11 @@ fn bad_pair_at<F: Scalars>(
     ensures clears { IsFirstMiddle c.now s t u →
         PassesBefore (Commutes (F.ops f.now) c.now blocks.now) result s u }
 {
+    let pair = (s, u);
     if commutes_at(f, c, blocks, low, s, t, u) {
         None
     } else {
-        Some((s, u))
+        Some(pair)
     }
 }
 
