@@ -21,13 +21,7 @@ fn restriction<'a>(c: &Complex, blocks: &'a [Block], s: u32, t: u32) -> &'a Bloc
 }
 
 /// The block of `s` in `t`; without a look-up where the face stands at the place `guess`.
-fn restriction_near<'a>(
-    c: &Complex,
-    blocks: &'a [Block],
-    guess: usize,
-    s: u32,
-    t: u32,
-) -> &'a Block
+fn restriction_near<'a>(c: &Complex, blocks: &'a [Block], guess: usize, s: u32, t: u32) -> &'a Block
     requires count { length blocks.now ≡ length c.now.faces }
     requires face { is_face c.now s t ≡ true }
     ensures { restriction c.now blocks.now s t ≡ Some result.now }
