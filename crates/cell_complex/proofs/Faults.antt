@@ -78,7 +78,7 @@ none_from_new c f h =
     tests true false e d p q r s = absurd (cc)
     tests false b e d p q r s = absurd (cc)
 
-apart-sym : (f g : Face) → AreApart f g → AreApart g f
+pub apart-sym : (f g : Face) → AreApart f g → AreApart g f
 apart-sym f g h = false_from_ne_true (joins g.s g.t f) (λ e.
     let p = and_parts (nat_eq g.s f.s) (nat_eq g.t f.t) e in
     true≢false (sym (and_from (nat_eq f.s g.s) (nat_eq f.t g.t) (eq-eqb f.s g.s (sym (eqb-true g.s f.s p.0)))

@@ -3,3 +3,4 @@ pub mod Entries
 pub mod Faults
 pub mod Counts
 pub mod Callers
+pub mod Places

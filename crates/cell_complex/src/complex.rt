@@ -1,5 +1,5 @@
 ghost use Rattle.std.specs.Prelude.{◌≡◌, ℕ, ◌<◌, ◌↔◌, [], ◌∷◌, ◌++◌, None, Some, length, map, slice_get, slice_set};
-ghost use Rattle.std.specs.Prelude.{nat_eq, slice_index_or, ◌&&◌, IsTrue, IfOk, OnOk, OnErr, IsErrOf};
+ghost use Rattle.std.specs.Prelude.{nat_eq, slice_index_or, ◌&&◌, IsTrue, IfOk, IfSome, OnOk, OnErr, IsErrOf};
 ghost use Rattle.std.specs.List.Sorted.{IsStrictlyIncreasing, IsNonDecreasing};
 ghost use Rattle.indexmap.specs.IndexMap.{get};
 ghost use Rattle.cell_complex.specs.Neighbours.{neighbour_lists, with_cell};
@@ -10,6 +10,7 @@ ghost use Rattle.cell_complex.specs.Builds.{AllAccepted, IsFirstFault};
 
 use crate::face::{Face, Sign};
 use crate::fault::{AddFault, BuildFault, FaceFault};
+use crate::guesses::Guesses;
 use crate::middles::Middles;
 use crate::neighbours::Neighbours;
 use indexmap::IndexMap;
@@ -20,13 +21,15 @@ use std::marker::Model;
 ///
 /// At most 4,096 cells, each of a dimension of at most 15. The pairs of cells that faces join are distinct, and the
 /// second cell of each is one dimension above the first. The sign and the place of a face are one look-up in a hash
-/// table away; the lists of faces and of cofaces are kept, and rising. Reading takes no memory.
+/// table away, and none where a guess of the place is right; the lists of faces and of cofaces are kept, and rising.
+/// Reading takes no memory.
 #[derive(Debug, Drop)]
 pub struct Complex {
     dims: Vec<u8>,
     signs: IndexMap<(u32, u32), Sign>,
     below: Neighbours,
     above: Neighbours,
+    guesses: Guesses,
 }
 
 impl Model for Complex {
@@ -68,6 +71,7 @@ impl Complex {
             signs: IndexMap::new(alloc),
             below: Neighbours::of_cells(alloc, dims.len())?,
             above: Neighbours::of_cells(alloc, dims.len())?,
+            guesses: Guesses::of_cells(alloc, dims.len())?,
         })
     }
 
@@ -141,12 +145,48 @@ impl Complex {
         self.signs.get(&(s, t)).copied()
     }
 
+    /// The same as [`Complex::sign`]; without a look-up where the face stands at the place `guess`.
+    pub fn sign_near(&self, guess: usize, s: u32, t: u32) -> Option<Sign>
+        ensures { result ≡ sign self.now s t }
+    {
+        match self.face_near(guess, s, t) {
+            Some((_, sign)) => Some(sign),
+            None => self.sign(s, t),
+        }
+    }
+
     /// The place, in order of insertion, of `s` as a face of `t`; none exactly where it is none.
     pub fn place(&self, s: u32, t: u32) -> Option<u32>
         ensures { result ≡ place self.now s t }
     {
         let place = self.signs.get_index_of(&(s, t))?;
         Some(place as u32)
+    }
+
+    /// The same as [`Complex::place`]; without a look-up where the face stands at the place `guess`.
+    pub fn place_near(&self, guess: usize, s: u32, t: u32) -> Option<u32>
+        ensures { result ≡ place self.now s t }
+    {
+        match self.face_near(guess, s, t) {
+            Some((place, _)) => Some(place),
+            None => self.place(s, t),
+        }
+    }
+
+    /// The place and the sign of `s` in `t`, if it stands at the place `guess`.
+    fn face_near(&self, guess: usize, s: u32, t: u32) -> Option<(u32, Sign)>
+        ensures place { IfSome result (λ f. place self.now s t ≡ Some f.0) }
+        ensures sign { IfSome result (λ f. sign self.now s t ≡ Some f.1) }
+    {
+        if guess >= self.face_count() as usize {
+            return None;
+        }
+        let face = self.face_at(guess as u32);
+        if face.s == s && face.t == t {
+            Some((guess as u32, face.sign))
+        } else {
+            None
+        }
     }
 
     /// The cells that are faces of `t`, rising.
@@ -173,7 +213,8 @@ impl Complex {
         requires u_is_cell { u < length self.now.dims }
         ensures { result ≡ middles self.now s u }
     {
-        Middles::of(self.cofaces_of(s), self.faces_of(u))
+        let faces = self.faces_of(u);
+        Middles::of(self.cofaces_of(s), faces, self.guesses.end(u, faces.len()))
     }
 
     /// Why the face does not fit: the first of these that holds. `s` is no cell, `t` is no cell, `t` is not one
@@ -221,6 +262,9 @@ impl Complex {
         ensures ok { OnOk result (self.new ≡ with_face self.old face) }
         ensures err { OnErr result (self.new ≡ self.old) }
     {
+        let place = self.face_count();
+        let before = self.faces_of(face.t).len();
+        self.guesses.keep(face.t, before, place);
         keep_face(&mut self.signs, &mut self.below, &mut self.above, face)?;
         Ok(())
     }

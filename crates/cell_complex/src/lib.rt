@@ -4,6 +4,7 @@
 mod complex;
 mod face;
 mod fault;
+mod guesses;
 mod middles;
 mod neighbours;
 

@@ -11,6 +11,7 @@ use std::marker::Model;
 pub struct Middles<'a> {
     cofaces: &'a [u32],
     faces: &'a [u32],
+    end: usize,
 }
 
 impl<'a> Model for Middles<'a> {
@@ -26,13 +27,23 @@ impl<'a> Model for Middles<'a> {
 }
 
 impl<'a> Middles<'a> {
-    /// What the two lists have in common.
-    pub(crate) fn of(cofaces: &'a [u32], faces: &'a [u32]) -> Self
+    /// What the two lists have in common, where the faces should stand before the place `end` among all faces.
+    pub(crate) fn of(cofaces: &'a [u32], faces: &'a [u32], end: usize) -> Self
         requires cofaces_rise { IsStrictlyIncreasing cofaces.now }
         requires faces_rise { IsStrictlyIncreasing faces.now }
         ensures { result ≡ common cofaces.now faces.now }
     {
-        Middles { cofaces, faces }
+        Middles {
+            cofaces,
+            faces,
+            end,
+        }
+    }
+
+    /// Where the last cell should stand as a face of the upper cell, for [`Complex::sign_near`] and
+    /// [`Complex::place_near`]; no clause says that it does.
+    pub fn guess(&self) -> usize {
+        self.end.saturating_sub(self.faces.len().saturating_add(1))
     }
 }
 

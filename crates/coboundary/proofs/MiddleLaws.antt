@@ -21,7 +21,7 @@ use Rattle.dense_blocks.proofs.MatrixLaws.{image_of-negative, matrix_negative-im
 use Rattle.dense_blocks.proofs.MatrixLaws.{product-image_of}
 use Rattle.incidence_check.specs.Incidences.{are_opposite, times}
 use Rattle.square_check.specs.Squares.{restriction}
-use Rattle.square_check.proofs.Placed.{placed}
+use Rattle.cell_complex.proofs.Places.{placed}
 use Rattle.sheaf_data.specs.Betti.{signed_matrix}
 
 -- a vector with a sign

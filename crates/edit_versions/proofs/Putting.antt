@@ -16,7 +16,7 @@ use Rattle.dense_blocks.specs.MatrixFacts.{zero_matrix}
 use Rattle.dense_blocks.specs.BlockFacts.{IsBlock}
 use Rattle.dense_blocks.proofs.Cutting.{flat-zero_matrix}
 use Rattle.dense_blocks.proofs.BlockLaws.{is_block-entries}
-use Rattle.square_check.proofs.Placed.{IsPlaced}
+use Rattle.cell_complex.proofs.Places.{IsPlaced}
 use Rattle.edit_versions.specs.declared.work.Work.{Work}
 use Rattle.dense_blocks.specs.Blocks.{WrittenMatrix, written_matrix}
 use Rattle.edit_versions.specs.Works.{IsTouched, Puts, is_from, is_to, zero_between, zero_at, with_replacements}

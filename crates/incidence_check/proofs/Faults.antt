@@ -79,15 +79,20 @@ opposite_middles c s u (a ∷ []) is h = absurd (true≢false (sym h))
 opposite_middles c s u (a ∷ b ∷ []) is h = record { first = a; second = b; middles = is; opposite = h }
 opposite_middles c s u (a ∷ b ∷ d ∷ xs) is h = absurd (true≢false (sym h))
 
+-- the first cell between two cells
+pub first_middle : (c : CellComplex) (s u t : ℕ) (ts : List ℕ) → middles c s u ≡ t ∷ ts
+    → (is_face c s t ≡ true) × (is_face c t u ≡ true)
+first_middle c s u t ts is =
+    and_parts (is_face c s t) (is_face c t u)
+    (All-head (λ t. (is_face c s t && is_face c t u) ≡ true) t ts
+    (subst (λ xs. All (λ t. (is_face c s t && is_face c t u) ≡ true) xs) is
+    (filter_passes (λ t. is_face c s t && is_face c t u) (all_cells c))))
+
 -- a cell between s and u puts u two dimensions above s
 middle_dims : (c : CellComplex) → IsComplex c → (s u : ℕ) (t : ℕ) (ts : List ℕ) → middles c s u ≡ t ∷ ts
     → slice_index c.dims u ≡ slice_index c.dims s + 2
 middle_dims c h s u t ts is =
-    let passes : (is_face c s t && is_face c t u) ≡ true =
-    All-head (λ t. (is_face c s t && is_face c t u) ≡ true) t ts
-    (subst (λ xs. All (λ t. (is_face c s t && is_face c t u) ≡ true) xs) is
-    (filter_passes (λ t. is_face c s t && is_face c t u) (all_cells c))) in
-    let p = and_parts (is_face c s t) (is_face c t u) passes in
+    let p = first_middle c s u t ts is in
     let low : AreIncident c.dims s t = incident_from_face c h s t p.0 in
     let high : AreIncident c.dims t u = incident_from_face c h t u p.1 in
     omega (arith, low.one_up, high.one_up)

@@ -1,3 +1,4 @@
 mod Firsts
 pub mod Faults
 mod Least
+mod Passing

@@ -1,3 +1,4 @@
 pub mod Incidences
 pub mod Answers
 pub mod Reach
+pub mod Passes

@@ -5,13 +5,14 @@ ghost use Rattle.incidence_check.specs.Answers.{pair_fault, pair_faults};
 ghost use Rattle.incidence_check.specs.Answers.{AnswersFirst};
 
 use crate::incidence::Incidence;
+use crate::pairs::all_pass;
 use crate::reach::next_above;
 use crate::signs::{are_opposite, sign_product};
 use cell_complex::Complex;
 
 /// Whether each edge has exactly two faces, of opposite sign, and between any two cells two dimensions apart are no
 /// cells, or two whose products of signs are opposite. Takes no memory. It looks only at pairs with a cell between, and
-/// costs about as much as there are chains of two faces.
+/// costs about as much as there are chains of two faces; the first fault is searched for only where there is one.
 ///
 /// # Errors
 ///
@@ -26,6 +27,9 @@ pub fn check(c: &Complex) -> Result<(), Incidence>
         if let Some(fault) = edge_fault(c, t) {
             return Err(fault);
         }
+    }
+    if all_pass(c) {
+        return Ok(());
     }
     for s in 0..count {
         check_pairs(c, s)?;

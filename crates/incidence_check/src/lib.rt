@@ -4,6 +4,7 @@
 
 mod first_fault;
 mod incidence;
+mod pairs;
 mod reach;
 mod signs;
 

@@ -13,7 +13,7 @@ use Rattle.dense_blocks.specs.declared.block.Block.{Block}
 use Rattle.square_check.specs.Squares.{restriction, through, Commutes}
 use Rattle.square_check.specs.TouchedFaces.{OthersCommute, faces_at}
 use Rattle.square_check.proofs.Commuting.{all-between}
-use Rattle.square_check.proofs.Placed.{placed}
+use Rattle.cell_complex.proofs.Places.{placed}
 
 none-any : {X : Type 0} (p : X → Bool) (xs : List X) → list_any p xs ≡ false → All (λ x. p x ≡ false) xs
 none-any p [] h = λ k d l. absurd (omega arith)

@@ -1,15 +1,14 @@
--- The places of faces, and the blocks there.
-use Rattle.std.proofs.Common.{◌≡◌, ℕ, suc, ◌+◌, ◌<◌, ◌≤◌, Bool, true, false, cond, not, ◌||◌, nat_eq, nat_lt, List, []}
-use Rattle.std.proofs.Common.{◌∷◌, length, get_or, slice_get, slice_index, Option, None, Some, All, refl, sym, ap, ◌∙◌}
-use Rattle.std.proofs.Common.{subst, arith}
-use Rattle.std.specs.List.{list_any, filter_map, cons_option, prefix_len}
+-- The blocks at the places of faces.
+use Rattle.std.proofs.Common.{◌≡◌, ℕ, suc, ◌<◌, true, List, [], ◌∷◌, length, get_or, slice_get, slice_index, Option}
+use Rattle.std.proofs.Common.{None, Some, All, refl, sym, ap, ◌∙◌, subst, arith}
+use Rattle.std.specs.List.{filter_map, cons_option}
 use Rattle.std.specs.Option.{option_and_then}
-use Rattle.std.proofs.lemmas.Bool.{true≢false, cond-true, lt-ltb, and_parts, eqb-true}
 use Rattle.std.proofs.lemmas.Option.{get_or_from_slice_get, slice_get_within}
 use Rattle.std.proofs.lemmas.List.Elements.{All-cons}
 use Rattle.cell_complex.specs.declared.face.Face.{Face}
-use Rattle.cell_complex.specs.Complexes.{CellComplex, joins, is_face}
-use Rattle.cell_complex.specs.Invariants.{place, IsComplex, JoinsCells}
+use Rattle.cell_complex.specs.Complexes.{CellComplex, is_face}
+use Rattle.cell_complex.specs.Invariants.{IsComplex, JoinsCells}
+use Rattle.cell_complex.proofs.Places.{placed}
 use Rattle.dense_blocks.specs.Field.{Ops}
 use Rattle.dense_blocks.specs.Vectors.{AllScalars}
 use Rattle.dense_blocks.specs.declared.block.Block.{Block}
@@ -30,73 +29,8 @@ all-kept {X} Q f (p ∷ ps) h = by (f p) refl (all-kept Q f ps (λ k x l e. h (s
     by None e later = later
     by (Some x) e later = All-cons Q x (filter_map f ps) (h 0 x (omega arith) e) later
 
--- the first element that passes the test
-pub record FirstPassing {X : Type 0} (p : X → Bool) (xs : List X) : Type 0 where
-  pub element : X
-  pub found : slice_get xs (prefix_len (λ x. not (p x)) xs) ≡ Some element
-  pub passes : p element ≡ true
-
-pub first-passing : {X : Type 0} (p : X → Bool) (xs : List X) → list_any p xs ≡ true → FirstPassing p xs
-first-passing p [] h = absurd (true≢false (sym h))
-first-passing {X} p (x ∷ xs) h = by (p x) refl h (first-passing p xs)
-  where
-    n : ℕ
-    n = prefix_len (λ x. not (p x)) xs
-
-    by : (b : Bool) → p x ≡ b → (b || list_any p xs) ≡ true → (list_any p xs ≡ true → FirstPassing p xs)
-        → FirstPassing p (x ∷ xs)
-    by true e h later = record {
-      element = x;
-      found = ap (λ b. slice_get (x ∷ xs) (cond (not b) (1 + n) 0)) e;
-      passes =
-          e;
-    }
-    by false e h later =
-        let r = later h in
-        let step : 1 + n ≡ suc n = omega arith in
-        record {
-          element = r.element;
-          found = ap (λ b. slice_get (x ∷ xs) (cond (not b) (1 + n) 0)) e ∙ ap (slice_get (x ∷ xs)) step ∙ r.found;
-          passes = r.passes;
-        }
-
--- what holds at each index holds of each listed number
-pub all-listed : (Q : ℕ → Type 0) (xs : List ℕ) (n : ℕ) → length xs ≤ n → ((k : ℕ) → k < n → Q (get_or xs k 0))
-    → (x : ℕ) → list_any (nat_eq x) xs ≡ true → Q x
-all-listed Q xs n enough h x e =
-    let f = first-passing (nat_eq x) xs e in
-    let i : ℕ = prefix_len (λ y. not (nat_eq x y)) xs in
-    let inside : i < length xs = slice_get_within xs i f.element f.found in
-    subst Q (get_or_from_slice_get xs i f.element 0 f.found ∙ sym (eqb-true x f.element f.passes)) (h i (omega arith))
-
 pub some-same : {X : Type 0} (x y : X) → Some x ≡ Some y → x ≡ y
 some-same x y e = cc
-
--- s is a face of t, at this place
-pub record IsPlaced (c : CellComplex) (s t : ℕ) : Type 0 where
-  pub at : ℕ
-  pub is : place c s t ≡ Some at
-  pub inside : at < length c.faces
-  pub face : Face
-  pub found : slice_get c.faces at ≡ Some face
-  pub from : face.s ≡ s
-  pub to : face.t ≡ t
-
-pub placed : (c : CellComplex) (s t : ℕ) → is_face c s t ≡ true → IsPlaced c s t
-placed c s t h =
-    let n : ℕ = prefix_len (λ f. not (joins s t f)) c.faces in
-    let first = first-passing (joins s t) c.faces h in
-    let l : n < length c.faces = slice_get_within c.faces n first.element first.found in
-    let ends = and_parts (nat_eq s first.element.s) (nat_eq t first.element.t) first.passes in
-    record {
-      at = n;
-      is = cond-true (nat_lt n (length c.faces)) (Some n) None (lt-ltb n (length c.faces) l);
-      inside = l;
-      face = first.element;
-      found = first.found;
-      from = sym (eqb-true s first.element.s ends.0);
-      to = sym (eqb-true t first.element.t ends.1);
-    }
 
 -- the block goes from the stalk of s to that of t
 pub record FitsFace (K : Ops) (stalks : List ℕ) (s t : ℕ) (b : Block) : Type 0 where

@@ -14,7 +14,8 @@ use Rattle.square_check.specs.Squares.{Commutes}
 use Rattle.square_check.specs.TouchedFaces.{OthersCommute, faces_at, is_touched}
 use Rattle.square_check.proofs.Clearing.{clears-passing, earlier-clears_first, earlier-clears_second, first-from}
 use Rattle.square_check.proofs.Commuting.{IsBetween, all-between, between-head, commutes-none}
-use Rattle.square_check.proofs.Placed.{all-at, all-kept, first-passing, placed}
+use Rattle.cell_complex.proofs.Places.{first-passing, placed}
+use Rattle.square_check.proofs.Placed.{all-at, all-kept}
 
 -- the squares of which f is the lower face, and those of which it is the upper one
 abbrev pub ClearsAbove : Ops → CellComplex → List Block → Option (ℕ × ℕ) → Face → Type 0

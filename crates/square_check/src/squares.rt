@@ -1,4 +1,4 @@
-ghost use Rattle.std.specs.Prelude.{◌≡◌, ◌≤◌, ◌↔◌, IsTrue, length};
+ghost use Rattle.std.specs.Prelude.{◌≡◌, [], ◌∷◌, ◌≤◌, ◌↔◌, IsTrue, length};
 ghost use Rattle.dense_blocks.specs.Vectors.{AllScalars, zeros, combination};
 ghost use Rattle.dense_blocks.specs.Matrices.{product};
 ghost use Rattle.dense_blocks.specs.Blocks.{matrix_of};
@@ -12,7 +12,7 @@ const MOST: usize = Block::MOST as usize;
 
 /// Whether `up1 * low1 = up2 * low2`.
 ///
-/// Takes no memory, and stops at the first row that differs.
+/// Takes no memory, and stops at the first row that differs. Of blocks of one entry each it takes two products.
 pub fn square<F: Scalars>(f: &F, up1: &Block, low1: &Block, up2: &Block, low2: &Block) -> bool
     requires inner1 { up1.now.cols ≡ low1.now.rows }
     requires inner2 { up2.now.cols ≡ low2.now.rows }
@@ -25,12 +25,26 @@ pub fn square<F: Scalars>(f: &F, up1: &Block, low1: &Block, up2: &Block, low2: &
     ensures { IsTrue result ↔ (product (F.ops f.now) low1.now.cols (matrix_of up1.now) (matrix_of low1.now)
         ≡ product (F.ops f.now) low1.now.cols (matrix_of up2.now) (matrix_of low2.now)) }
 {
+    if up1.rows == 1 && up1.cols == 1 && up2.cols == 1 && low1.cols == 1 {
+        let first = f.mul(only_entry(up1), only_entry(low1));
+        let second = f.mul(only_entry(up2), only_entry(low2));
+        return first == second;
+    }
     for i in 0..up1.rows {
         if !same_row(f, up1.row(i), low1, up2.row(i), low2) {
             return false;
         }
     }
     true
+}
+
+/// The entry of a block of one row and one column.
+fn only_entry(block: &Block) -> u8
+    requires rows { block.now.rows ≡ 1 }
+    requires cols { block.now.cols ≡ 1 }
+    ensures { block.now.entries ≡ result ∷ [] }
+{
+    block.entries.as_slice()[0]
 }
 
 /// Whether a row of coefficients combines the rows of a block to the same as another row those of another block.

@@ -55,7 +55,8 @@ fn first_of_all<F: Scalars>(f: &F, c: &Complex, blocks: &[Block], count: u32) ->
     let mut least = None;
     for place in 0..count {
         let face = c.face_at(place);
-        least = earlier(least, bad_first(f, c, blocks, face.s, face.t));
+        let low = &blocks[place as usize];
+        least = earlier(least, bad_first(f, c, blocks, low, face.s, face.t));
     }
     least
 }

@@ -1,9 +1,9 @@
-use Rattle.std.proofs.Common.{◌≡◌, ◌++◌, [], Some, Ok, Err, length, slice_get, sym, ap, ap₂, ◌∙◌, subst, arith}
+use Rattle.std.proofs.Common.{◌≡◌, ◌++◌, [], Some, Ok, Err, length, slice_get, refl, sym, ap, ap₂, ◌∙◌, subst, arith}
 use Rattle.std.specs.List.{filter_map, flat_map}
 use Rattle.std.proofs.lemmas.Result.{err_from_is_err_and}
 use Rattle.cell_complex.specs.Complexes.{CellComplex, all_cells}
 use Rattle.incidence_check.specs.Incidences.{edge_fault, faults}
-use Rattle.incidence_check.specs.Answers.{pair_faults}
+use Rattle.incidence_check.specs.Answers.{pair_fault, pair_faults}
 use Rattle.incidence_check.specs.Answers.{AnswersFirst}
 use Rattle.incidence_check.proofs.Firsts.{filter_map-none, filter_map-first, flat_map-none, flat_map-first}
 use Rattle.incidence_check.proofs.Firsts.{first-append}
@@ -37,6 +37,15 @@ returns-in_err-check_pairs-clause-first c =
 pub returns-in_err-check_pairs-clause-regular : goal.returns-in_err-check_pairs-clause-regular
 returns-in_err-check_pairs-clause-regular c =
     regular_iff c.args.c.now c.dims.ensures.complex c.from_residual.result (returns-in_err-check_pairs-clause-first c)
+
+pub returns-then-all_pass-clause-first : goal.returns-then-all_pass-clause-first
+returns-then-all_pass-clause-first c =
+    let all : CellComplex = c.args.c.now in
+    ap₂ (λ xs ys. xs ++ ys)
+    (filter_map-none (edge_fault all) 0 (length all.dims)
+    (λ k l m. c.loop-t.invariant k (omega (arith, ap length c.dims.ensures.dims))))
+    (flat_map-none (pair_faults all) 0 (length all.dims)
+    (λ s l m. filter_map-none (pair_fault all s) 0 (length all.dims) (λ u p q. c.if-all_pass.ensures.0 refl s u)))
 
 pub returns-clause-first : goal.returns-clause-first
 returns-clause-first c =

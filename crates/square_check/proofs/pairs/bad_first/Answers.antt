@@ -5,7 +5,7 @@ use Rattle.cell_complex.proofs.Callers.{cofaces_of-below, list_any-cofaces_of}
 use Rattle.square_check.specs.Searches.{Fails, PassesBefore, IsFirstMiddle}
 use Rattle.square_check.specs.Squares.{Commutes}
 use Rattle.square_check.proofs.Clearing.{earlier-fails, earlier-clears_first, earlier-clears_second}
-use Rattle.square_check.proofs.Placed.{all-listed}
+use Rattle.cell_complex.proofs.Places.{all-listed}
 use Rattle.square_check.proofs.pairs.bad_first.Goals as goal
 
 pub bad_pair_at-requires-clause-u_is_cell : goal.bad_pair_at-requires-clause-u_is_cell

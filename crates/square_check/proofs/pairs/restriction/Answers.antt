@@ -1,7 +1,8 @@
 use Rattle.std.proofs.Common.{◌≡◌, length, is_some, slice_get, refl, sym, ap, ◌∙◌, arith}
 use Rattle.std.specs.Option.{option_and_then}
 use Rattle.std.proofs.lemmas.Option.{slice_get_read}
-use Rattle.square_check.proofs.Placed.{placed, some-same}
+use Rattle.cell_complex.proofs.Places.{placed}
+use Rattle.square_check.proofs.Placed.{some-same}
 use Rattle.square_check.proofs.pairs.restriction.Goals as goal
 
 pub unwrap-requires : goal.unwrap-requires

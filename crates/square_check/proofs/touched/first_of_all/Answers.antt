@@ -1,7 +1,10 @@
-use Rattle.std.proofs.Common.{◌≡◌, ℕ, ◌<◌, ◌≤◌, ⊎_elim, List, Option, slice_get, sym, ap, ◌∙◌, subst, arith}
+use Rattle.std.proofs.Common.{◌≡◌, ℕ, ◌<◌, ◌≤◌, ⊎_elim, List, Option, length, slice_get, refl, sym, ap, ◌∙◌, subst, arith}
+use Rattle.std.specs.Option.{option_and_then}
 use Rattle.std.proofs.lemmas.Bool.{cases_lt}
+use Rattle.std.proofs.lemmas.Option.{slice_get_read}
 use Rattle.cell_complex.specs.declared.face.Face.{Face}
 use Rattle.cell_complex.specs.Complexes.{CellComplex}
+use Rattle.cell_complex.proofs.Places.{place-of_face}
 use Rattle.dense_blocks.specs.Field.{Ops}
 use Rattle.dense_blocks.specs.declared.block.Block.{Block}
 use Rattle.square_check.specs.Searches.{Fails}
@@ -10,6 +13,18 @@ use Rattle.square_check.proofs.Clearing.{earlier-fails}
 use Rattle.square_check.proofs.Placed.{some-same}
 use Rattle.square_check.proofs.Visited.{ClearsFirst, once-first, once-second, first-of_all}
 use Rattle.square_check.proofs.touched.first_of_all.Goals as goal
+
+pub bounds-blocks-place : goal.bounds-blocks-place
+bounds-blocks-place g c = omega (arith, c.requires.restrictions.shapes.count, c.requires.count)
+
+pub bad_first-requires-clause-low : goal.bad_first-requires-clause-low
+bad_first-requires-clause-low g c =
+    let face : Face = c.face_at-face.result in
+    let blocks : List Block = c.args.blocks.now in
+    ap (option_and_then (slice_get blocks)) (place-of_face c.args.c.now c.requires.complex c.loop-place.place face
+    c.face_at-face.ensures)
+    ∙ slice_get_read blocks (length blocks) c.loop-place.place _ refl
+    (omega (arith, c.requires.restrictions.shapes.count, c.requires.count)) c.index-blocks-place.is
 
 pub loop-place-preserved : goal.loop-place-preserved
 loop-place-preserved g c =

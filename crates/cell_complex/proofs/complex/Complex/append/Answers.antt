@@ -7,9 +7,14 @@ use Rattle.cell_complex.specs.Invariants.{cofaces_of}
 use Rattle.cell_complex.specs.Fields.{face_of_entry, complex_from}
 use Rattle.cell_complex.proofs.Numbers.{non_decreasing}
 use Rattle.cell_complex.proofs.Entries.{none-lookup}
-use Rattle.cell_complex.proofs.Faults.{IsNew, new_from_view, below-size, above-size, below-at, above-at, faces_of-rise}
+use Rattle.cell_complex.proofs.Faults.{IsNew, new_from_none, new_from_view, below-size, above-size, below-at, above-at, faces_of-rise}
 use Rattle.cell_complex.proofs.Faults.{cofaces_of-rise, neighbour_lists-with_face}
 use Rattle.cell_complex.proofs.complex.Complex.append.Goals as goal
+
+pub faces_of-before-requires : goal.faces_of-before-requires
+faces_of-before-requires c =
+    let new : IsNew c.args.self.now c.args.face = new_from_none c.args.self.now c.args.face c.requires in
+    new.fits.t_is_cell
 
 pub keep_face-requires-clause-s_is_cell : goal.keep_face-requires-clause-s_is_cell
 keep_face-requires-clause-s_is_cell c =

@@ -1,5 +1,6 @@
 use Rattle.std.proofs.Common.{◌≡◌, ◌++◌, ◌∷◌, [], is_some, set, refl, sym, ap, ◌∙◌}
-use Rattle.square_check.proofs.Placed.{placed, some-same}
+use Rattle.cell_complex.proofs.Places.{placed}
+use Rattle.square_check.proofs.Placed.{some-same}
 use Rattle.edit_versions.proofs.Putting.{put-one}
 use Rattle.edit_versions.proofs.work.Work.put.Goals as goal
 
