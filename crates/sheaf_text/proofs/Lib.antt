@@ -1,4 +1,5 @@
 pub mod Cutting
+pub mod FirstWords
 pub mod Numbers
 pub mod Kept
 pub mod Faces

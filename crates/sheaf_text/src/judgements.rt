@@ -182,7 +182,11 @@ pub(crate) fn is_ended(stage: Stage) -> bool
 }
 
 /// The kind of a line that is not skipped, or why it is refused.
-pub(crate) fn judged(state: &State, kind: Option<Kind>, line: &LineWords<'_>) -> Result<Kind, Refusal>
+pub(crate) fn judged(
+    state: &State,
+    kind: Option<Kind>,
+    line: &LineWords<'_>,
+) -> Result<Kind, Refusal>
     requires sound { IsSoundState state.now }
     requires ready { IsReadyFor kind state.now.parts }
     ensures ok { IfOk result (λ found. IsFound (known_by state.now) kind line.now found) }

@@ -194,7 +194,12 @@ impl State {
     }
 
     /// Takes a line that is not skipped.
-    fn take_content(&mut self, alloc: Global, number: u32, line: &LineWords<'_>) -> Result<(), TextFault>
+    fn take_content(
+        &mut self,
+        alloc: Global,
+        number: u32,
+        line: &LineWords<'_>,
+    ) -> Result<(), TextFault>
         requires sound { IsSoundState self.old }
         requires content { is_skipped line.now ≡ false }
         ensures ok { OnOk result (TakesLine self.old self.new line.now) }

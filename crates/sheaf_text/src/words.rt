@@ -66,7 +66,12 @@ pub(crate) fn values(alloc: Global, text: &[u8]) -> Result<Vec<u32>, NoMemory>
 }
 
 /// The scalars that so many words of a text are.
-pub(crate) fn scalars(alloc: Global, text: &[u8], count: usize, order: u32) -> Result<Entries, NoMemory>
+pub(crate) fn scalars(
+    alloc: Global,
+    text: &[u8],
+    count: usize,
+    order: u32,
+) -> Result<Entries, NoMemory>
     requires low { order ≤ 256 }
     requires below { are_below order (words text.now) ≡ true }
     ensures { IfOk result (λ e. e ≡ map value_of (words text.now)) }
