@@ -1,5 +1,4 @@
 pub mod Cutting
-pub mod FirstWords
 pub mod Numbers
 pub mod Kept
 pub mod Faces
