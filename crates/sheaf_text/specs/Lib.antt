@@ -4,6 +4,7 @@ pub mod Rooms
 pub mod Grammar
 pub mod Readings
 pub mod Forms
+pub mod Heads
 pub mod Answers
 pub mod Parts
 pub mod Scripts

@@ -1,5 +1,4 @@
 ghost use Rattle.std.specs.Prelude.{◌≡◌, length, IfOk, IfErr};
-ghost use Rattle.sheaf_text.specs.Cut.{words};
 ghost use Rattle.sheaf_text.specs.Parts.{AreDraftParts, IsClosed};
 ghost use Rattle.sheaf_text.specs.Grammar.{is_ended, cause_of, entries_refusal, face_refusal, kind_refusal};
 ghost use Rattle.sheaf_text.specs.Grammar.{kind_refusal, placed_refusal};
@@ -8,11 +7,11 @@ ghost use Rattle.sheaf_text.specs.Forms.{room_refusal};
 ghost use Rattle.sheaf_text.specs.State.{known_by, scripts_at, IsSoundState, IsReadyFor, IsFound};
 
 use crate::fault::{LineCause, Refusal, Which};
+use crate::heads::LineWords;
 use crate::line::{Kind, Stage, are_numerals, count_fits, face_of, is_sign, may_stand};
 use crate::parts::stalk_of;
 use crate::room::is_too_large;
 use crate::state::State;
-use crate::words::{after_words, are_below, value_at, word_at, word_count};
 use cell_complex::{Face, FaceFault};
 use dense_blocks::Scalars;
 use field_table::Field;
@@ -31,21 +30,21 @@ const MOST_CLIENTS: usize = 8;
 
 const MOST_COMMANDS: u32 = 4096;
 
-fn field_refusal(text: &[u8]) -> Option<Refusal>
-    ensures { result ≡ field_refusal (words text.now) }
+fn field_refusal(line: &LineWords<'_>) -> Option<Refusal>
+    ensures { result ≡ field_refusal line.now }
 {
-    match Field::of(value_at(text, 1)) {
+    match Field::of(line.s_value()) {
         Some(_) => None,
         None => Some(Refusal::Bad(LineCause::Field)),
     }
 }
 
-fn cell_refusal(state: &State, text: &[u8]) -> Option<Refusal>
+fn cell_refusal(state: &State, line: &LineWords<'_>) -> Option<Refusal>
     requires { AreDraftParts state.now.parts }
-    ensures { result ≡ kind_refusal (known_by state.now) Kind.Cell (words text.now) }
+    ensures { result ≡ kind_refusal (known_by state.now) Kind.Cell line.now }
 {
-    let stalk = value_at(text, 2);
-    if value_at(text, 1) > HIGHEST {
+    let stalk = line.t_value();
+    if line.s_value() > HIGHEST {
         Some(Refusal::Over(Which::Dimension))
     } else if stalk > MOST_OF_A_STALK {
         Some(Refusal::Over(Which::Stalk))
@@ -74,13 +73,13 @@ fn is_full(stalks: &[u8], face: Face, count: usize) -> bool
     count == stalk_of(stalks, face.t) as usize * stalk_of(stalks, face.s) as usize
 }
 
-fn entries_refusal(state: &State, text: &[u8]) -> Option<Refusal>
-    ensures { result ≡ entries_refusal (known_by state.now) (words text.now) }
+fn entries_refusal(state: &State, line: &LineWords<'_>) -> Option<Refusal>
+    ensures { result ≡ entries_refusal (known_by state.now) line.now }
 {
-    let entries = after_words(text, 4);
-    if !is_full(&state.parts.stalks, face_of(text), word_count(entries)) {
+    let entries = line.entries();
+    if !is_full(&state.parts.stalks, face_of(line), entries.count()) {
         Some(Refusal::Bad(LineCause::Shape))
-    } else if !are_below(entries, state.parts.field.order()) {
+    } else if !entries.are_below(state.parts.field.order()) {
         Some(Refusal::Bad(LineCause::Entry))
     } else if state.parts.complex.face_count() >= MOST_FACES {
         Some(Refusal::Over(Which::Faces))
@@ -89,16 +88,16 @@ fn entries_refusal(state: &State, text: &[u8]) -> Option<Refusal>
     }
 }
 
-fn face_refusal(state: &State, text: &[u8]) -> Option<Refusal>
+fn face_refusal(state: &State, line: &LineWords<'_>) -> Option<Refusal>
     requires { IsClosed state.now.parts }
-    ensures { result ≡ face_refusal (known_by state.now) (words text.now) }
+    ensures { result ≡ face_refusal (known_by state.now) line.now }
 {
-    if !is_sign(word_at(text, 3)) {
+    if !is_sign(line.sign()) {
         return Some(Refusal::Bad(LineCause::Sign));
     }
-    match state.parts.complex.fault_of(face_of(text)) {
+    match state.parts.complex.fault_of(face_of(line)) {
         Some(fault) => Some(Refusal::Bad(cause_of(fault))),
-        None => entries_refusal(state, text),
+        None => entries_refusal(state, line),
     }
 }
 
@@ -143,15 +142,15 @@ fn room_refusal(state: &State) -> Option<Refusal>
     }
 }
 
-fn kind_refusal(state: &State, kind: Kind, text: &[u8]) -> Option<Refusal>
+fn kind_refusal(state: &State, kind: Kind, line: &LineWords<'_>) -> Option<Refusal>
     requires sound { IsSoundState state.now }
     requires ready { IsReadyFor (Some kind) state.now.parts }
-    ensures { result ≡ kind_refusal (known_by state.now) kind (words text.now) }
+    ensures { result ≡ kind_refusal (known_by state.now) kind line.now }
 {
     match kind {
-        Kind::Field => field_refusal(text),
-        Kind::Cell => cell_refusal(state, text),
-        Kind::Face => face_refusal(state, text),
+        Kind::Field => field_refusal(line),
+        Kind::Cell => cell_refusal(state, line),
+        Kind::Face => face_refusal(state, line),
         Kind::Client => client_refusal(state),
         Kind::Betti | Kind::Reduce | Kind::Equiv | Kind::Edit => command_refusal(state),
         Kind::Stalk | Kind::Restrict | Kind::Commit => None,
@@ -159,19 +158,19 @@ fn kind_refusal(state: &State, kind: Kind, text: &[u8]) -> Option<Refusal>
     }
 }
 
-fn placed_refusal(state: &State, kind: Kind, text: &[u8]) -> Option<Refusal>
+fn placed_refusal(state: &State, kind: Kind, line: &LineWords<'_>) -> Option<Refusal>
     requires sound { IsSoundState state.now }
     requires ready { IsReadyFor (Some kind) state.now.parts }
-    ensures { result ≡ placed_refusal (known_by state.now) kind (words text.now) }
+    ensures { result ≡ placed_refusal (known_by state.now) kind line.now }
 {
     if !may_stand(state.stage, kind) {
         Some(Refusal::Bad(LineCause::Word))
-    } else if !count_fits(kind, word_count(text)) {
+    } else if !count_fits(kind, line.count()) {
         Some(Refusal::Bad(LineCause::Count))
-    } else if !are_numerals(kind, text) {
+    } else if !are_numerals(kind, line) {
         Some(Refusal::Bad(LineCause::Number))
     } else {
-        kind_refusal(state, kind, text)
+        kind_refusal(state, kind, line)
     }
 }
 
@@ -183,11 +182,15 @@ pub(crate) fn is_ended(stage: Stage) -> bool
 }
 
 /// The kind of a line that is not skipped, or why it is refused.
-pub(crate) fn judged(state: &State, kind: Option<Kind>, text: &[u8]) -> Result<Kind, Refusal>
+pub(crate) fn judged(
+    state: &State,
+    kind: Option<Kind>,
+    line: &LineWords<'_>,
+) -> Result<Kind, Refusal>
     requires sound { IsSoundState state.now }
     requires ready { IsReadyFor kind state.now.parts }
-    ensures ok { IfOk result (λ found. IsFound (known_by state.now) kind (words text.now) found) }
-    ensures err { IfErr result (λ refusal. content_refusal (known_by state.now) kind (words text.now) ≡ Some refusal) }
+    ensures ok { IfOk result (λ found. IsFound (known_by state.now) kind line.now found) }
+    ensures err { IfErr result (λ refusal. content_refusal (known_by state.now) kind line.now ≡ Some refusal) }
 {
     if is_ended(state.stage) {
         return Err(Refusal::Bad(LineCause::After));
@@ -195,7 +198,7 @@ pub(crate) fn judged(state: &State, kind: Option<Kind>, text: &[u8]) -> Result<K
     let Some(kind) = kind else {
         return Err(Refusal::Bad(LineCause::Word));
     };
-    match placed_refusal(state, kind, text) {
+    match placed_refusal(state, kind, line) {
         Some(refusal) => Err(refusal),
         None => Ok(kind),
     }

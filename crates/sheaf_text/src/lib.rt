@@ -12,9 +12,11 @@
 
 mod cut;
 mod fault;
+mod heads;
 mod input;
 mod judgements;
 mod line;
+mod numerals;
 mod parts;
 mod reader;
 mod room;

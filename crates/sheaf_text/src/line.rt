@@ -1,9 +1,9 @@
-ghost use Rattle.std.specs.Prelude.{◌≡◌, [], slice_get};
-ghost use Rattle.sheaf_text.specs.Cut.{words};
-ghost use Rattle.sheaf_text.specs.Lines.{word, is_skipped, kind_of, may_stand, count_fits, face_in};
+ghost use Rattle.std.specs.Prelude.{◌≡◌, ◌==◌, ◌||◌, length, slice_index};
+ghost use Rattle.sheaf_text.specs.Lines.{kind_of, may_stand, count_fits, face_in};
 ghost use Rattle.sheaf_text.specs.Forms.{are_numerals, is_sign, sign_of};
 
-use crate::words::{after_words, are_numbers, number, value_at, word_at};
+use crate::heads::LineWords;
+use crate::words::are_numbers;
 use cell_complex::{Face, Sign};
 
 /// What a line is, by its first word.
@@ -34,14 +34,15 @@ pub(crate) enum Stage {
     Ended,
 }
 
-/// Whether a line is blank or a comment.
-pub(crate) fn is_skipped(text: &[u8]) -> bool
-    ensures { result ≡ is_skipped (words text.now) }
+/// Whether a line with this first word, which has no bytes where there is none, is blank or a comment.
+pub(crate) fn is_skipped(word: &[u8]) -> bool
+    ensures { result ≡ ((length word.now == 0) || (slice_index word.now 0 == 35)) }
 {
-    matches!(word_at(text, 0), [] | [b'#', ..])
+    matches!(word, [] | [b'#', ..])
 }
 
-fn kind_of_word(word: &[u8]) -> Option<Kind>
+/// What a line is, by its first word.
+pub(crate) fn kind_of(word: &[u8]) -> Option<Kind>
     ensures { result ≡ kind_of word.now }
 {
     if word == b"field".as_slice() {
@@ -71,13 +72,6 @@ fn kind_of_word(word: &[u8]) -> Option<Kind>
     } else {
         None
     }
-}
-
-/// What a line is.
-pub(crate) fn kind_of(text: &[u8]) -> Option<Kind>
-    ensures { result ≡ kind_of (word (words text.now) 0) }
-{
-    kind_of_word(word_at(text, 0))
 }
 
 fn may_stand_in_client(kind: Kind) -> bool
@@ -117,16 +111,12 @@ pub(crate) fn count_fits(kind: Kind, count: usize) -> bool
 }
 
 /// Whether the words of a line that have to be numbers are numbers.
-pub(crate) fn are_numerals(kind: Kind, text: &[u8]) -> bool
-    ensures { result ≡ are_numerals kind (words text.now) }
+pub(crate) fn are_numerals(kind: Kind, line: &LineWords<'_>) -> bool
+    ensures { result ≡ are_numerals kind line.now }
 {
     match kind {
-        Kind::Face => {
-            number(word_at(text, 1)).is_some()
-                && number(word_at(text, 2)).is_some()
-                && are_numbers(after_words(text, 4))
-        }
-        _ => are_numbers(after_words(text, 1)),
+        Kind::Face => line.s().is_some() && line.t().is_some() && line.entries().are_numbers(),
+        _ => are_numbers(line.after()),
     }
 }
 
@@ -148,12 +138,12 @@ fn sign_of(word: &[u8]) -> Sign
 }
 
 /// The face of a line, without its entries.
-pub(crate) fn face_of(text: &[u8]) -> Face
-    ensures { result ≡ face_in (words text.now) }
+pub(crate) fn face_of(line: &LineWords<'_>) -> Face
+    ensures { result ≡ face_in line.now }
 {
     Face {
-        s: value_at(text, 1),
-        t: value_at(text, 2),
-        sign: sign_of(word_at(text, 3)),
+        s: line.s_value(),
+        t: line.t_value(),
+        sign: sign_of(line.sign()),
     }
 }

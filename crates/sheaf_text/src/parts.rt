@@ -2,13 +2,13 @@ ghost use Rattle.std.specs.Prelude.{◌≡◌, ◌+◌, ◌<◌, ◌≤◌, None
 ghost use Rattle.cell_complex.specs.Invariants.{with_face};
 ghost use Rattle.cell_complex.specs.Verdicts.{face_fault};
 ghost use Rattle.field_table.specs.Table.{orders};
-ghost use Rattle.sheaf_text.specs.Cut.{words};
 ghost use Rattle.sheaf_text.specs.Lines.{face_in};
 ghost use Rattle.sheaf_text.specs.Parts.{AreDraftParts, IsOpen, IsClosed, AreNew, IsOrdered, AddsCell, IsShut};
 ghost use Rattle.sheaf_text.specs.Parts.{TakesFace, AddsFace, IsDraftOf};
 
+use crate::heads::LineWords;
 use crate::line::face_of;
-use crate::words::{after_words, scalars};
+use crate::words::scalars;
 use cell_complex::{AddFault, Complex, Face};
 use dense_blocks::{Block, Listed, Scalars};
 use field_table::Field;
@@ -105,17 +105,22 @@ impl Parts {
     }
 
     /// Adds the face of a line, as the last.
-    pub fn add_face(&mut self, alloc: Global, text: &[u8]) -> Result<(), NoMemory>
+    pub fn add_face(&mut self, alloc: Global, line: &LineWords<'_>) -> Result<(), NoMemory>
         requires parts { AreDraftParts self.old }
         requires closed { IsClosed self.old }
-        requires fits { TakesFace self.old (words text.now) }
-        ensures { OnOk result (AddsFace self.old self.new (words text.now)) }
+        requires fits { TakesFace self.old line.now }
+        ensures { OnOk result (AddsFace self.old self.new line.now) }
     {
-        let face = face_of(text);
+        let face = face_of(line);
         let rows = stalk_of(&self.stalks, face.t);
         let cols = stalk_of(&self.stalks, face.s);
-        let entries = scalars(alloc, after_words(text, 4), self.field.order())?;
-        let block = Block::of(alloc, rows, cols, &entries)?;
+        let words = line.entries();
+        let entries = scalars(alloc, words.text(), words.count(), self.field.order())?;
+        let block = Block {
+            rows,
+            cols,
+            entries,
+        };
         add_face(&mut self.complex, face)?;
         self.blocks.push(block)?;
         Ok(())

@@ -1,18 +1,21 @@
-ghost use Rattle.std.specs.Prelude.{◌≡◌, ◌-◌, ◌^◌, ◌<◌, true, IfOk, IfErr, OnOk};
+ghost use Rattle.std.specs.Prelude.{◌≡◌, ◌-◌, ◌^◌, ◌<◌, true, false, IfOk, IfErr, OnOk};
 ghost use Rattle.sheaf_text.specs.Cut.{words};
+ghost use Rattle.sheaf_text.specs.Lines.{is_skipped};
 ghost use Rattle.sheaf_text.specs.Answers.{Gives, GivesFault};
 ghost use Rattle.sheaf_text.specs.Readings.{RefusedLine};
 ghost use Rattle.sheaf_text.specs.Forms.{is_query_kind, query_of, set_of, is_set_kind, reading_at_end};
 ghost use Rattle.sheaf_text.specs.State.{known_by, IsSoundState, IsReady, IsAccepted, IsUntouched, TakesKind};
 ghost use Rattle.sheaf_text.specs.State.{TakesLine, RefusesLine};
 
+use crate::cut::next_word;
 use crate::fault::{LineCause, Refusal, TextFault};
+use crate::heads::LineWords;
 use crate::input::Input;
 use crate::judgements::{is_ended, judged};
 use crate::line::{Kind, Stage, is_skipped, kind_of};
 use crate::parts::Parts;
 use crate::scripts::Scripts;
-use crate::words::{after_words, value_at, values};
+use crate::words::{after_words, values};
 use dense_blocks::Listed;
 use sheaf_words::{Query, Set};
 use std::alloc::{AllocError as NoMemory, Global};
@@ -37,22 +40,22 @@ fn query_of(kind: Kind) -> Query
 }
 
 /// The change of a line.
-fn set_of(alloc: Global, kind: Kind, text: &[u8]) -> Result<Set, NoMemory>
-    ensures { IfOk result (λ set. set ≡ set_of kind (words text.now)) }
+fn set_of(alloc: Global, kind: Kind, line: &LineWords<'_>) -> Result<Set, NoMemory>
+    ensures { IfOk result (λ set. set ≡ set_of kind line.now) }
 {
-    let s = value_at(text, 1);
+    let s = line.s_value();
     match kind {
         Kind::Restrict => {
-            let entries = values(alloc, after_words(text, 3))?;
+            let entries = values(alloc, after_words(line.after(), 2))?;
             Ok(Set::Restrict {
                 s,
-                t: value_at(text, 2),
+                t: line.t_value(),
                 entries: Listed::of(entries),
             })
         }
         _ => Ok(Set::Stalk {
             s,
-            n: value_at(text, 2),
+            n: line.t_value(),
         }),
     }
 }
@@ -81,35 +84,35 @@ impl State {
         }
     }
 
-    fn take_field(&mut self, text: &[u8])
-        requires { IsAccepted self.old Kind.Field (words text.now) }
-        ensures { TakesKind self.old self.new Kind.Field (words text.now) }
+    fn take_field(&mut self, line: &LineWords<'_>)
+        requires { IsAccepted self.old Kind.Field line.now }
+        ensures { TakesKind self.old self.new Kind.Field line.now }
     {
-        self.parts.set_field(value_at(text, 1));
+        self.parts.set_field(line.s_value());
         self.stage = Stage::Cells;
     }
 
-    fn take_cell(&mut self, text: &[u8]) -> Result<(), NoMemory>
-        requires { IsAccepted self.old Kind.Cell (words text.now) }
-        ensures { OnOk result (TakesKind self.old self.new Kind.Cell (words text.now)) }
+    fn take_cell(&mut self, line: &LineWords<'_>) -> Result<(), NoMemory>
+        requires { IsAccepted self.old Kind.Cell line.now }
+        ensures { OnOk result (TakesKind self.old self.new Kind.Cell line.now) }
     {
-        self.parts.add_cell(value_at(text, 1), value_at(text, 2))?;
+        self.parts.add_cell(line.s_value(), line.t_value())?;
         self.stage = Stage::Cells;
         Ok(())
     }
 
-    fn take_face(&mut self, alloc: Global, text: &[u8]) -> Result<(), NoMemory>
-        requires { IsAccepted self.old Kind.Face (words text.now) }
-        ensures { OnOk result (TakesKind self.old self.new Kind.Face (words text.now)) }
+    fn take_face(&mut self, alloc: Global, line: &LineWords<'_>) -> Result<(), NoMemory>
+        requires { IsAccepted self.old Kind.Face line.now }
+        ensures { OnOk result (TakesKind self.old self.new Kind.Face line.now) }
     {
-        self.parts.add_face(alloc, text)?;
+        self.parts.add_face(alloc, line)?;
         self.stage = Stage::Faces;
         Ok(())
     }
 
-    fn take_client(&mut self, alloc: Global, text: &[u8]) -> Result<(), NoMemory>
-        requires { IsAccepted self.old Kind.Client (words text.now) }
-        ensures { OnOk result (TakesKind self.old self.new Kind.Client (words text.now)) }
+    fn take_client(&mut self, alloc: Global, line: &LineWords<'_>) -> Result<(), NoMemory>
+        requires { IsAccepted self.old Kind.Client line.now }
+        ensures { OnOk result (TakesKind self.old self.new Kind.Client line.now) }
     {
         let is_open = self.stage == Stage::InClient;
         self.scripts.end_script(alloc, is_open)?;
@@ -117,45 +120,45 @@ impl State {
         Ok(())
     }
 
-    fn take_query(&mut self, kind: Kind, text: &[u8]) -> Result<(), NoMemory>
-        requires accepted { IsAccepted self.old kind (words text.now) }
+    fn take_query(&mut self, kind: Kind, line: &LineWords<'_>) -> Result<(), NoMemory>
+        requires accepted { IsAccepted self.old kind line.now }
         requires query { is_query_kind kind ≡ true }
-        ensures { OnOk result (TakesKind self.old self.new kind (words text.now)) }
+        ensures { OnOk result (TakesKind self.old self.new kind line.now) }
     {
         self.scripts.add_query(query_of(kind))?;
         Ok(())
     }
 
-    fn take_edit(&mut self, alloc: Global, text: &[u8])
-        requires { IsAccepted self.old Kind.Edit (words text.now) }
-        ensures { TakesKind self.old self.new Kind.Edit (words text.now) }
+    fn take_edit(&mut self, alloc: Global, line: &LineWords<'_>)
+        requires { IsAccepted self.old Kind.Edit line.now }
+        ensures { TakesKind self.old self.new Kind.Edit line.now }
     {
         self.scripts.open_edit(alloc);
         self.stage = Stage::InEdit;
     }
 
-    fn take_set(&mut self, alloc: Global, kind: Kind, text: &[u8]) -> Result<(), NoMemory>
-        requires accepted { IsAccepted self.old kind (words text.now) }
+    fn take_set(&mut self, alloc: Global, kind: Kind, line: &LineWords<'_>) -> Result<(), NoMemory>
+        requires accepted { IsAccepted self.old kind line.now }
         requires set { is_set_kind kind ≡ true }
-        ensures { OnOk result (TakesKind self.old self.new kind (words text.now)) }
+        ensures { OnOk result (TakesKind self.old self.new kind line.now) }
     {
-        let set = set_of(alloc, kind, text)?;
+        let set = set_of(alloc, kind, line)?;
         self.scripts.add_set(set)?;
         Ok(())
     }
 
-    fn take_commit(&mut self, alloc: Global, text: &[u8]) -> Result<(), NoMemory>
-        requires { IsAccepted self.old Kind.Commit (words text.now) }
-        ensures { OnOk result (TakesKind self.old self.new Kind.Commit (words text.now)) }
+    fn take_commit(&mut self, alloc: Global, line: &LineWords<'_>) -> Result<(), NoMemory>
+        requires { IsAccepted self.old Kind.Commit line.now }
+        ensures { OnOk result (TakesKind self.old self.new Kind.Commit line.now) }
     {
         self.scripts.close_edit(alloc)?;
         self.stage = Stage::InClient;
         Ok(())
     }
 
-    fn take_done(&mut self, alloc: Global, text: &[u8]) -> Result<(), NoMemory>
-        requires { IsAccepted self.old Kind.Done (words text.now) }
-        ensures { OnOk result (TakesKind self.old self.new Kind.Done (words text.now)) }
+    fn take_done(&mut self, alloc: Global, line: &LineWords<'_>) -> Result<(), NoMemory>
+        requires { IsAccepted self.old Kind.Done line.now }
+        ensures { OnOk result (TakesKind self.old self.new Kind.Done line.now) }
     {
         let is_open = self.stage == Stage::InClient;
         self.scripts.end_script(alloc, is_open)?;
@@ -164,50 +167,68 @@ impl State {
     }
 
     /// Takes a line that is not refused.
-    fn take_kind(&mut self, alloc: Global, kind: Kind, text: &[u8]) -> Result<(), NoMemory>
-        requires { IsAccepted self.old kind (words text.now) }
-        ensures { OnOk result (TakesKind self.old self.new kind (words text.now)) }
+    fn take_kind(&mut self, alloc: Global, kind: Kind, line: &LineWords<'_>) -> Result<(), NoMemory>
+        requires { IsAccepted self.old kind line.now }
+        ensures { OnOk result (TakesKind self.old self.new kind line.now) }
     {
         match kind {
             Kind::Field => {
-                self.take_field(text);
+                self.take_field(line);
                 Ok(())
             }
-            Kind::Cell => self.take_cell(text),
-            Kind::Face => self.take_face(alloc, text),
-            Kind::Client => self.take_client(alloc, text),
-            Kind::Betti => self.take_query(Kind::Betti, text),
-            Kind::Reduce => self.take_query(Kind::Reduce, text),
-            Kind::Equiv => self.take_query(Kind::Equiv, text),
+            Kind::Cell => self.take_cell(line),
+            Kind::Face => self.take_face(alloc, line),
+            Kind::Client => self.take_client(alloc, line),
+            Kind::Betti => self.take_query(Kind::Betti, line),
+            Kind::Reduce => self.take_query(Kind::Reduce, line),
+            Kind::Equiv => self.take_query(Kind::Equiv, line),
             Kind::Edit => {
-                self.take_edit(alloc, text);
+                self.take_edit(alloc, line);
                 Ok(())
             }
-            Kind::Stalk => self.take_set(alloc, Kind::Stalk, text),
-            Kind::Restrict => self.take_set(alloc, Kind::Restrict, text),
-            Kind::Commit => self.take_commit(alloc, text),
-            Kind::Done => self.take_done(alloc, text),
+            Kind::Stalk => self.take_set(alloc, Kind::Stalk, line),
+            Kind::Restrict => self.take_set(alloc, Kind::Restrict, line),
+            Kind::Commit => self.take_commit(alloc, line),
+            Kind::Done => self.take_done(alloc, line),
+        }
+    }
+
+    /// Takes a line that is not skipped.
+    fn take_content(
+        &mut self,
+        alloc: Global,
+        number: u32,
+        line: &LineWords<'_>,
+    ) -> Result<(), TextFault>
+        requires sound { IsSoundState self.old }
+        requires content { is_skipped line.now ≡ false }
+        ensures ok { OnOk result (TakesLine self.old self.new line.now) }
+        ensures err { IfErr result (RefusesLine self.old number line.now) }
+    {
+        let kind = kind_of(line.first());
+        self.ready(alloc, kind)?;
+        match judged(self, kind, line) {
+            Ok(kind) => {
+                self.take_kind(alloc, kind, line)?;
+                Ok(())
+            }
+            Err(refusal) => Err(fault_at(refusal, number)),
         }
     }
 
     /// Takes a line.
-    pub fn take(&mut self, alloc: Global, line: u32, text: &[u8]) -> Result<(), TextFault>
+    pub fn take(&mut self, alloc: Global, number: u32, text: &[u8]) -> Result<(), TextFault>
         requires { IsSoundState self.old }
         ensures ok { OnOk result (TakesLine self.old self.new (words text.now)) }
-        ensures err { IfErr result (RefusesLine self.old line (words text.now)) }
+        ensures err { IfErr result (RefusesLine self.old number (words text.now)) }
     {
-        if is_skipped(text) {
+        let Some((first, after)) = next_word(text) else {
+            return Ok(());
+        };
+        if is_skipped(first) {
             return Ok(());
         }
-        let kind = kind_of(text);
-        self.ready(alloc, kind)?;
-        match judged(self, kind, text) {
-            Ok(kind) => {
-                self.take_kind(alloc, kind, text)?;
-                Ok(())
-            }
-            Err(refusal) => Err(fault_at(refusal, line)),
-        }
+        self.take_content(alloc, number, &LineWords::of(first, after))
     }
 
     /// The input, at the end of its lines.

@@ -8,6 +8,6 @@ use Rattle.sheaf_text.proofs.judgements.field_refusal.Goals as goal
 
 pub returns-in-None : goal.returns-in-None
 returns-in-None c =
-    let absent = no_order c.value_at.result (λ h. let is_some = c.in-None.ensures.known.1 h in cc) in
+    let absent = no_order c.s_value.result (λ h. let is_some = c.in-None.ensures.known.1 h in cc) in
     sym (ap (λ (b : Bool). cond b None (Some (Bad causes.Field)))
-    (ap (λ q. list_any (nat_eq q) orders) (sym c.value_at.ensures) ∙ absent))
+    (ap (λ q. list_any (nat_eq q) orders) (sym c.s_value.ensures) ∙ absent))

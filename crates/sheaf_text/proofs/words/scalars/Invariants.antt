@@ -5,7 +5,7 @@ use Rattle.sheaf_text.proofs.words.scalars.Given as goal
 
 abbrev pub invariant-loop-word : goal.invariant-loop-word
 invariant-loop-word l = record {
-  so_far : map value_of (words l.text) ≡ l.scalars.items ++ map value_of (words l.rest);
+  so_far : map value_of (words l.text) ≡ l.scalars ++ map value_of (words l.rest);
   below : are_below l.order (words l.rest) ≡ true;
 }
 
