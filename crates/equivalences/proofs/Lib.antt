@@ -1,6 +1,7 @@
 pub mod ProductLaws
 pub mod NextLaws
 pub mod RowLaws
+pub mod ColumnLaws
 pub mod LogLaws
 pub mod EndLaws
 pub mod CellRowLaws

@@ -1,7 +1,7 @@
 -- Rows in one list of entries, worked out row by row.
 use Rattle.std.proofs.Common.{◌≡◌, ℕ, zero, suc, ◌+◌, ◌-◌, ◌*◌, ◌<◌, ◌≤◌, Bool, true, false, List, [], ◌∷◌, ◌++◌, length}
-use Rattle.std.proofs.Common.{take, drop, get_or, refl, sym, ap, ap₂, ◌∙◌, subst, arith, append_assoc, All, map}
-use Rattle.std.proofs.lemmas.List.{length-map, map-append, take_more, append-nil, take_at, drop_at, drop-drop, drop_all, get_or-take, get_or-drop}
+use Rattle.std.proofs.Common.{take, drop, get_or, refl, sym, ap, ap₂, ◌∙◌, subst, arith, append_assoc, All}
+use Rattle.std.proofs.lemmas.List.{append-nil, take_at, drop_at, drop-drop, drop_all, get_or-take, get_or-drop}
 use Rattle.std.proofs.lemmas.List.Elements.{All-append, All-take, All-drop, All-head, All-tail}
 use Rattle.dense_blocks.specs.Field.{Ops}
 use Rattle.dense_blocks.specs.FieldLaws.{IsField}
@@ -11,13 +11,11 @@ use Rattle.dense_blocks.specs.MatrixFacts.{IsMatrix, identity, matrix_sum}
 use Rattle.dense_blocks.proofs.Shapes.{Matrix, to_matrix, vector_of, row-vector, vector-scalars, vector-size}
 use Rattle.dense_blocks.proofs.VectorLaws.{plus-zeros, combination-zeros}
 use Rattle.dense_blocks.proofs.MatrixLaws.{product-row, product-matrix, matrix_sum-matrix}
-use Rattle.dense_blocks.proofs.Cutting.{flat, Sized, matrix-sized, sized-size, sized-identity, flat-size, cut-size}
+use Rattle.dense_blocks.proofs.Cutting.{flat, Sized, matrix-sized, sized-size, sized-identity, flat-size}
 use Rattle.dense_blocks.proofs.Cutting.{cut-matrix, cut-row, cut-flat, first_rows, first_rows-none, first_rows-next}
 use Rattle.dense_blocks.proofs.Cutting.{first_rows-all, identity-row, flat-cut, flat-scalars}
 use Rattle.dense_blocks.proofs.ClearingRows.{first_rows-length}
 use Rattle.block_sparse.proofs.Windows.{sized-cut, sized-drop}
-use Rattle.equivalence_laws.specs.Transposes.{transpose}
-use Rattle.equivalence_laws.proofs.TransposeLaws.{transpose-row, transpose-length, transpose-matrix}
 use Rattle.equivalences.specs.Rows.{AreRows, rows_of, unit_rows, with_product}
 
 -- rows have their size, written or not
@@ -142,40 +140,6 @@ pub add_row-zero : (K : Ops) (F : IsField K) (m n : ℕ) (row cs entries : List 
 add_row-zero K F m n row cs entries size scalars none full entry_scalars =
     sym (ap (plus K row) (zero-combination K F m n cs (cut m n entries) none (cut-matrix K m n entries full entry_scalars))
     ∙ plus-zeros K F n row (vector_of K n row size scalars))
-
--- one row more of a transposed matrix
-pub transpose-sized : (n : ℕ) (A : List (List ℕ)) → Sized n (length A) (transpose n A)
-transpose-sized zero A = tt
-transpose-sized (suc n) A = (
-  length-map A (λ row. get_or row 0 0),
-  subst (λ m. Sized n m (transpose n (map (λ row. drop 1 row) A))) (length-map A (λ row. drop 1 row))
-      (transpose-sized n (map (λ row. drop 1 row) A)),
-)
-
-pub transposed-next : (n j : ℕ) (A : List (List ℕ)) → j < n → first_rows (j + 1) (transpose n A)
-    ≡ first_rows j (transpose n A) ++ map (λ row. get_or row j 0) A
-transposed-next n j A l =
-    first_rows-next j (transpose n A) (omega (arith, transpose-length n A))
-    ∙ ap (λ r. first_rows j (transpose n A) ++ r) (transpose-row n j A l)
-
-pub transposed-scalars : (K : Ops) (F : IsField K) (m n : ℕ) (xs : List ℕ) (i : ℕ) (entries : List ℕ)
-    → length xs ≡ m * n → AllScalars K xs → i ≡ n → entries ≡ first_rows i (transpose n (cut m n xs))
-    → AllScalars K entries
-transposed-scalars K F m n xs i entries full h e now =
-    let T = transpose n (cut m n xs) in
-    subst (AllScalars K) (sym (now ∙ first_rows-all i T (transpose-length n (cut m n xs) ∙ sym e)))
-    (flat-scalars K n m T (transpose-matrix K F m n (cut m n xs) (cut-matrix K m n xs full h)))
-
--- one entry more of a column
-pub column-next : (m n i j : ℕ) (xs : List ℕ) → i < m → j < n
-    → map (λ row. get_or row j 0) (take (i + 1) (cut m n xs))
-    ≡ map (λ row. get_or row j 0) (take i (cut m n xs)) ++ get_or xs (i * n + j) 0 ∷ []
-column-next m n i j xs l w =
-    ap (map (λ row. get_or row j 0)) (take_more (cut m n xs) i [] (omega (arith, cut-size m n xs)))
-    ∙ map-append (λ row. get_or row j 0) (take i (cut m n xs)) (get_or (cut m n xs) i [] ∷ [])
-    ∙ ap (λ a. map (λ row. get_or row j 0) (take i (cut m n xs)) ++ a ∷ [])
-    (ap (λ row. get_or row j 0) (cut-row m n xs i l)
-    ∙ get_or-take n (drop (i * n) xs) j 0 w ∙ get_or-drop (i * n) xs j 0)
 
 -- rows once they are written
 pub record AreWritten (K : Ops) (n : ℕ) (A : List (List ℕ)) (count w : ℕ) (entries : List ℕ) : Type 0 where

@@ -1,5 +1,5 @@
-ghost use Rattle.std.specs.Prelude.{◌≡◌, ◌≢◌, ◌==◌, ◌+◌, ◌*◌, ◌≤◌, ℕ, true, [], ◌∷◌, ◌++◌, length, map, take, drop, All, IfOk, OnOk};
-ghost use Rattle.std.specs.Prelude.{if◌then◌else◌};
+ghost use Rattle.std.specs.Prelude.{◌≡◌, ◌≢◌, ◌==◌, ◌+◌, ◌*◌, ◌≤◌, ◌<◌, ℕ, true, [], ◌∷◌, ◌++◌, length, map, take, drop, All, IfOk, OnOk};
+ghost use Rattle.std.specs.Prelude.{if◌then◌else◌, slice_index};
 ghost use Rattle.std.specs.List.{flat_map};
 ghost use Rattle.dense_blocks.specs.Vectors.{AllScalars};
 ghost use Rattle.dense_blocks.specs.Matrices.{cut};
@@ -51,12 +51,13 @@ impl CellRows {
     {
         let live = base.live();
         let cells = cells_of(alloc, live)?;
+        let sizes = degree_sizes(live);
         let mut rows = Vec::with_capacity(alloc, live.len())?;
         let mut starts = [0; 16];
         for cell in live {
             let degree = usize::from(cell.1);
             let size = usize::from(cell.2);
-            rows.push(Rows::units(alloc, size, starts[degree], base.coordinates(cell.1)))?;
+            rows.push(Rows::units(alloc, size, starts[degree], sizes[degree]))?;
             starts[degree] += size;
         }
         Ok(CellRows { cells, rows })
@@ -207,6 +208,19 @@ fn cells_of(alloc: Global, live: &[(u32, u8, u8)]) -> Result<Vec<u32>, NoMemory>
     ensures { IfOk result (λ c. c.items ≡ cells live.now) }
 {
     live.iter().map(|l| l.0).collect(alloc)
+}
+
+/// How many coordinates the live cells of each degree have.
+fn degree_sizes(live: &[(u32, u8, u8)]) -> [usize; 16]
+    requires { AreLive live.now }
+    ensures { (k : ℕ) → k < 16 → slice_index result k ≡ total_size (of_degree k live.now) }
+{
+    let mut sizes = [0; 16];
+    for cell in live {
+        let degree = usize::from(cell.1);
+        sizes[degree] += usize::from(cell.2);
+    }
+    sizes
 }
 
 /// How many coordinates the live cells of degree `k` have.

@@ -1,11 +1,11 @@
 //! The benchmark: `sheaf_bench WORKLOAD SIZE` runs one workload of a crate below the top call, and times the call
 //! alone. `run` has the table of the workloads with their sizes.
 //!
-//! Standard output is one line: the workload, the size and the result, with a checksum that is the same in every run.
-//! Standard error has the nanoseconds in all, and for each that is counted. `reduce` is not timed. The status is 2
-//! where the words are refused, and 1 where the workload fails; standard error then says why.
+//! Standard output is one line: the workload, the size and the result. Standard error has the nanoseconds in all and
+//! for each that is counted (none of `reduce`), or why the words were refused (status 2) or the workload failed (1).
 #![tactic(auto)]
 
+mod maps;
 mod matrices;
 mod merges;
 mod reduction;
@@ -13,6 +13,7 @@ mod report;
 mod texts;
 mod torus;
 
+use crate::maps::time_equiv;
 use crate::matrices::{time_invert, time_product, time_solve};
 use crate::merges::time_merge;
 use crate::reduction::reduce_input;
@@ -34,6 +35,7 @@ fn run<R: Clock + Input + AllocGlobal>(rt: &R, name: &str, size: u32) -> Outcome
         ("put", 2..=32) => time_put(rt, alloc, size as u8),
         ("read-torus", 2..=32) => time_read(rt, alloc, size as u8),
         ("reduce", 0) => reduce_input(rt, alloc),
+        ("equiv", 0) => time_equiv(rt, alloc),
         _ => Err(Failure::Words),
     }
 }

@@ -1,40 +1,36 @@
 ghost use Rattle.std.specs.Prelude.{IfOk};
 ghost use Rattle.field_table.specs.Table.{ops_of};
+ghost use Rattle.cochain_vec.specs.CochainComplexes.{IsCochainComplex};
 ghost use Rattle.block_complexes.specs.BlockComplexes.{IsBlockComplex};
+ghost use Rattle.block_complexes.specs.Cochains.{complex_of};
 ghost use Rattle.block_sparse.specs.StoredBlocks.{complex_in};
 ghost use Rattle.block_sparse.specs.Flags.{HasNoFlags};
-ghost use Rattle.reduce_step.specs.Footprints.{IsOverField};
 
 use crate::report::{Failure, Outcome, Report};
 use crate::texts::sheaf_of;
 use block_sparse::Blocks;
-use coboundary::{full, start_is_block_complex};
+use coboundary::{full, start_is_block_complex, start_is_cochain_complex};
 use field_table::Field;
+use first_reduction::reduce;
 use io_edge::{StdSource, read_all};
-use pair_commit::{Slot, Work};
-use reduce_step::{Finish, Footprint};
+use pair_commit::Slot;
+use reduce_step::Step;
 use sheaf_data::Sheaf;
 use sheaf_text::MOST_BYTES;
 use std::alloc::{AllocError as NoMemory, Global};
 
-/// What a reduction has done.
-#[derive(Clone, Copy)]
-struct Tally {
-    /// How many pairs of cells it removed.
-    pairs: u64,
-    /// How many corners it computed anew: at each removal the cells on the left times the cells below.
-    updates: u64,
-    /// How many cells are left.
-    left: usize,
+pub fn reduce_input<R: Input>(rt: &R, alloc: Global) -> Outcome {
+    let result = counts(alloc, &input_slot(rt, alloc)?)?;
+    Ok(Report { result, time: None })
 }
 
-pub fn reduce_input<R: Input>(rt: &R, alloc: Global) -> Outcome {
-    let t = reduce_sheaf(alloc, input_sheaf(rt, alloc)?)?;
-    let result = format!(in alloc;
-        "{} pairs, {} updates, {} cells left",
-        t.pairs, t.updates, t.left
-    )?;
-    Ok(Report { result, time: None })
+/// The whole reduction of the input's sheaf.
+pub fn input_slot<R: Input>(rt: &R, alloc: Global) -> Result<Slot<Field>, Failure>
+    ensures closed { IfOk result (λ s. IsCochainComplex (ops_of s.f) (complex_of (complex_in s.base))) }
+{
+    let sheaf = input_sheaf(rt, alloc)?;
+    let slot = reduced(alloc, &sheaf)?;
+    Ok(slot)
 }
 
 fn input_sheaf<R: Input>(rt: &R, alloc: Global) -> Result<Sheaf<Field>, Failure> {
@@ -43,69 +39,45 @@ fn input_sheaf<R: Input>(rt: &R, alloc: Global) -> Result<Sheaf<Field>, Failure>
     sheaf_of(alloc, &text)
 }
 
-fn reduce_sheaf(alloc: Global, sheaf: Sheaf<Field>) -> Result<Tally, Failure> {
-    let base = start(alloc, &sheaf)?;
+/// The whole reduction of the block complex of a sheaf.
+fn reduced(alloc: Global, sheaf: &Sheaf<Field>) -> Result<Slot<Field>, NoMemory>
+    ensures closed { IfOk result (λ s. IsCochainComplex (ops_of s.f) (complex_of (complex_in s.base))) }
+{
+    let base = start(alloc, sheaf)?;
     let mut slot = Slot::start(alloc, sheaf.draft().field, base, Vec::new(alloc))?;
-    reduce(alloc, &mut slot)
+    reduce(alloc, &mut slot)?;
+    Ok(slot)
 }
 
-/// The block complex of a sheaf, over its field, without flags.
+/// The block complex of a sheaf, over its field, without flags; twice its coboundary is zero.
 pub fn start(alloc: Global, sheaf: &Sheaf<Field>) -> Result<Blocks, NoMemory>
     ensures over { IfOk result (λ b. IsBlockComplex (ops_of sheaf.now.field) (complex_in b)) }
+    ensures closed { IfOk result (λ b. IsCochainComplex (ops_of sheaf.now.field) (complex_of (complex_in b))) }
     ensures unflagged { IfOk result HasNoFlags }
 {
-    // These two calls are made for their clauses alone.
+    // These three calls are made for their clauses alone.
     start_is_block_complex();
+    start_is_cochain_complex();
     let _cells = sheaf.draft().complex.dims();
     let blocks = full(alloc, sheaf)?;
     Ok(blocks)
 }
 
-/// Tries what the slot gives, the first candidate each time, until nothing is left.
-fn reduce(alloc: Global, slot: &mut Slot<Field>) -> Result<Tally, Failure> {
-    let mut tally = Tally {
-        pairs: 0,
-        updates: 0,
-        left: 0,
-    };
-    for _step in 0..u64::MAX {
-        let Work::Try(foot) = slot.take((0, 0))? else {
-            break;
-        };
-        try_pair(alloc, slot, foot, &mut tally)?;
-    }
-    tally.left = slot.now().live().len();
-    Ok(tally)
+/// How many pairs of cells a reduction removed, how many corners it computed anew, and how many cells are left.
+pub fn counts(alloc: Global, slot: &Slot<Field>) -> Result<String, NoMemory> {
+    let pairs = slot.log().len();
+    let updates = updates_of(slot.log());
+    let left = slot.now().live().len();
+    format!(in alloc; "{pairs} pairs, {updates} updates, {left} cells left")
 }
 
-/// Removes the pair of the footprint where its pivot has an inverse; else marks the pivot.
-fn try_pair(
-    alloc: Global,
-    slot: &mut Slot<Field>,
-    foot: Footprint,
-    tally: &mut Tally,
-) -> Result<(), Failure>
-    requires { IsOverField (ops_of slot.old.f) foot }
-{
-    match foot.finish(alloc, &slot.field())? {
-        Finish::Made(record) => {
-            count_removal(&record.foot, tally);
-            slot.commit(record)?;
-        }
-        Finish::Singular {
-            x,
-            y,
-            pivot,
-            kernel,
-        } => slot.mark(x, y, &pivot, &kernel)?,
+/// How many corners the steps computed anew: at each the cells on the left times the cells below.
+fn updates_of(log: &[Step]) -> u64 {
+    let mut updates: u64 = 0;
+    for step in log {
+        let left = step.left.as_slice().len() as u64;
+        let corners = left.saturating_mul(step.below.as_slice().len() as u64);
+        updates = updates.saturating_add(corners);
     }
-    Ok(())
-}
-
-/// Counts the removal of this footprint.
-fn count_removal(foot: &Footprint, tally: &mut Tally) {
-    let left = foot.left.as_slice().len() as u64;
-    let corners = left.saturating_mul(foot.below.as_slice().len() as u64);
-    tally.pairs = tally.pairs.saturating_add(1);
-    tally.updates = tally.updates.saturating_add(corners);
+    updates
 }

@@ -1,5 +1,4 @@
-use pair_commit::CommitFault;
-use reduce_step::Differs;
+use dense_blocks::Block;
 use std::alloc::{AllocError as NoMemory, Global};
 use std::io;
 use std::time::{Duration, Instant};
@@ -40,6 +39,14 @@ pub fn checksum(mut sum: u32, bytes: &[u8]) -> u32 {
     sum
 }
 
+/// That number for the entries of all blocks.
+pub fn checksum_of(mut sum: u32, blocks: &[Block]) -> u32 {
+    for block in blocks {
+        sum = checksum(sum, block.entries.as_slice());
+    }
+    sum
+}
+
 /// Why a workload was refused, or gave nothing.
 #[derive(Clone, Copy, Debug, Error)]
 pub enum Failure {
@@ -55,30 +62,8 @@ pub enum Failure {
     Made,
 }
 
-/// Memory ran out, and what was handed in came back.
-impl<T: Drop> From<(T, NoMemory)> for Failure {
-    fn from((_, fault): (T, NoMemory)) -> Self {
-        Failure::Memory(fault)
-    }
-}
-
 impl From<io::Error> for Failure {
     fn from(_: io::Error) -> Self {
         Failure::Outside
-    }
-}
-
-impl From<CommitFault> for Failure {
-    fn from(fault: CommitFault) -> Self {
-        match fault {
-            CommitFault::Stale { .. } => Failure::Made,
-            CommitFault::NoMemory => Failure::Memory(NoMemory),
-        }
-    }
-}
-
-impl From<Differs> for Failure {
-    fn from(_: Differs) -> Self {
-        Failure::Made
     }
 }

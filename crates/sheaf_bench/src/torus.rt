@@ -1,6 +1,6 @@
 ghost use Rattle.std.specs.Prelude.{◌<◌, ◌≤◌, ◌^◌};
 
-use crate::report::{Failure, Outcome, Span, checksum, timed};
+use crate::report::{Failure, Outcome, Span, checksum_of, timed};
 use crate::texts::{add_cells, add_face, draft_of, sealed};
 use field_table::Field;
 use sheaf_data::{Draft, Sheaf};
@@ -58,11 +58,7 @@ fn torus(alloc: Global, n: u8) -> Result<Draft<Field>, Failure>
 
 /// The report of a call that gave this draft.
 fn report(alloc: Global, span: Span, n: u32, unit: &str, d: &Draft<Field>) -> Outcome {
-    let mut sum = 0;
-    for block in d.blocks.as_slice() {
-        sum = checksum(sum, block.entries.as_slice());
-    }
-    timed(alloc, span, n, unit, sum)
+    timed(alloc, span, n, unit, checksum_of(0, d.blocks.as_slice()))
 }
 
 pub fn time_read<R: Clock>(rt: &R, alloc: Global, n: u8) -> Outcome

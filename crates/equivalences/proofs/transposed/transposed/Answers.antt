@@ -1,40 +1,49 @@
-use Rattle.std.proofs.Common.{◌++◌, map, get_or, ap, sym, ◌∙◌, arith, refl, subst}
-use Rattle.dense_blocks.specs.Blocks.{matrix_of}
-use Rattle.dense_blocks.proofs.Cutting.{first_rows-none, first_rows-size, cut-first_rows, cut-size, Sized}
-use Rattle.equivalence_laws.specs.Transposes.{transpose}
-use Rattle.equivalences.proofs.RowLaws.{transpose-sized, transposed-next, transposed-scalars}
+use Rattle.std.proofs.Common.{◌≡◌, ◌*◌, ℕ, List, length, get_or, drop, ap, ◌∙◌, arith}
+use Rattle.std.proofs.lemmas.List.{take_at}
+use Rattle.dense_blocks.specs.Matrices.{cut}
+use Rattle.equivalences.proofs.ColumnLaws.{zeros-entries, transposed-scalars}
 use Rattle.equivalences.proofs.transposed.transposed.Goals as goal
 
-pub loop-j-init : goal.loop-j-init
-loop-j-init c = c.in_ok-entries.ensures
-    ∙ sym (first_rows-none (transpose c.args.a.now.cols (matrix_of c.args.a.now)))
-
-pub loop-j-preserved : goal.loop-j-preserved
-loop-j-preserved c =
-    let a = c.args.a.now in
-    c.in_ok-push_column.ensures
-    ∙ ap (λ t. t ++ map (λ row. get_or row c.loop-j.j 0) (matrix_of a)) c.loop-j.invariant
-    ∙ sym (transposed-next a.cols c.loop-j.j (matrix_of a) c.loop-j-test.true)
-
-pub invariant_of-result-clause-full : goal.invariant_of-result-clause-full
-invariant_of-result-clause-full c =
-    let a = c.args.a.now in
-    first_rows-size a.cols a.rows c.loop-j.j (transpose a.cols (matrix_of a)) c.loop-j.entries
-    (subst (λ m. Sized a.cols m (transpose a.cols (matrix_of a))) (cut-size a.rows a.cols a.entries)
-    (transpose-sized a.cols (matrix_of a))) (omega arith) c.loop-j.invariant
+pub put_columns-requires-clause-zeros : goal.put_columns-requires-clause-zeros
+put_columns-requires-clause-zeros c = λ k.
+    ap (λ xs. get_or xs k 0) (c.deref_mut.ensures.value ∙ c.in_ok-entries.ensures.items)
+    ∙ zeros-entries c.len.result k
 
 pub returns-clause-block : goal.returns-clause-block
 returns-clause-block c =
     let a = c.args.a.now in
+    let new : List ℕ = c.put_columns.new.into in
+    let is = c.in_ok-block.ensures.block in
     record {
-      rows_are = refl;
-      columns_are = refl;
-      matrix_is = cut-first_rows a.cols a.rows c.loop-j.j (transpose a.cols (matrix_of a)) c.loop-j.entries
-          (subst (λ m. Sized a.cols m (transpose a.cols (matrix_of a))) (cut-size a.rows a.cols a.entries)
-          (transpose-sized a.cols (matrix_of a))) (omega arith) c.loop-j.invariant;
+      rows_are = is.rows_are;
+      columns_are = is.columns_are;
+      matrix_is = is.matrix_is
+          ∙ ap (cut a.cols a.rows)
+          (c.deref.ensures.value
+          ∙ take_at new (drop (length new) c.in_ok-entries.entries.items) c.in_ok-entries.entries.len
+          (c.put_columns.ensures.length ∙ c.deref_mut.ensures.len))
+          ∙ c.put_columns.ensures.matrix;
     }
 
 pub returns-clause-scalars : goal.returns-clause-scalars
 returns-clause-scalars c = λ K F h.
     let a = c.args.a.now in
-    transposed-scalars K F a.rows a.cols a.entries c.loop-j.j c.loop-j.entries a.full h (omega arith) c.loop-j.invariant
+    let new : List ℕ = c.put_columns.new.into in
+    let entries : List ℕ = c.in_ok-block.block.entries in
+    let same : entries ≡ new =
+    c.in_ok-block.ensures.entries
+    ∙ c.deref.ensures.value
+    ∙ take_at new (drop (length new) c.in_ok-entries.entries.items) c.in_ok-entries.entries.len
+    (c.put_columns.ensures.length ∙ c.deref_mut.ensures.len) in
+    let size : length entries ≡ a.cols * a.rows =
+    omega (
+      arith,
+      ap length same,
+      c.put_columns.ensures.length,
+      c.deref_mut.ensures.len,
+      c.in_ok-entries.ensures.len,
+      c.len.ensures,
+      a.full,
+    ) in
+    transposed-scalars K F a.rows a.cols a.entries entries a.full h size
+    (ap (cut a.cols a.rows) same ∙ c.put_columns.ensures.matrix)

@@ -31,14 +31,20 @@ units-requires-clause-fit c =
     let below : x.1 ≤ 15 = fits.degrees i (0, 0, 0) c.loop-cell-test.true in
     let start = ap (λ d. get_or c.loop-cell.starts d 0) c.from-degree.ensures
     ∙ c.loop-cell.invariant.starts x.1 (omega (arith, below)) in
-    let all = c.coordinates.ensures ∙ ap (λ l. total_size (of_degree x.1 l)) (sym c.live-live.ensures.live) in
+    let all = ap (λ d. get_or c.degree_sizes-sizes.result d 0) c.from-degree.ensures
+    ∙ c.degree_sizes-sizes.ensures x.1 (omega (arith, below)) in
     omega (arith, start, all, c.from-size.ensures, value-within x.1 live i c.loop-cell-test.true refl)
 
 pub units-requires-clause-width : goal.units-requires-clause-width
 units-requires-clause-width c =
     let live = c.live-live.result.now in
-    let x : ℕ × ℕ × ℕ = get_or live c.loop-cell.cell-index (0, 0, 0) in
-    omega (arith, c.coordinates.ensures, coordinates-fit c.args.base.now.live x.1 c.live-live.ensures.live_cells)
+    let i : ℕ = c.loop-cell.cell-index in
+    let x : ℕ × ℕ × ℕ = get_or live i (0, 0, 0) in
+    let fits : AreLive live = subst AreLive (sym c.live-live.ensures.live) c.live-live.ensures.live_cells in
+    let below : x.1 ≤ 15 = fits.degrees i (0, 0, 0) c.loop-cell-test.true in
+    let all = ap (λ d. get_or c.degree_sizes-sizes.result d 0) c.from-degree.ensures
+    ∙ c.degree_sizes-sizes.ensures x.1 (omega (arith, below)) in
+    omega (arith, all, coordinates-fit live x.1 fits)
 
 pub overflow_add-starts : goal.overflow_add-starts
 overflow_add-starts c =
@@ -68,10 +74,11 @@ loop-cell-preserved c =
     let below : x.1 < 16 = omega (arith, at_most) in
     let starts : List ℕ = c.loop-cell.starts in
     let start = ap (λ d. get_or starts d 0) c.from-degree.ensures ∙ c.loop-cell.invariant.starts x.1 below in
-    let all = c.coordinates.ensures ∙ ap (λ l. total_size (of_degree x.1 l)) (sym c.live-live.ensures.live) in
+    let all = ap (λ d. get_or c.degree_sizes-sizes.result d 0) c.from-degree.ensures
+    ∙ c.degree_sizes-sizes.ensures x.1 below in
     let made : c.units.result ≡ units_at live i =
     c.units.ensures
-    ∙ ap₂ (λ size start. unit_rows size start c.coordinates.result) c.from-size.ensures start
+    ∙ ap₂ (λ size start. unit_rows size start (get_or c.degree_sizes-sizes.result c.from-degree.result 0)) c.from-size.ensures start
     ∙ ap (unit_rows x.2 (total_size (of_degree x.1 (take i live)))) all in
     record {
       count = ap length c.in_ok-push.ensures.items ∙ length_push c.loop-cell.rows.items c.units.result
