@@ -1,6 +1,6 @@
 -- How many coordinates are of each degree, one cell after another; 4,096 at most.
 use Rattle.std.proofs.Common.{◌≡◌, ◌≢◌, ℕ, ◌+◌, ◌<◌, min, List, [], ◌∷◌, ◌++◌, length, get_or, set, replicate, cond, eqb}
-use Rattle.std.proofs.Common.{refl, sym, ap, ◌∙◌, subst, arith, inl, inr}
+use Rattle.std.proofs.Common.{zero-add, refl, sym, ap, ◌∙◌, subst, arith, inl, inr}
 use Rattle.std.proofs.lemmas.Bool.{cases_eq, eq-eqb, ne_eqb}
 use Rattle.std.proofs.lemmas.List.{get_or-set_same, get_or-set_other, length-set, get_or-replicate, length-replicate}
 use Rattle.std.proofs.lemmas.List.Sums.{sum_by-append}
@@ -16,21 +16,18 @@ pub record AreSizes (cells : List (ℕ × ℕ × ℕ)) (sizes : List ℕ) : Type
 -- before the first cell
 pub sizes-none : AreSizes [] (replicate 256 0)
 sizes-none = record {
-  count = length-replicate 256 0;
-  each = λ k l. get_or-replicate 256 k 0 0 l;
+  count = length-replicate {A = ℕ} 256 0;
+  each = λ k l. get_or-replicate {A = ℕ} 256 k 0 0 l;
 }
 
 degree-more : (k : ℕ) (cells : List (ℕ × ℕ × ℕ)) (c : ℕ × ℕ × ℕ) → degree_size k (cells ++ c ∷ [])
     ≡ degree_size k cells + cond (eqb c.1 k) c.2 0
 degree-more k cells c =
-    sum_by-append (λ d. cond (eqb d.1 k) d.2 0) cells (c ∷ [])
-    ∙ ap (λ n. degree_size k cells + n) (plus-nothing (cond (eqb c.1 k) c.2 0))
-  where
-    plus-nothing : (m : ℕ) → m + 0 ≡ m
-    plus-nothing m = omega arith
+    sum_by-append (λ (d : ℕ × ℕ × ℕ). cond (eqb d.1 k) d.2 0) cells (c ∷ [])
+    ∙ ap (λ n. degree_size k cells + n) (zero-add (cond (eqb c.1 k) c.2 0))
 
 -- one cell more
-pub sizes-more : (cells : List (ℕ × ℕ × ℕ)) (sizes : List ℕ) (c : ℕ × ℕ × ℕ) → AreSizes cells sizes
+sizes-more : (cells : List (ℕ × ℕ × ℕ)) (sizes : List ℕ) (c : ℕ × ℕ × ℕ) → AreSizes cells sizes
     → AreSizes (cells ++ c ∷ []) (with_cell sizes c)
 sizes-more cells sizes c h = record {
   count = length-set sizes c.1 after ∙ h.count;
@@ -56,6 +53,12 @@ sizes-more cells sizes c h = record {
     elsewhere k n e =
         let none : cond (eqb c.1 k) c.2 0 ≡ 0 = ap (λ b. cond b c.2 0) (ne_eqb c.1 k (λ same. n (sym same))) in
         omega (arith, e, degree-more k cells c, none)
+
+pub sizes-next : (cells next : List (ℕ × ℕ × ℕ)) (sizes new : List ℕ) (c : ℕ × ℕ × ℕ) → AreSizes cells sizes
+    → new ≡ with_cell sizes c → next ≡ cells ++ c ∷ [] → AreSizes next new
+sizes-next cells next sizes new c h e n =
+    subst (AreSizes next) (sym e)
+    (subst (λ cs. AreSizes cs (with_cell sizes c)) (sym n) (sizes-more cells sizes c h))
 
 -- the coordinates of the cell that comes next
 pub next-is : (cells : List (ℕ × ℕ × ℕ)) (sizes : List ℕ) (c : ℕ × ℕ × ℕ) (x : Coordinates) → AreSizes cells sizes

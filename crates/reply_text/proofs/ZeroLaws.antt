@@ -1,5 +1,5 @@
 -- Joined matrices that are zero, whole: none of their blocks has a line.
-use Rattle.std.proofs.Common.{◌≡◌, ℕ, zero, suc, min, Bool, true, false, not, cond, ◌&&◌, Option, List, [], ◌∷◌, ◌++◌}
+use Rattle.std.proofs.Common.{◌≡◌, ℕ, zero, suc, ◌+◌, min, Bool, true, false, not, cond, ◌&&◌, List, [], ◌∷◌, ◌++◌}
 use Rattle.std.proofs.Common.{map, take, drop, get_or, filter, eqb, refl, sym, ap, ap₂, ◌∙◌, arith, inl, inr}
 use Rattle.std.specs.Prelude.{if◌then◌else◌, slice_get, None}
 use Rattle.std.specs.List.{flat_map, concat, list_all}
@@ -12,6 +12,7 @@ use Rattle.std.proofs.lemmas.List.Folds.{list_all-append}
 use Rattle.std.proofs.lemmas.List.Sums.{AllPass-from_list_all, list_all-from_AllPass}
 use Rattle.std.proofs.lemmas.Option.{slice_get_cases}
 use Rattle.dense_blocks.specs.Matrices.{cut}
+use Rattle.dense_blocks.specs.Blocks.{matrix_of}
 use Rattle.dense_blocks.specs.declared.block.Block.{Block}
 use Rattle.reply_text.specs.declared.coordinates.Coordinates.{Coordinates}
 use Rattle.reply_text.specs.declared.joined.Direction.{Direction}
@@ -55,15 +56,17 @@ zero-concat (r ∷ A) h =
 zero-between : (b : Block) (s t : Coordinates) → is_zero b ≡ true
     → list_all (λ e. eqb e 0) (entries_between b s t) ≡ true
 zero-between b s t h =
-    zero-concat _ (zero-parts s.size s.first _ (all-take are_zero t.size _ (all-drop are_zero t.first _
-    (zero-cut b.rows b.cols b.entries h))))
+    let A = matrix_of b in
+    let rows = take t.size (drop t.first A) in
+    zero-concat (map (λ r. take s.size (drop s.first r)) rows) (zero-parts s.size s.first rows
+    (all-take are_zero t.size (drop t.first A) (all-drop are_zero t.first A (zero-cut b.rows b.cols b.entries h))))
 
 -- ---- lines
 
 place-is : (d : Direction) (k l : ℕ) → goes d k l ≡ true → min k l ≡ matrix_place d k
-place-is Up k l e = let is = eqb-true l (suc k) e in omega (arith, is)
+place-is Up k l e = let is = eqb-true l (k + 1) e in omega (arith, is)
 place-is Level k l e = let is = eqb-true l k e in omega (arith, is)
-place-is Down k l e = let is = eqb-true (suc l) k e in omega (arith, is)
+place-is Down k l e = let is = eqb-true (l + 1) k e in omega (arith, is)
 
 -- from a cell where the matrix is zero, or where there is none, no block has a line
 line-none : (word : List ℕ) (m : JoinedMatrices) (s t : Coordinates)
@@ -105,17 +108,18 @@ pub sources-lines : (word : List ℕ) (m : JoinedMatrices) (to from : List Coord
     (filter (λ s. not (get_or (map is_zero m.matrices) (matrix_place m.direction s.degree) true)) from)
     ≡ flat_map (λ s. flat_map (λ t. block_line word m s t) to) from
 sources-lines word m to [] = refl
-sources-lines word m to (s ∷ from) = pick (is_left_out s) refl
+sources-lines word m to (s ∷ from) = pick (is_left_out s) refl (sources-lines word m to from)
   where
     is_left_out : Coordinates → Bool
-    is_left_out s = get_or (map is_zero m.matrices) (matrix_place m.direction s.degree) true
+    is_left_out q = get_or (map is_zero m.matrices) (matrix_place m.direction q.degree) true
 
     lines : Coordinates → List (List (List ℕ))
-    lines s = flat_map (λ t. block_line word m s t) to
+    lines q = flat_map (λ t. block_line word m q t) to
 
-    pick : (z : Bool) → is_left_out s ≡ z
-        → flat_map lines (cond (not z) (s ∷ filter (λ q. not (is_left_out q)) from) (filter (λ q. not (is_left_out q)) from))
-        ≡ lines s ++ flat_map lines from
-    pick false e = ap (λ rest. lines s ++ rest) (sources-lines word m to from)
-    pick true e =
-        sources-lines word m to from ∙ ap (λ first. first ++ flat_map lines from) (sym (lines-none word m s to e))
+    kept : List Coordinates
+    kept = filter (λ q. not (is_left_out q)) from
+
+    pick : (z : Bool) → is_left_out s ≡ z → flat_map lines kept ≡ flat_map lines from
+        → flat_map lines (cond (not z) (s ∷ kept) kept) ≡ lines s ++ flat_map lines from
+    pick false e rest = ap (λ ls. lines s ++ ls) rest
+    pick true e rest = rest ∙ ap (λ first. first ++ flat_map lines from) (sym (lines-none word m s to e))

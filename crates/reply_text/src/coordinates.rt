@@ -1,4 +1,4 @@
-ghost use Rattle.std.specs.Prelude.{◌≡◌, [], length, map, slice_index_or, IfOk};
+ghost use Rattle.std.specs.Prelude.{◌≡◌, ◌<◌, [], length, map, slice_index_or, IfOk};
 ghost use Rattle.reply_text.specs.JoinedMatrices.{all_coordinates};
 ghost use Rattle.reply_text.specs.Parts.{capped, with_cell};
 
@@ -28,6 +28,7 @@ fn next_coordinates(sizes: &mut [u32], cell: Cell) -> Coordinates
     requires { length sizes.old ≡ 256 }
     ensures coordinates { result
         ≡ record { cell = cell.0; degree = cell.1; first = slice_index_or sizes.old cell.1 0; size = cell.2 } }
+    ensures degree { cell.1 < 256 }
     ensures sizes { sizes.new ≡ with_cell sizes.old cell }
 {
     let place = usize::from(cell.1);
