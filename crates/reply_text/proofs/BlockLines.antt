@@ -19,7 +19,6 @@ use Rattle.reply_text.specs.declared.coordinates.Coordinates.{Coordinates}
 use Rattle.reply_text.specs.JoinedMatrices.{JoinedMatrices, coordinates_after, all_coordinates, submatrix}
 use Rattle.reply_text.specs.JoinedMatrices.{entries_between}
 use Rattle.reply_text.specs.JoinedMatrices.{matrix_between, nonzero_line, block_line, block_lines}
-use Rattle.reply_text.specs.Lines.{line_text}
 use Rattle.reply_text.proofs.Writing.{one_line}
 use Rattle.reply_text.specs.Parts.{spaced_words, lines_text, capped, row_between, entries_words}
 

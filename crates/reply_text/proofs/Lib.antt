@@ -3,3 +3,5 @@ pub mod Counting
 mod Naming
 mod Bounds
 mod BlockLines
+mod CoordinateLaws
+mod ZeroLaws

@@ -1,8 +1,8 @@
 -- Parts of a transcript.
-use Rattle.std.specs.Prelude.{ℕ, ◌+◌, Bool, false, ◌==◌, List, [], ◌∷◌, ◌++◌, Option, slice_get, count_by}
+use Rattle.std.specs.Prelude.{ℕ, ◌+◌, ◌-◌, Bool, false, ◌==◌, slice_set, List, [], ◌∷◌, ◌++◌, Option, slice_get, count_by}
 use Rattle.std.specs.Prelude.{if◌then◌else◌, map, take, drop, min, slice_index_or, codes}
 use Rattle.std.specs.Fmt.{decimal}
-use Rattle.std.specs.List.{flat_map, enumerate_from}
+use Rattle.std.specs.List.{flat_map, enumerate_from, list_all}
 use Rattle.std.specs.Option.{option_map_or}
 use Rattle.sheaf_words.specs.declared.query.Command.{Command}
 use Rattle.sheaf_words.specs.declared.event.Event.{Event}
@@ -11,6 +11,8 @@ use Rattle.dense_blocks.specs.Blocks.{matrix_of}
 use Rattle.dense_blocks.specs.declared.block.Block.{Block}
 use Rattle.reply_text.specs.declared.coordinates.Coordinates.{Coordinates}
 use Rattle.reply_text.specs.declared.joined.Joined.{Joined}
+use Rattle.reply_text.specs.declared.joined.Direction.{Direction}
+use Rattle.reply_text.specs.declared.joined.Direction.TheVariants.{Up, Level, Down}
 use Rattle.reply_text.specs.JoinedMatrices.{JoinedMatrices}
 use Rattle.reply_text.specs.Lines.{line_text}
 use Rattle.reply_text.specs.Replies.{reply_lines}
@@ -90,6 +92,20 @@ joined_value j = record { matrices = j.matrices.now; from = j.from.now; to = j.t
 -- the same coordinates; those from place 4,096 on, which no block has, begin there
 abbrev pub capped : Coordinates → Coordinates
 capped c = record { cell = c.cell; degree = c.degree; first = min c.first 4096; size = c.size }
+
+-- how many coordinates are of each degree, 4,096 at most, after a cell more
+abbrev pub with_cell : List ℕ → ℕ × ℕ × ℕ → List ℕ
+with_cell sizes c = slice_set sizes c.1 (min (slice_index_or sizes c.1 0 + c.2) 4096)
+
+-- all entries are zero
+abbrev pub is_zero : Block → Bool
+is_zero b = list_all (λ e. e == 0) b.entries
+
+-- the place of the matrix that goes from degree k in this direction
+abbrev pub matrix_place : Direction → ℕ → ℕ
+matrix_place Up k = k
+matrix_place Level k = k
+matrix_place Down k = k - 1
 
 -- row i of the block from s to t, without entries where the matrix has no such row
 abbrev pub row_between : Block → Coordinates → Coordinates → ℕ → List ℕ

@@ -6,6 +6,7 @@ ghost use Rattle.reply_text.specs.Parts.{spaced_words, lines_text, joined_value,
 
 use crate::coordinates::{Coordinates, all_coordinates};
 use crate::joined::Joined;
+use crate::sources::sources;
 use crate::words::{put_named, put_next};
 use dense_blocks::Block;
 use std::alloc::{AllocError as NoMemory, Global};
@@ -32,7 +33,7 @@ fn row_between(block: &Block, s: Coordinates, t: Coordinates, i: u32) -> &[u8]
     part(block.row(t.first + i), s.first, s.size)
 }
 
-fn are_zero(entries: &[u8]) -> bool
+pub(crate) fn are_zero(entries: &[u8]) -> bool
     ensures { result ≡ list_all (λ e. e == 0) entries.now }
 {
     entries.iter().all(|e| *e == 0)
@@ -207,7 +208,8 @@ pub(crate) fn put_blocks(
 ) -> Result<(), NoMemory>
     ensures { OnOk result (out.new.items ≡ out.old.items ++ lines_text (block_lines word.now (joined_value m.entry))) }
 {
-    let from = all_coordinates(alloc, m.from)?;
+    let all = all_coordinates(alloc, m.from)?;
+    let from = sources(alloc, m, all.as_slice())?;
     let to = all_coordinates(alloc, m.to)?;
     put_blocks_between(out, word, m, from.as_slice(), to.as_slice())
 }
@@ -216,7 +218,8 @@ pub(crate) fn put_blocks(
 pub(crate) fn count_blocks(alloc: Global, m: Joined<'_>) -> Result<usize, NoMemory>
     ensures { (word : List ℕ) → IfOk result (λ n. n ≡ length (block_lines word (joined_value m.entry))) }
 {
-    let from = all_coordinates(alloc, m.from)?;
+    let all = all_coordinates(alloc, m.from)?;
+    let from = sources(alloc, m, all.as_slice())?;
     let to = all_coordinates(alloc, m.to)?;
     count_between(m, from.as_slice(), to.as_slice())
 }

@@ -1,6 +1,6 @@
-ghost use Rattle.std.specs.Prelude.{◌≡◌, ◌==◌, [], if◌then◌else◌, min, map, IfOk};
-ghost use Rattle.reply_text.specs.JoinedMatrices.{degree_size, coordinates_after, all_coordinates};
-ghost use Rattle.reply_text.specs.Parts.{capped};
+ghost use Rattle.std.specs.Prelude.{◌≡◌, ◌<◌, [], length, map, slice_index_or, IfOk};
+ghost use Rattle.reply_text.specs.JoinedMatrices.{all_coordinates};
+ghost use Rattle.reply_text.specs.Parts.{capped, with_cell};
 
 use dense_blocks::Block;
 use std::alloc::{AllocError as NoMemory, Global};
@@ -19,44 +19,38 @@ pub(crate) struct Coordinates {
     pub(crate) size: u8,
 }
 
-/// How many of the cell's coordinates are of the degree: all or none.
-fn size_at(degree: u8, cell: Cell) -> u8
-    ensures { result ≡ (if cell.1 == degree then cell.2 else 0) }
-{
-    if cell.1 == degree { cell.2 } else { 0 }
-}
+/// As many as there are degrees.
+const DEGREES: usize = 256;
 
-/// How many coordinates the cells of the degree have together; at most as many as a block has rows.
-fn degree_size(cells: &[Cell], degree: u8) -> u32
-    ensures { result ≡ min (degree_size degree cells.now) 4096 }
+/// The coordinates of a cell that comes after others, of whose coordinates so many are of each degree; then its own are
+/// among these. Those that would come after as many as a block has rows begin right there, where a block has none.
+fn next_coordinates(sizes: &mut [u32], cell: Cell) -> Coordinates
+    requires { length sizes.old ≡ 256 }
+    ensures coordinates { result
+        ≡ record { cell = cell.0; degree = cell.1; first = slice_index_or sizes.old cell.1 0; size = cell.2 } }
+    ensures degree { cell.1 < 256 }
+    ensures sizes { sizes.new ≡ with_cell sizes.old cell }
 {
-    let mut size = 0u32;
-    for cell in cells {
-        size = (size + u32::from(size_at(degree, *cell))).min(Block::MOST);
-    }
-    size
-}
-
-/// The coordinates of a cell that comes after these. Those that would come after as many as a block has rows begin
-/// right there, where a block has none.
-fn coordinates_after(earlier: &[Cell], cell: Cell) -> Coordinates
-    ensures { result ≡ capped (coordinates_after earlier.now cell) }
-{
+    let place = usize::from(cell.1);
+    let first = sizes[place];
+    sizes[place] = (first.min(Block::MOST) + u32::from(cell.2)).min(Block::MOST);
     Coordinates {
         cell: cell.0,
         degree: cell.1,
-        first: degree_size(earlier, cell.1),
+        first,
         size: cell.2,
     }
 }
 
-/// Those of each cell, in order.
+/// Those of each cell, in order; takes one step for each.
 pub(crate) fn all_coordinates(alloc: Global, cells: &[Cell]) -> Result<Vec<Coordinates>, NoMemory>
     ensures { IfOk result (λ list. list.items ≡ map capped (all_coordinates [] cells.now)) }
 {
     let mut list = Vec::with_capacity(alloc, cells.len())?;
-    for i in 0..cells.len() {
-        list.push(coordinates_after(&cells[..i], cells[i]))?;
+    let mut sizes = [0u32; DEGREES];
+    for cell in cells {
+        let next = next_coordinates(&mut sizes, *cell);
+        list.push(next)?;
     }
     Ok(list)
 }

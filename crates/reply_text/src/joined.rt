@@ -1,6 +1,6 @@
 ghost use Rattle.std.specs.Prelude.{◌≡◌, Some, None, MatchOption};
 ghost use Rattle.reply_text.specs.JoinedMatrices.{goes, matrix_between};
-ghost use Rattle.reply_text.specs.Parts.{joined_value};
+ghost use Rattle.reply_text.specs.Parts.{joined_value, matrix_place};
 
 use crate::coordinates::{Cell, Coordinates};
 use dense_blocks::Block;
@@ -25,6 +25,16 @@ impl Direction {
             Direction::Up => u32::from(to) == u32::from(from) + 1,
             Direction::Level => to == from,
             Direction::Down => u32::from(to) + 1 == u32::from(from),
+        }
+    }
+
+    /// The place of the matrix that goes from the degree.
+    pub(crate) fn place(self, from: u8) -> u8
+        ensures { result ≡ matrix_place self from }
+    {
+        match self {
+            Direction::Up | Direction::Level => from,
+            Direction::Down => from.saturating_sub(1),
         }
     }
 }

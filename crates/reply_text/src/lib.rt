@@ -9,6 +9,7 @@ mod joined;
 mod order;
 mod reductions;
 mod replies;
+mod sources;
 mod transcripts;
 mod words;
 

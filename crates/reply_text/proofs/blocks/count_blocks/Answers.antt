@@ -1,10 +1,17 @@
-use Rattle.std.proofs.Common.{◌≡◌, ◌∙◌, length, IfOk, subst}
+use Rattle.std.proofs.Common.{◌≡◌, ◌∙◌, length, IfOk, ap, subst}
+use Rattle.std.specs.List.{flat_map}
+use Rattle.reply_text.specs.JoinedMatrices.{block_line}
 use Rattle.reply_text.specs.Parts.{joined_value}
 use Rattle.reply_text.proofs.BlockLines.{lines-capped}
 use Rattle.reply_text.proofs.blocks.count_blocks.Goals as goal
 
 pub returns : goal.returns
-returns c = λ word. subst (λ lines. IfOk c.count_between.result (λ n. n ≡ length lines))
-    (lines-capped word (joined_value c.args.m) c.as_slice.result.now c.as_slice-2.result.now
-    (c.as_slice.ensures.value ∙ c.in_ok-from.ensures) (c.as_slice-2.ensures.value ∙ c.in_ok-to.ensures))
+returns c = λ word.
+    let m = joined_value c.args.m in
+    let to = c.as_slice-3.result.now in
+    subst (λ lines. IfOk c.count_between.result (λ n. n ≡ length lines))
+    (ap (flat_map (λ s. flat_map (λ t. block_line word m s t) to)) c.as_slice-2.ensures.value
+    ∙ c.in_ok-from.ensures word to
+    ∙ lines-capped word m c.as_slice.result.now to
+    (c.as_slice.ensures.value ∙ c.in_ok-all.ensures) (c.as_slice-3.ensures.value ∙ c.in_ok-to.ensures))
     (c.count_between.ensures word)

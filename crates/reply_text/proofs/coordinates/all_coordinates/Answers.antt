@@ -1,17 +1,24 @@
-use Rattle.std.proofs.Common.{◌≡◌, ◌++◌, ◌∷◌, [], get_or, take, rules}
-use Rattle.reply_text.specs.JoinedMatrices.{coordinates_after}
-use Rattle.reply_text.specs.Parts.{capped}
+use Rattle.std.proofs.Common.{◌+◌, get_or, take}
 use Rattle.reply_text.proofs.Counting.{take_at}
 use Rattle.reply_text.proofs.BlockLines.{found-more}
+use Rattle.reply_text.proofs.CoordinateLaws.{sizes-none, sizes-next, next-is}
 use Rattle.reply_text.proofs.coordinates.all_coordinates.Goals as goal
 
-pub loop-i-preserved : goal.loop-i-preserved
-loop-i-preserved c =
+pub loop-cell-init : goal.loop-cell-init
+loop-cell-init c = (c.in_ok-list.ensures.items, sizes-none)
+
+pub loop-cell-preserved : goal.loop-cell-preserved
+loop-cell-preserved c =
     let cells = c.args.cells.now in
-    let i = c.loop-i.i in
+    let i = c.loop-cell.cell-index in
     let cell = get_or cells i (0, 0, 0) in
-    let x = c.coordinates_after.result in
-    let written : c.push.new.self.items ≡ c.loop-i.list.items ++ x ∷ [] = search rules in
-    let is : x ≡ capped (coordinates_after (take i cells) cell) = search rules in
-    found-more cells i cell c.loop-i.list.items c.push.new.self.items x c.loop-i.invariant written is
-    (take_at cells i (0, 0, 0) c.loop-i-test.true)
+    let sizes = c.loop-cell.sizes in
+    let next = take_at cells i (0, 0, 0) c.loop-cell-test.true in
+    let degree = c.next_coordinates-next.ensures.degree in (
+      found-more cells i cell c.loop-cell.list.items c.push.new.self.items c.next_coordinates-next.result
+          c.loop-cell.invariant.0 c.in_ok-push.ensures.items
+          (next-is (take i cells) sizes cell c.next_coordinates-next.result c.loop-cell.invariant.1 degree
+          c.next_coordinates-next.ensures.coordinates) next,
+      sizes-next (take i cells) (take (i + 1) cells) sizes _ cell c.loop-cell.invariant.1
+          c.next_coordinates-next.ensures.sizes next,
+    )
