@@ -22,6 +22,20 @@ pub(crate) const CIRCLE: &str = "field 3\n\
 cell 0 1\ncell 0 1\ncell 0 1\ncell 1 1\ncell 1 1\ncell 1 1\n\
 face 0 3 - 1\nface 1 3 + 1\nface 1 4 - 1\nface 2 4 + 1\nface 0 5 - 1\nface 2 5 + 1\ndone\n";
 
+/// The boundary of a tetrahedron: the vertices 0 to 3; the edges 4 to 9, those of 01, 02, 03, 12, 13 and 23; the
+/// triangles 10 to 13, those of 012, 013, 023 and 123.
+pub(crate) const TETRAHEDRON: &str = "field 5\n\
+cell 0 1\ncell 0 1\ncell 0 1\ncell 0 1\n\
+cell 1 1\ncell 1 1\ncell 1 1\ncell 1 1\ncell 1 1\ncell 1 1\n\
+cell 2 1\ncell 2 1\ncell 2 1\ncell 2 1\n\
+face 0 4 - 1\nface 1 4 + 1\nface 0 5 - 1\nface 2 5 + 1\nface 0 6 - 1\nface 3 6 + 1\n\
+face 1 7 - 1\nface 2 7 + 1\nface 1 8 - 1\nface 3 8 + 1\nface 2 9 - 1\nface 3 9 + 1\n\
+face 4 10 + 1\nface 5 10 - 1\nface 7 10 + 1\nface 4 11 + 1\nface 6 11 - 1\nface 8 11 + 1\n\
+face 5 12 + 1\nface 6 12 - 1\nface 9 12 + 1\nface 7 13 + 1\nface 8 13 - 1\nface 9 13 + 1\ndone\n";
+
+/// A complex without cells.
+pub(crate) const EMPTY: &str = "field 3\ndone\n";
+
 /// The sheaf of a text.
 fn sheaf(rt: &impl Abort, alloc: Global, text: &str) -> Sheaf<Field> {
     let input = read(alloc, text.as_bytes()).ok().expect(rt, "an input");
@@ -50,17 +64,17 @@ fn start(rt: &impl Abort, alloc: Global, sheaf: &Sheaf<Field>) -> Result<Slot<Fi
     Ok(slot)
 }
 
-/// The slot of the start complex of the sheaf of a text, of which at most so many pairs are removed, the first first.
+/// The slot of the start complex of the sheaf of a text, of which so many pairs are removed.
 pub(crate) fn reduced(
     rt: &impl Abort,
     alloc: Global,
     text: &str,
-    most: u32,
+    count: u32,
 ) -> Result<Slot<Field>, NoMemory>
     ensures { IfOk result (λ s. IsCochainComplex (ops_of s.f) (complex_of (complex_in s.base))) }
 {
     let mut slot = start(rt, alloc, &sheaf(rt, alloc, text))?;
-    remove(rt, alloc, &mut slot, most)?;
+    remove(rt, alloc, &mut slot, count)?;
     Ok(slot)
 }
 
@@ -76,13 +90,13 @@ pub(crate) fn maps(alloc: Global, slot: &Slot<Field>) -> Result<Equivalence, NoM
     Ok(equivalence)
 }
 
-/// The maps of at most so many removals from the start complex of the sheaf of a text.
+/// The maps of so many removals from the start complex of the sheaf of a text.
 pub(crate) fn maps_of(
     rt: &impl Abort,
     alloc: Global,
     text: &str,
-    most: u32,
+    count: u32,
 ) -> Result<Equivalence, NoMemory> {
-    let slot = reduced(rt, alloc, text, most)?;
+    let slot = reduced(rt, alloc, text, count)?;
     maps(alloc, &slot)
 }

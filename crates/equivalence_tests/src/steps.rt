@@ -7,14 +7,14 @@ use reduce_step::{Finish, Footprint, Record};
 use std::alloc::{AllocError as NoMemory, Global};
 use std::process::Abort;
 
-/// The footprint of the first pair that may be removed, if there is one.
-fn next_foot(slot: &mut Slot<Field>) -> Result<Option<Footprint>, NoMemory>
+/// The footprint of the first pair that may be removed.
+fn next_foot(rt: &impl Abort, slot: &mut Slot<Field>) -> Result<Footprint, NoMemory>
     ensures field { slot.new.f ≡ slot.old.f }
     ensures base { slot.new.base ≡ slot.old.base }
 {
     match slot.take((0, 0))? {
-        Work::Try(foot) => Ok(Some(foot)),
-        _ => Ok(None),
+        Work::Try(foot) => Ok(foot),
+        _ => panic!(rt; "no footprint to be tried"),
     }
 }
 
@@ -48,29 +48,28 @@ fn commit(rt: &impl Abort, slot: &mut Slot<Field>, record: Record<Field>)
     assert!(rt; slot.commit(record).is_ok());
 }
 
-/// Removes the first pair that may be removed, if there is one.
+/// Removes the first pair that may be removed.
 fn step(rt: &impl Abort, alloc: Global, slot: &mut Slot<Field>) -> Result<(), NoMemory>
     ensures field { slot.new.f ≡ slot.old.f }
     ensures base { slot.new.base ≡ slot.old.base }
 {
-    if let Some(foot) = next_foot(slot)? {
-        let record = finish(rt, alloc, slot.field(), foot)?;
-        commit(rt, slot, record);
-    }
+    let foot = next_foot(rt, slot)?;
+    let record = finish(rt, alloc, slot.field(), foot)?;
+    commit(rt, slot, record);
     Ok(())
 }
 
-/// Removes at most so many pairs.
+/// Removes so many pairs.
 pub(crate) fn remove(
     rt: &impl Abort,
     alloc: Global,
     slot: &mut Slot<Field>,
-    most: u32,
+    count: u32,
 ) -> Result<(), NoMemory>
     ensures field { slot.new.f ≡ slot.old.f }
     ensures base { slot.new.base ≡ slot.old.base }
 {
-    for _pair in 0..most {
+    for _pair in 0..count {
         step(rt, alloc, slot)?;
     }
     Ok(())
