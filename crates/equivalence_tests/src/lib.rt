@@ -2,10 +2,6 @@
 #![tactic(auto)]
 
 #[cfg(test)]
-mod composite_tests;
-#[cfg(test)]
-mod equation_tests;
-#[cfg(test)]
 mod map_tests;
 #[cfg(test)]
 mod samples;
