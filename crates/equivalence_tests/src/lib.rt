@@ -2,6 +2,10 @@
 #![tactic(auto)]
 
 #[cfg(test)]
+mod composite_tests;
+#[cfg(test)]
+mod equation_tests;
+#[cfg(test)]
 mod map_tests;
 #[cfg(test)]
 mod samples;
