@@ -1,5 +1,4 @@
 use Rattle.std.proofs.Common.{ap, ◌∙◌, length}
-use Rattle.std.proofs.lemmas.List.{length-map}
 use Rattle.rising_lists.specs.Rising.{keys, entry, entry_after}
 use Rattle.block_sparse.proofs.fresh.fresh_column.Goals as goal
 

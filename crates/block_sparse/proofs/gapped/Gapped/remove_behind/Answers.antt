@@ -1,4 +1,4 @@
-use Rattle.std.proofs.Common.{◌<◌, ◌+◌, ◌∙◌, ap, length, drop, arith}
+use Rattle.std.proofs.Common.{◌∙◌, ap, length, drop, arith}
 use Rattle.std.specs.List.{remove}
 use Rattle.std.proofs.lemmas.List.{length-drop}
 use Rattle.block_sparse.proofs.GapLaws.{removed-behind}
@@ -8,7 +8,7 @@ pub returns : goal.returns
 returns c =
     let xs = c.self.inside.cells.items in
     let gap = c.self.inside.gap in
-    ap (drop gap) c.remove.ensures.items
+    ap (drop gap) c.remove-cell.ensures.items
     ∙ removed-behind xs gap c.args.at
     (omega (arith, c.requires, ap length c.self.view_is, length-drop gap xs, c.self.invariant))
     ∙ ap (λ live. remove live c.args.at) c.self.view_is

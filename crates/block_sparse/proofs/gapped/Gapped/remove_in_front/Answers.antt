@@ -1,4 +1,4 @@
-use Rattle.std.proofs.Common.{◌<◌, ◌+◌, ◌∙◌, ap, length, drop, arith}
+use Rattle.std.proofs.Common.{◌+◌, ◌∙◌, ap, length, drop, arith}
 use Rattle.std.specs.List.{remove}
 use Rattle.std.proofs.lemmas.List.{length-drop}
 use Rattle.block_sparse.proofs.GapLaws.{removed-in_front}
