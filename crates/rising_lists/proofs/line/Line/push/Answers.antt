@@ -1,10 +1,10 @@
-use Rattle.std.proofs.Common.{◌≡◌, ◌<◌, ℕ, ap, ◌∙◌, sym, subst, cond, eqb, length, get_or, refl, Some, arith, ≤-refl}
-use Rattle.rising_lists.specs.Rising.{look, entry}
+use Rattle.std.proofs.Common.{◌≡◌, ◌<◌, ℕ, ap, ◌∙◌, sym, subst, cond, eqb, length, get_or, Some, List, arith}
+use Rattle.rising_lists.specs.Rising.{entry}
 use Rattle.rising_lists.proofs.MergeLaws.{line-push, look-push, none-behind}
 use Rattle.rising_lists.proofs.line.Line.push.Goals as goal
 
-pub invariant_of-self-in_ok-push-2 : goal.invariant_of-self-in_ok-push-2
-invariant_of-self-in_ok-push-2 g c =
+pub invariant_of-self-2 : goal.invariant_of-self-2
+invariant_of-self-2 g c =
     let ks = c.self.inside.cells.items in
     let vs = c.self.inside.values.items in
     let behind : (i : ℕ) → i < length ks → get_or ks i 0 < c.args.c =
@@ -13,8 +13,8 @@ invariant_of-self-in_ok-push-2 g c =
     rw (c.in_ok-push-2.ensures.items, c.in_ok-push.ensures.items, c.in_ok-reserve.ensures.items)
     (line-push ks vs c.args.c c.args.value c.self.invariant (none-behind ks vs c.args.c behind))
 
-pub returns-in_ok-push-2-clause-entries : goal.returns-in_ok-push-2-clause-entries
-returns-in_ok-push-2-clause-entries g c = λ q.
+pub returns-clause-entries : goal.returns-clause-entries
+returns-clause-entries g c = λ q.
     let ks = c.self.inside.cells.items in
     let vs = c.self.inside.values.items in
     let behind : (i : ℕ) → i < length ks → get_or ks i 0 < c.args.c =
