@@ -90,13 +90,13 @@ impl Row {
 
     /// Puts a block of one entry at a cell behind all others: one step, but where a list has to grow. Fails only where
     /// memory does, and then nothing has changed.
-    pub fn push_entry(&mut self, c: u32, entry: u8) -> Result<(), NoMemory>
+    pub fn push_entry(&mut self, c: u32, value: u8) -> Result<(), NoMemory>
         requires { (i : ℕ) → i < length self.old.cells → slice_index self.old.cells i < c }
         ensures entries { OnOk result ((q : ℕ)
-            → entry self.new q ≡ (if q == c then Some (scalar_block entry) else entry self.old q)) }
+            → entry self.new q ≡ (if q == c then Some (scalar_block value) else entry self.old q)) }
         ensures err { OnErr result (self.new ≡ self.old) }
     {
-        self.entries.push(c, entry)?;
+        self.entries.push(c, value)?;
         self.larger.remove(c);
         Ok(())
     }

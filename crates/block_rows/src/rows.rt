@@ -115,18 +115,18 @@ impl Rows {
     }
 
     /// Puts a block of one entry into the row of a cell, at a cell behind all others of it: as [`Row::push_entry`] does.
-    pub fn push_entry(&mut self, c: u32, q: u32, entry: u8) -> Result<(), NoMemory>
+    pub fn push_entry(&mut self, c: u32, q: u32, value: u8) -> Result<(), NoMemory>
         requires row { has c self.old.cells ≡ true }
         requires behind { (i : ℕ) → i < length (line_of self.old c).cells
             → slice_index (line_of self.old c).cells i < q }
         ensures cells { OnOk result (self.new.cells ≡ self.old.cells) }
         ensures entries { OnOk result ((k p : ℕ) → entry_of self.new k p ≡
-            (if k == c && p == q then Some (scalar_block entry) else entry_of self.old k p)) }
+            (if k == c && p == q then Some (scalar_block value) else entry_of self.old k p)) }
         ensures err { OnErr result (self.new ≡ self.old) }
     {
         let at = place(&self.cells, c).unwrap();
         let row = &mut self.rows[at];
-        row.push_entry(q, entry)?;
+        row.push_entry(q, value)?;
         Ok(())
     }
 

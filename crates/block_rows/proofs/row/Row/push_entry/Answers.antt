@@ -4,8 +4,8 @@ use Rattle.block_rows.specs.BlockRows.{scalar_block}
 use Rattle.block_rows.proofs.RowLaws.{entry-pushed}
 use Rattle.block_rows.proofs.row.Row.push_entry.Goals as goal
 
-pub returns-in_ok-push-clause-entries : goal.returns-in_ok-push-clause-entries
-returns-in_ok-push-clause-entries c = λ q.
-    entry-pushed c.self.inside.entries c.push.new.self c.self.inside.larger c.remove.new.self c.args.c c.args.entry q
+pub returns-clause-entries : goal.returns-clause-entries
+returns-clause-entries c = λ q.
+    entry-pushed c.self.inside.entries c.push.new.self c.self.inside.larger c.remove.new.self c.args.c c.args.value q
     (c.in_ok-push.ensures.entries q) (c.remove.ensures q)
-    ∙ ap (λ r. cond (eqb q c.args.c) (Some (scalar_block c.args.entry)) (entry r q)) c.self.view_is
+    ∙ ap (λ r. cond (eqb q c.args.c) (Some (scalar_block c.args.value)) (entry r q)) c.self.view_is
