@@ -24,8 +24,8 @@ push_entry-requires-clause-behind c =
     subst (λ (v : StoredBlocks). (i : ℕ) → i < length (line_of v.rows c.args.t).cells
     → get_or (line_of v.rows c.args.t).cells i 0 < c.args.s) (sym c.self.view_is) c.requires.last.behind
 
-pub invariant_of-self-in_ok-push_entry : goal.invariant_of-self-in_ok-push_entry
-invariant_of-self-in_ok-push_entry c =
+pub invariant_of-self-2 : goal.invariant_of-self-2
+invariant_of-self-2 c =
     let s : ℕ = c.args.s in
     let t : ℕ = c.args.t in
     let e : ℕ = c.args.entry in
@@ -52,8 +52,8 @@ invariant_of-self-in_ok-push_entry c =
     (sized-one live t 1 fits.between.to (sym fits.rows ∙ c.requires.last.one_row))
     (degrees-one live s t fits.between.degrees) c.in_ok-push_entry.ensures.cells c.put_line.ensures.cells
 
-pub returns-in_ok-push_entry-clause-blocks : goal.returns-in_ok-push_entry-clause-blocks
-returns-in_ok-push_entry-clause-blocks c = λ p q.
+pub returns-clause-blocks : goal.returns-clause-blocks
+returns-clause-blocks c = λ p q.
     let s : ℕ = c.args.s in
     let t : ℕ = c.args.t in
     let e : ℕ = c.args.entry in
@@ -73,8 +73,9 @@ returns-in_ok-push_entry-clause-blocks c = λ p q.
     entry-done s t e rows rows' columns columns' c.requires.last.nonzero c.in_ok-push_entry.ensures.entries
     (column-put s t columns columns' c.line.result.now c.in_ok-column.column mark has_column c.put_line.ensures.lines
     c.line.ensures c.in_ok-column.ensures) in
+    let before : StoredBlocks = record { live = live; rows = rows; columns = columns } in
     block_at-done A left below live rows rows' columns columns' done p q
-    ∙ at_pair s t p q (as_block (part left below A p q)) (as_block (matrix_of b)) (block_at c.self.inside p q)
+    ∙ at_pair s t p q (as_block (part left below A p q)) (as_block (matrix_of b)) (block_at before p q)
     (λ i j. ap (λ x. as_block (part left below A x q)) i ∙ ap (λ y. as_block (part left below A s y)) j
     ∙ ap as_block (part-whole s t 1 1 A (refl, tt) ∙ sym c.requires.last.matrix))
     ∙ ap (λ v. cond (eqb p s && eqb q t) (as_block (matrix_of b)) (block_at v p q)) c.self.view_is
