@@ -1,4 +1,4 @@
-use Rattle.std.proofs.Common.{◌≡◌, ◌<◌, ◌≤◌, ◌-◌, ℕ, length, get_or, arith, ltb-true}
+use Rattle.std.proofs.Common.{◌-◌, length, get_or, arith, ltb-true}
 use Rattle.rising_lists.proofs.Keyed.{rising_le}
 use Rattle.block_sparse.proofs.blocks.is_behind.Goals as goal
 

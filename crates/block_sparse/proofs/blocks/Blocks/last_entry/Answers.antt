@@ -1,9 +1,5 @@
-use Rattle.std.proofs.Common.{◌≡◌, ◌<◌, ℕ, ap, ◌∙◌, sym, subst, length, get_or, arith}
-use Rattle.dense_blocks.specs.Blocks.{matrix_of}
-use Rattle.dense_blocks.proofs.Cutting.{Sized}
-use Rattle.rising_lists.specs.Rising.{IsRising, line_of}
-use Rattle.block_sparse.proofs.EntryLaws.{one-entry}
-use Rattle.block_sparse.proofs.Windows.{sized-cut}
+use Rattle.std.proofs.Common.{sym, subst}
+use Rattle.rising_lists.specs.Rising.{IsRising}
 use Rattle.block_sparse.proofs.blocks.Blocks.last_entry.Goals as goal
 
 pub line-requires : goal.line-requires

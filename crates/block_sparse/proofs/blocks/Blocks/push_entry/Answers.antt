@@ -1,12 +1,11 @@
-use Rattle.std.proofs.Common.{◌≡◌, ◌<◌, ◌+◌, ℕ, List, [], ◌∷◌, length, get_or, ap, ◌∙◌, sym, subst, cond, eqb, ◌&&◌, Some, true}
+use Rattle.std.proofs.Common.{◌≡◌, ◌<◌, ℕ, List, [], ◌∷◌, length, get_or, ap, ◌∙◌, sym, subst, cond, eqb, ◌&&◌, true}
 use Rattle.std.proofs.Common.{false, refl}
 use Rattle.dense_blocks.specs.Blocks.{matrix_of}
 use Rattle.rising_lists.specs.Rising.{has, line_of}
-use Rattle.block_complexes.specs.BlockComplexes.{cells, degree_of, size_of}
+use Rattle.block_complexes.specs.BlockComplexes.{cells}
 use Rattle.open_columns.specs.declared.mark.Mark.{Mark}
 use Rattle.block_sparse.specs.StoredBlocks.{StoredBlocks, FitsPair, block_at}
 use Rattle.block_sparse.specs.Grids.{part, as_block}
-use Rattle.block_sparse.specs.Invariants.{IsSound}
 use Rattle.block_sparse.proofs.GridLaws.{IsDone, at_pair, block_at-done, sound-done, part-whole}
 use Rattle.block_sparse.proofs.EntryLaws.{column-put, entry-done, sized-one, degrees-one}
 use Rattle.block_sparse.proofs.blocks.Blocks.push_entry.Goals as goal
