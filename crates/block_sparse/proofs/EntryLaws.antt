@@ -4,7 +4,6 @@ use Rattle.std.proofs.Common.{◌∙◌, subst, arith, ◌⊎◌, inl, inr, List
 use Rattle.std.specs.Option.{unwrap_or}
 use Rattle.std.proofs.lemmas.Bool.{eq-eqb, ne_eqb, cases_eq}
 use Rattle.dense_blocks.specs.declared.block.Block.{Block}
-use Rattle.dense_blocks.proofs.Cutting.{Sized}
 use Rattle.block_rows.specs.BlockRows.{scalar_block}
 use Rattle.rising_lists.specs.Rising.{ByCell, has, keys, entry, entry_of, line_of, entry_after}
 use Rattle.open_columns.specs.declared.mark.Mark.{Mark}
@@ -13,14 +12,6 @@ use Rattle.block_sparse.specs.StoredBlocks.{is_zero}
 use Rattle.block_sparse.specs.Grids.{part, IsPart, AreSized}
 use Rattle.block_sparse.specs.Fresh.{mark_of}
 use Rattle.block_sparse.proofs.GridLaws.{IsDone, part-whole}
-
--- a matrix of one entry
-pub one-entry : (A : List (List ℕ)) (e : ℕ) → Sized 1 1 A → e ≡ get_or (get_or A 0 []) 0 0 → A ≡ (e ∷ []) ∷ []
-one-entry [] e sized is = absurd sized
-one-entry ([] ∷ A) e sized is = absurd (omega (arith, sized.0))
-one-entry ((x ∷ []) ∷ []) e sized is = ap (λ y. (y ∷ []) ∷ []) (sym is)
-one-entry ((x ∷ []) ∷ (r ∷ A)) e sized is = absurd sized.1
-one-entry ((x ∷ (y ∷ ys)) ∷ A) e sized is = absurd (omega (arith, sized.0))
 
 abbrev entry_after_test : Bool → Option Mark → Option Mark → Option Mark
 entry_after_test b fresh had = unwrap_or (cond b (Some fresh) None) had
@@ -47,7 +38,8 @@ column-put s t columns columns' old column mark inside put same is k p = go (cas
         ∙ ap (λ l. entry l p) (same ∙ ap (line_of columns) (sym e))
         ∙ sym (ap₂ (λ a b. cond (a && b) (Some mark) (entry_of columns k p)) (eq-eqb k s e) (ne_eqb p t f))
     go (inr n) f =
-        ap (λ l. entry l p) (put k ∙ ap (λ a. cond (a && has s columns.cells) column (line_of columns k)) (ne_eqb k s n))
+        ap (λ l. entry l p) (put k ∙ ap (λ a. cond (a && has s columns.cells) column (line_of columns k))
+        (ne_eqb k s n))
         ∙ sym (ap (λ a. cond (a && eqb p t) (Some mark) (entry_of columns k p)) (ne_eqb k s n))
 
 -- elsewhere than at one pair of cells
@@ -73,9 +65,9 @@ open_mark = record { flagged = false; square = true }
 -- rows and columns after a block of one entry has come in
 module _ (s t e : ℕ) (rows rows' : ByCell (ByCell Block)) (columns columns' : ByCell (ByCell Mark)) (not_zero : e ≢ 0)
     (put_rows : (k p : ℕ) → entry_of rows' k p
-        ≡ cond (eqb k t && eqb p s) (Some (scalar_block e)) (entry_of rows k p))
+    ≡ cond (eqb k t && eqb p s) (Some (scalar_block e)) (entry_of rows k p))
     (put_columns : (k p : ℕ) → entry_of columns' k p
-        ≡ cond (eqb k s && eqb p t) (Some (record { flagged = false; square = true })) (entry_of columns k p)) where
+    ≡ cond (eqb k s && eqb p t) (Some (record { flagged = false; square = true })) (entry_of columns k p)) where
   abbrev matrix : List (List ℕ)
   matrix = (e ∷ []) ∷ []
 
@@ -120,7 +112,8 @@ module _ (s t e : ℕ) (rows rows' : ByCell (ByCell Block)) (columns columns' : 
   entry-done = record {
     row_in = row_in;
     row_out = λ p q n. put_rows q p
-        ∙ elsewhere t s q p (Some (scalar_block e)) (entry_of rows q p) (exchanged (eqb s p || false) (eqb t q || false) n);
+        ∙ elsewhere t s q p (Some (scalar_block e)) (entry_of rows q p) (exchanged (eqb s p || false)
+        (eqb t q || false) n);
     column_in = column_in;
     column_out = λ p q n. put_columns p q ∙ elsewhere s t p q (Some open_mark) (entry_of columns p q) n;
   }

@@ -353,7 +353,10 @@ impl Blocks {
             flagged: false,
             square: true,
         };
-        let column = self.columns.line(s).with_copied(alloc, &[(t, 1)], &[Some(mark)])?;
+        let column = self
+            .columns
+            .line(s)
+            .with_copied(alloc, &[(t, 1)], &[Some(mark)])?;
         self.rows.push_entry(t, s, entry)?;
         self.columns.put_line(s, column);
         Ok(())

@@ -1,4 +1,4 @@
-use Rattle.std.proofs.Common.{ap, ◌∙◌, sym, eqb, cond, Some}
+use Rattle.std.proofs.Common.{ap, ◌∙◌, eqb, cond, Some}
 use Rattle.rising_lists.specs.Rising.{entry}
 use Rattle.block_rows.specs.BlockRows.{scalar_block}
 use Rattle.block_rows.proofs.RowLaws.{entry-pushed}

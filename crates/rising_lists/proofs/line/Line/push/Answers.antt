@@ -1,4 +1,4 @@
-use Rattle.std.proofs.Common.{◌≡◌, ◌<◌, ℕ, ap, ◌∙◌, sym, subst, cond, eqb, length, get_or, Some, List, arith}
+use Rattle.std.proofs.Common.{◌<◌, ℕ, ap, ◌∙◌, sym, subst, cond, eqb, length, get_or, Some, List, arith}
 use Rattle.rising_lists.specs.Rising.{entry}
 use Rattle.rising_lists.proofs.MergeLaws.{line-push, look-push, none-behind}
 use Rattle.rising_lists.proofs.line.Line.push.Goals as goal
