@@ -71,6 +71,22 @@ entry-without E E' L L' there q e l =
     go false e l =
         ap (λ o. option_map (λ n. unwrap_or o (scalar_block n)) (entry E' q)) l ∙ ap (option_map (block_or L q)) e
 
+-- a row with one more block of one entry
+pub entry-pushed : (E E' : ByCell ℕ) (L L' : ByCell Block) (c e q : ℕ)
+    → entry E' q ≡ cond (eqb q c) (Some e) (entry E q) → entry L' q ≡ cond (eqb q c) None (entry L q)
+    → entry (row_of E' L') q ≡ cond (eqb q c) (Some (scalar_block e)) (entry (row_of E L) q)
+entry-pushed E E' L L' c e q put taken =
+    entry-row E' L' q ∙ go (eqb q c) put taken
+    ∙ sym (ap (cond (eqb q c) (Some (scalar_block e))) (entry-row E L q))
+  where
+    go : (b : Bool) → entry E' q ≡ cond b (Some e) (entry E q) → entry L' q ≡ cond b None (entry L q)
+        → option_map (block_or L' q) (entry E' q)
+        ≡ cond b (Some (scalar_block e)) (option_map (block_or L q) (entry E q))
+    go true put taken =
+        ap (λ o. option_map (λ n. unwrap_or o (scalar_block n)) (entry E' q)) taken ∙ ap (option_map scalar_block) put
+    go false put taken =
+        ap (λ o. option_map (λ n. unwrap_or o (scalar_block n)) (entry E' q)) taken ∙ ap (option_map (block_or L q)) put
+
 -- a row with fresh entries
 pub entry-entries : (E E' : ByCell ℕ) (L L' : ByCell Block) (ks : List ℕ) (es : List (Option ℕ)) (q : ℕ)
     → length es ≡ length ks

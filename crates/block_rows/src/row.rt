@@ -1,6 +1,6 @@
 ghost use Rattle.std.specs.Prelude.{◌≡◌, ◌==◌, ◌<◌, ℕ, [], None, Some, if◌then◌else◌, length, map, replicate};
 ghost use Rattle.std.specs.Prelude.{slice_index};
-ghost use Rattle.std.specs.Prelude.{option_copied, option_map, IfOk, IfSome};
+ghost use Rattle.std.specs.Prelude.{option_copied, option_map, OnOk, OnErr, IfOk, IfSome};
 ghost use Rattle.rising_lists.specs.Rising.{IsRising, IsLine, has, keys, entry, entry_after};
 ghost use Rattle.block_rows.specs.BlockRows.{block_or, scalar_block};
 
@@ -86,6 +86,19 @@ impl Row {
     {
         self.entries.remove(c);
         self.larger.remove(c);
+    }
+
+    /// Puts a block of one entry at a cell behind all others: one step, but where a list has to grow. Fails only where
+    /// memory does, and then nothing has changed.
+    pub fn push_entry(&mut self, c: u32, value: u8) -> Result<(), NoMemory>
+        requires { (i : ℕ) → i < length self.old.cells → slice_index self.old.cells i < c }
+        ensures entries { OnOk result ((q : ℕ)
+            → entry self.new q ≡ (if q == c then Some (scalar_block value) else entry self.old q)) }
+        ensures err { OnErr result (self.new ≡ self.old) }
+    {
+        self.entries.push(c, value)?;
+        self.larger.remove(c);
+        Ok(())
     }
 
     /// Equal blocks by cell.

@@ -1,6 +1,7 @@
 ghost use Rattle.std.specs.Prelude.{◌≡◌, ◌==◌, ◌&&◌, ℕ, true, [], None, if◌then◌else◌, length, is_some};
-ghost use Rattle.std.specs.Prelude.{option_copied, unwrap_or, IfOk};
+ghost use Rattle.std.specs.Prelude.{◌<◌, Some, slice_index, option_copied, unwrap_or, OnOk, OnErr, IfOk};
 ghost use Rattle.rising_lists.specs.Rising.{IsRising, has, keys, look, line_of, entry_of};
+ghost use Rattle.block_rows.specs.BlockRows.{scalar_block};
 
 use crate::row::Row;
 use crate::scalar_blocks::ScalarBlocks;
@@ -111,6 +112,22 @@ impl Rows {
             let row = &mut self.rows[at];
             row.remove(q);
         }
+    }
+
+    /// Puts a block of one entry into the row of a cell, at a cell behind all others of it: as [`Row::push_entry`] does.
+    pub fn push_entry(&mut self, c: u32, q: u32, value: u8) -> Result<(), NoMemory>
+        requires row { has c self.old.cells ≡ true }
+        requires behind { (i : ℕ) → i < length (line_of self.old c).cells
+            → slice_index (line_of self.old c).cells i < q }
+        ensures cells { OnOk result (self.new.cells ≡ self.old.cells) }
+        ensures entries { OnOk result ((k p : ℕ) → entry_of self.new k p ≡
+            (if k == c && p == q then Some (scalar_block value) else entry_of self.old k p)) }
+        ensures err { OnErr result (self.new ≡ self.old) }
+    {
+        let at = place(&self.cells, c).unwrap();
+        let row = &mut self.rows[at];
+        row.push_entry(q, value)?;
+        Ok(())
     }
 
     /// Takes a cell out of the rows of the listed cells.

@@ -8,3 +8,4 @@ pub mod ScalarBlocks
 pub mod StoredLaws
 pub mod SizeLaws
 pub mod GapLaws
+pub mod EntryLaws

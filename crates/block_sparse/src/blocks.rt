@@ -1,6 +1,6 @@
 ghost use Rattle.std.specs.Prelude.{◌≡◌, ◌==◌, ◌||◌, ◌&&◌, ◌↔◌, ◌+◌, ◌<◌, ◌≤◌, ℕ};
 ghost use Rattle.std.specs.Prelude.{true, false, None, if◌then◌else◌, not, filter, is_some, All, MatchOption, IfOk};
-ghost use Rattle.std.specs.Prelude.{IfErr, OnOk, OnErr, IsTrue};
+ghost use Rattle.std.specs.Prelude.{IfErr, IfSome, OnOk, OnErr, IsTrue, length, slice_index};
 ghost use Rattle.rising_lists.specs.Rising.{IsRising, has, keys, entry_of, line_of};
 ghost use Rattle.dense_blocks.specs.Blocks.{matrix_of};
 ghost use Rattle.block_complexes.specs.BlockComplexes.{cells, degree_of, size_of, live_size};
@@ -8,13 +8,14 @@ ghost use Rattle.block_sparse.specs.StoredBlocks.{FitsPair, IsBetween, StandsAt,
 ghost use Rattle.block_sparse.specs.Grids.{width, part, as_block, AreSized};
 ghost use Rattle.open_columns.specs.Open.{FirstFrom, FirstPair};
 ghost use Rattle.block_sparse.specs.Candidates.{is_candidate};
-ghost use Rattle.block_sparse.specs.Lists.{with_block, with_blocks};
+ghost use Rattle.block_sparse.specs.Lists.{IsLastEntry, with_block, with_blocks};
 
 use crate::fresh::{fresh_columns, fresh_rows};
 use crate::live_cells::{LiveCells, cell_in, cells_of};
+use crate::parts::scalar_at;
 use block_rows::{Row, Rows, ScalarBlocks};
 use dense_blocks::Block;
-use open_columns::Columns;
+use open_columns::{Columns, Mark};
 use std::alloc::{AllocError as NoMemory, Global};
 use std::marker::Model;
 
@@ -302,9 +303,62 @@ impl Blocks {
             → block_at self.new p q ≡ with_block (block_at self.old) s t (matrix_of b.now) p q) }
         ensures err { OnErr result (self.new ≡ self.old) }
     {
+        match self.last_entry(s, t, b) {
+            Some(entry) => self.push_entry(s, t, entry, b),
+            None => self.place_part(s, t, b),
+        }
+    }
+
+    /// The same for any block.
+    fn place_part(&mut self, s: u32, t: u32, b: &Block) -> Result<(), NoMemory>
+        requires { FitsPair self.old.live s t b.now }
+        ensures live { OnOk result (self.new.live ≡ self.old.live) }
+        ensures blocks { OnOk result ((p q : ℕ)
+            → block_at self.new p q ≡ with_block (block_at self.old) s t (matrix_of b.now) p q) }
+        ensures err { OnErr result (self.new ≡ self.old) }
+    {
         let from = self.cell_and_size(s).1;
         let to = self.cell_and_size(t).1;
         self.set_grid(&[(s, from)], &[(t, to)], b)?;
+        Ok(())
+    }
+
+    /// The entry of a block that has no other, where it is not 0 and the block goes behind all others of its row.
+    fn last_entry(&self, s: u32, t: u32, b: &Block) -> Option<u8>
+        requires { FitsPair self.now.live s t b.now }
+        ensures { IfSome result (IsLastEntry (line_of self.now.rows t).cells s b.now) }
+    {
+        if b.rows != 1 || b.cols != 1 {
+            return None;
+        }
+        let entry = scalar_at(b, 0, 0);
+        if entry != 0 && is_behind(self.line(t).cells(), s) {
+            Some(entry)
+        } else {
+            None
+        }
+    }
+
+    /// What [`Blocks::set`] does, where the block goes behind all others of its row: no row is made anew.
+    fn push_entry(&mut self, s: u32, t: u32, entry: u8, b: &Block) -> Result<(), NoMemory>
+        requires fits { FitsPair self.old.live s t b.now }
+        requires last { IsLastEntry (line_of self.old.rows t).cells s b.now entry }
+        ensures live { OnOk result (self.new.live ≡ self.old.live) }
+        ensures blocks { OnOk result ((p q : ℕ)
+            → block_at self.new p q ≡ with_block (block_at self.old) s t (matrix_of b.now) p q) }
+        ensures err { OnErr result (self.new ≡ self.old) }
+    {
+        let alloc = self.live.allocator();
+        let mark = Mark {
+            flagged: false,
+            square: true,
+        };
+        let column = self
+            .columns
+            .line(s)
+            .with_copied(alloc, &[(t, 1)], &[Some(mark)])?;
+        self.rows.push_entry(t, s, entry)?;
+        self.columns.put_line(s, column);
         Ok(())
     }
 
@@ -335,6 +389,17 @@ fn clear(rows: &mut Rows, columns: &mut Columns, c: u32)
     rows.remove_all(columns.cells(c), c);
     rows.clear(c);
     columns.clear(c);
+}
+
+/// Whether a cell is behind all of a rising list.
+fn is_behind(cells: &[u32], c: u32) -> bool
+    requires { IsRising cells.now }
+    ensures { IsTrue result → ((i : ℕ) → i < length cells.now → slice_index cells.now i < c) }
+{
+    if cells.is_empty() {
+        return true;
+    }
+    cells[cells.len() - 1] < c
 }
 
 /// Whether the cells rise.

@@ -114,7 +114,7 @@ impl Columns {
     }
 
     /// Puts another column at a cell; does nothing where it has none.
-    fn put_line(&mut self, x: u32, column: Line<Mark>)
+    pub fn put_line(&mut self, x: u32, column: Line<Mark>)
         ensures cells { self.new.cells ≡ self.old.cells }
         ensures lines { (k : ℕ) → line_of self.new k ≡
             (if k == x && has x self.old.cells then column else line_of self.old k) }

@@ -140,6 +140,11 @@ line-push ks vs c v line later = record {
   full = length-append vs (v ∷ []) ∙ ap (λ n. n + 1) line.full ∙ sym (length-append ks (c ∷ []));
 }
 
+-- nothing stands from a cell on that is behind all others
+pub none-behind : {A : Type 0} (ks : List ℕ) (vs : List A) (c : ℕ) → ((p : ℕ) → p < length ks → get_or ks p 0 < c)
+    → (q : ℕ) → c ≤ q → look q ks vs ≡ None
+none-behind ks vs c behind q l = look-absent q ks vs (has-absent q ks (λ i m e. absurd (omega (arith, behind i m))))
+
 -- what was merged so far: all below some cell, of the old list the first i cells, of the listed ones the first j
 pub record Merged {A : Type 0} (old : List ℕ) (vs : List A) (listed : List ℕ) (fresh rest : List (Option A)) (i j : ℕ)
     (done : List ℕ) (values : List A) : Type 0 where

@@ -1,5 +1,5 @@
 ghost use Rattle.std.specs.Prelude.{◌≡◌, ◌==◌, ◌<◌, ◌≤◌, ℕ, [], None, Some, if◌then◌else◌, length, replicate};
-ghost use Rattle.std.specs.Prelude.{slice_index, option_copied, option_map, OnOk, IfOk};
+ghost use Rattle.std.specs.Prelude.{slice_index, option_copied, option_map, OnOk, OnErr, IfOk};
 ghost use Rattle.rising_lists.specs.Rising.{IsRising, IsLine, has, keys, look, entry, entry_after};
 
 use crate::duplicate::Duplicate;
@@ -103,6 +103,22 @@ impl<T: Drop> Line<T> {
             self.cells.remove(at);
             let _value = self.values.remove(at);
         }
+    }
+}
+
+impl<T: Drop> Line<T> {
+    /// Puts a value at a cell behind all others: one step, but where a list has to grow. Fails only where memory does, and
+    /// then nothing has changed.
+    pub fn push(&mut self, c: u32, value: T) -> Result<(), NoMemory>
+        requires { (i : ℕ) → i < length self.old.cells → slice_index self.old.cells i < c }
+        ensures entries { OnOk result ((q : ℕ)
+            → entry self.new q ≡ (if q == c then Some value else entry self.old q)) }
+        ensures err { OnErr result (self.new ≡ self.old) }
+    {
+        self.cells.reserve(1)?;
+        self.values.push(value)?;
+        self.cells.push(c)?;
+        Ok(())
     }
 }
 

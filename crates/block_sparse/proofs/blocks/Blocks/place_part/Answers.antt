@@ -5,7 +5,7 @@ use Rattle.block_sparse.specs.StoredBlocks.{block_at}
 use Rattle.block_sparse.specs.Grids.{part, as_block}
 use Rattle.block_sparse.proofs.GridLaws.{at_pair, part-whole}
 use Rattle.block_sparse.proofs.Windows.{sized-cut}
-use Rattle.block_sparse.proofs.blocks.Blocks.place.Goals as goal
+use Rattle.block_sparse.proofs.blocks.Blocks.place_part.Goals as goal
 
 pub returns-clause-blocks : goal.returns-clause-blocks
 returns-clause-blocks c = λ p q.
