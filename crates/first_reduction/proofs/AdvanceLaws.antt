@@ -1,15 +1,17 @@
 -- One pair more: what a commit and a flag make of a slot, at the first pair to be tried.
 use Rattle.std.proofs.Common.{◌≡◌, ℕ, List, [], ◌∷◌, ◌++◌, Result}
-use Rattle.std.proofs.Common.{Ok, Err, sym, ap, ap₂, ◌∙◌, subst, append-nil}
-use Rattle.std.proofs.Common.{append_assoc, Option, None, inl, inr, true}
-use Rattle.std.specs.Prelude.{OnOk, IfOk, MatchOption}
+use Rattle.std.proofs.Common.{Ok, Err, refl, sym, ap, ap₂, ◌∙◌, subst, append-nil}
+use Rattle.std.proofs.Common.{append_assoc, Option, Some, None, inl, inr, true}
+use Rattle.std.specs.Prelude.{OnOk, MatchOption, ◌==◌, is_some}
+use Rattle.std.proofs.lemmas.Bool.{eqb-true, and_parts}
 use Rattle.std.proofs.lemmas.List.{map-append}
 use Rattle.dense_blocks.specs.Field.{Ops}
 use Rattle.dense_blocks.specs.FieldLaws.{IsField}
 use Rattle.dense_blocks.specs.Blocks.{matrix_of}
 use Rattle.dense_blocks.specs.declared.block.Block.{Block}
-use Rattle.block_sparse.specs.StoredBlocks.{StoredBlocks, StandsAt, complex_in}
-use Rattle.block_sparse.specs.Candidates.{is_candidate}
+use Rattle.block_complexes.specs.BlockComplexes.{size_of}
+use Rattle.block_sparse.specs.StoredBlocks.{StoredBlocks, StoredBlock, StandsAt, block_at, complex_in}
+use Rattle.block_sparse.specs.Candidates.{is_candidate, is_unflagged}
 use Rattle.block_sparse.specs.Invariants.{IsSound}
 use Rattle.pair_find.specs.Pairs.{IsFirstFrom, IsNextFrom}
 use Rattle.reduce_step.specs.declared.footprint.Footprint.{Footprint}
@@ -18,9 +20,7 @@ use Rattle.reduce_step.specs.Footprints.{IsFootprint}
 use Rattle.reduce_step.specs.Differences.{Fits}
 use Rattle.reduce_step.specs.Logs.{pairs_of}
 use Rattle.reduce_step.specs.Records.{RecordValue}
-use Rattle.reduce_step.specs.Finishes.{Finishes, IsRecordOf}
-use Rattle.reduce_step.specs.declared.finish.Finish.{Finish}
-use Rattle.reduce_step.specs.declared.finish.Finish.TheVariants.{Made}
+use Rattle.reduce_step.proofs.StandingLaws.{footprint-fits, pivot-stands}
 use Rattle.pair_commit.specs.Slots.{SlotValue, FlagsAreSingular, IsSlot, IsTried}
 use Rattle.pair_commit.specs.Commits.{IsCommitted, IsMarked}
 use Rattle.pair_commit.specs.Takes.{IsTry, Takes}
@@ -33,12 +33,15 @@ use Rattle.first_reduction.proofs.WorkLaws.{removed-less, flagged-less}
 use Rattle.first_reduction.proofs.FirstLaws.{beginning-same}
 use Rattle.first_reduction.proofs.FirstLaws.{beginning-one, beginning-then, beginning-end}
 use Rattle.first_reduction.proofs.FirstLaws.{first-invertible}
-use Rattle.first_reduction.proofs.StandingLaws.{footprint-fits, pivot-stands}
 
 -- what follows from a good answer
 pub weaker : {A E : Type 0} (r : Result A E) (P Q : Type 0) → (P → Q) → OnOk r P → OnOk r Q
 weaker (Ok a) P Q f p = f p
 weaker (Err e) P Q f p = tt
+
+unflagged-some : (o : Option StoredBlock) → is_unflagged o ≡ true → is_some o ≡ true
+unflagged-some None e = cc
+unflagged-some (Some b) e = refl
 
 -- what is to be tried first is the first footprint
 pub try-first : (v : StoredBlocks) (carried : List Kept) (foot : Footprint) → IsTry v carried (0, 0) foot
@@ -58,16 +61,6 @@ pub work-first : (v : StoredBlocks) (carried after : List Kept) (work : Work) (f
 work-first v carried after work foot e takes =
     try-first v carried foot (subst (λ w. Takes v carried (0, 0) w after) e takes).1
 
--- what is known of a record that was made, and of a pivot without an inverse
-pub made-record : {T E : Type 0} (K : Ops) (f : T) (foot : Footprint) (result : Result (Finish T) E) (finish : Finish T)
-    (r : RecordValue T) → IfOk result (Finishes K f foot) → result ≡ Ok finish → finish ≡ Made r → IsRecordOf K f foot r
-made-record K f foot result finish r h e g =
-    subst (Finishes K f foot) g (subst (λ x. IfOk x (Finishes K f foot)) e h)
-
-pub finish-known : {T E : Type 0} (K : Ops) (f : T) (foot : Footprint) (result : Result (Finish T) E)
-    (finish : Finish T) → IfOk result (Finishes K f foot) → result ≡ Ok finish → Finishes K f foot finish
-finish-known K f foot result finish h e = subst (λ x. IfOk x (Finishes K f foot)) e h
-
 pub none-tried : (v w : StoredBlocks) (o : Option Footprint) → o ≡ None
     → MatchOption o (IsTried v) (IsFirstFootprint w) → IsTried v
 none-tried v w o e h = subst (λ x. MatchOption x (IsTried v) (IsFirstFootprint w)) e h
@@ -76,11 +69,21 @@ module _ (K : Ops) (F : IsField K) {T : Type 0} (old : SlotValue T)
     (sound : IsSound old.present.live old.present.rows old.present.columns)
     (slot : IsSlot K old.base old.present old.log old.carried) (foot : Footprint)
     (first : IsFirstFootprint old.present foot) where
+  stands : is_some (block_at old.present foot.x foot.y) ≡ true
+  stands = unflagged-some (block_at old.present foot.x foot.y)
+      (and_parts (is_unflagged (block_at old.present foot.x foot.y))
+      (size_of old.present.live foot.x == size_of old.present.live foot.y) first.0.candidate).0
+
+  square : size_of old.present.live foot.y ≡ size_of old.present.live foot.x
+  square = sym (eqb-true (size_of old.present.live foot.x) (size_of old.present.live foot.y)
+      (and_parts (is_unflagged (block_at old.present foot.x foot.y))
+      (size_of old.present.live foot.x == size_of old.present.live foot.y) first.0.candidate).1)
+
   pub first-fits : Fits old.present foot
-  first-fits = footprint-fits K F old.present sound slot.present_is foot first.0.candidate first.1
+  first-fits = footprint-fits K F old.present sound slot.present_is foot stands square first.1
 
   pub first-stands : StandsAt old.present foot.x foot.y foot.pivot
-  first-stands = pivot-stands K F old.present sound slot.present_is foot first.0.candidate first.1
+  first-stands = pivot-stands K F old.present sound slot.present_is foot stands square first.1
 
   pub committed-advance : (r : RecordValue T) (new : SlotValue T) → r.foot ≡ foot → IsCommitted K old r new
       → IsAdvance K old new

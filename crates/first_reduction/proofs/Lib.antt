@@ -1,4 +1,3 @@
 mod WorkLaws
 pub mod FirstLaws
-mod StandingLaws
 mod AdvanceLaws

@@ -31,7 +31,7 @@ zeros-zero : (n : ℕ) → list_all (λ a. a == 0) (zeros n) ≡ true
 zeros-zero zero = refl
 zeros-zero (suc n) = zeros-zero n
 
-zero_matrix-zero : (m n : ℕ) → is_zero (zero_matrix m n) ≡ true
+pub zero_matrix-zero : (m n : ℕ) → is_zero (zero_matrix m n) ≡ true
 zero_matrix-zero zero n = refl
 zero_matrix-zero (suc m) n = ap₂ (λ a b. a && b) (zeros-zero n) (zero_matrix-zero m n)
 

@@ -12,3 +12,4 @@ pub mod JoinedScalars
 pub mod PairwiseRemoval
 pub mod AppliedLaws
 pub mod LogLaws
+pub mod StandingLaws

@@ -2,8 +2,8 @@ use Rattle.std.proofs.Common.{sym, subst}
 use Rattle.block_sparse.specs.Invariants.{IsSound}
 use Rattle.reduce_step.specs.Differences.{Fits}
 use Rattle.reduce_step.specs.Finishes.{Finishes}
+use Rattle.reduce_step.proofs.FinishLaws.{made-record, finish-known}
 use Rattle.first_reduction.proofs.AdvanceLaws.{weaker, first-fits, committed-advance, marked-advance, singular-stands}
-use Rattle.first_reduction.proofs.AdvanceLaws.{made-record, finish-known}
 use Rattle.first_reduction.proofs.reduction.try_pair.Goals as goal
 
 pub remove-requires-clause-fits : goal.remove-requires-clause-fits

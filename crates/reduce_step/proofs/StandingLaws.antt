@@ -1,6 +1,6 @@
--- The footprint of a candidate fits, and its pivot stands.
+-- The footprint of a square block that stands fits, and its pivot stands.
 use Rattle.std.proofs.Common.{◌≡◌, ℕ, Bool, true, false, ◌&&◌, ◌||◌, List, length, refl, sym, ap, ap₂, ◌∙◌, subst}
-use Rattle.std.proofs.Common.{inl, inr, ◌⊎◌, Option, Some, None, [], ◌∷◌}
+use Rattle.std.proofs.Common.{inl, inr, ◌⊎◌, [], ◌∷◌}
 use Rattle.std.specs.Prelude.{◌==◌, not, is_some}
 use Rattle.std.proofs.lemmas.Bool.{eq-eqb, eqb-true, ne_eqb, and_parts, or_parts}
 use Rattle.dense_blocks.specs.Field.{Ops}
@@ -10,10 +10,9 @@ use Rattle.dense_blocks.proofs.Shapes.{matrix-size}
 use Rattle.dense_blocks.proofs.BlockLaws.{block-size}
 use Rattle.rising_lists.specs.Rising.{has, keys, entry_of}
 use Rattle.block_complexes.specs.BlockComplexes.{AreConsecutive, IsBlockComplex, size_of}
-use Rattle.block_sparse.specs.StoredBlocks.{StoredBlocks, StoredBlock, StandsAt, complex_in, block_at, matrix, is_zero}
+use Rattle.block_sparse.specs.StoredBlocks.{StoredBlocks, StandsAt, complex_in, block_at, matrix, is_zero}
 use Rattle.block_sparse.specs.Grids.{part, AreSized}
 use Rattle.block_sparse.specs.Invariants.{IsSound}
-use Rattle.block_sparse.specs.Candidates.{is_candidate, is_unflagged}
 use Rattle.block_sparse.proofs.ScalarBlocks.{block_at-between, row-between}
 use Rattle.block_sparse.proofs.StoredLaws.{block_complex-full}
 use Rattle.reduce_step.specs.declared.footprint.Footprint.{Footprint}
@@ -25,10 +24,6 @@ use Rattle.reduce_step.proofs.PartLaws.{row-part, column-part}
 use Rattle.reduce_step.proofs.JoinedParts.{listed_size-live}
 use Rattle.reduce_step.proofs.JoinedScalars.{sized-live}
 use Rattle.reduce_step.proofs.DifferenceLaws.{live-too, live-one, copied-at, not_x, not_y}
-
-unflagged-some : (o : Option StoredBlock) → is_unflagged o ≡ true → is_some o ≡ true
-unflagged-some None e = cc
-unflagged-some (Some b) e = refl
 
 no-others : (b c : Bool) → false ≡ (b && not c) → c ≡ false → b ≡ false
 no-others true c e f = let h : false ≡ true = e ∙ ap (λ c. true && not c) f in cc
@@ -43,16 +38,8 @@ and-first true b e f = sym f ∙ e
 and-first false b e f = refl
 
 module _ (K : Ops) (F : IsField K) (v : StoredBlocks) (sound : IsSound v.live v.rows v.columns)
-    (is : IsBlockComplex K (complex_in v)) (foot : Footprint) (candidate : is_candidate v foot.x foot.y ≡ true)
-    (h : IsFootprint v foot.x foot.y foot) where
-  stands : is_some (block_at v foot.x foot.y) ≡ true
-  stands = unflagged-some (block_at v foot.x foot.y)
-      (and_parts (is_unflagged (block_at v foot.x foot.y)) (size_of v.live foot.x == size_of v.live foot.y) candidate).0
-
-  sizes : size_of v.live foot.x ≡ size_of v.live foot.y
-  sizes = eqb-true (size_of v.live foot.x) (size_of v.live foot.y)
-      (and_parts (is_unflagged (block_at v foot.x foot.y)) (size_of v.live foot.x == size_of v.live foot.y) candidate).1
-
+    (is : IsBlockComplex K (complex_in v)) (foot : Footprint) (stands : is_some (block_at v foot.x foot.y) ≡ true)
+    (square : size_of v.live foot.y ≡ size_of v.live foot.x) (h : IsFootprint v foot.x foot.y foot) where
   between : AreConsecutive v.live foot.x foot.y
   between = block_at-between v sound foot.x foot.y stands
 
@@ -62,7 +49,7 @@ module _ (K : Ops) (F : IsField K) (v : StoredBlocks) (sound : IsSound v.live v.
       ((block_complex-full K F v sound is).shape foot.x foot.y)
 
   cols : foot.pivot.cols ≡ size_of v.live foot.x
-  cols = sym foot.parts.square ∙ rows ∙ sym sizes
+  cols = sym foot.parts.square ∙ rows ∙ square
 
   pub pivot-stands : StandsAt v foot.x foot.y foot.pivot
   pivot-stands = record {

@@ -1,0 +1,5 @@
+pub mod Splits
+pub mod Finishes
+pub mod Laws
+pub mod Entries
+pub mod Beginnings
