@@ -28,6 +28,11 @@ IsAnswerTo (Change edit) (Edit c verdict) = Unit {0}
 IsAnswerTo (Question queries.Betti) (Reply c (replies.Betti numbers)) = Unit {0}
 IsAnswerTo (Question queries.Reduce) (Reply c (replies.Reduce r)) = Unit {0}
 IsAnswerTo (Question queries.Equiv) (Reply c (replies.Equiv r m)) = Unit {0}
+IsAnswerTo (Question (queries.Basis k)) (Reply c (replies.Basis l vectors)) = Unit {0}
+IsAnswerTo (Question (queries.Class k z)) (Reply c (replies.NotCocycle l t)) = Unit {0}
+IsAnswerTo (Question (queries.Class k z)) (Reply c (replies.Class l coords vectors primitive)) = Unit {0}
+IsAnswerTo (Question (queries.Class k z)) (Reply c replies.BadLength) = Unit {0}
+IsAnswerTo (Question (queries.Class k z)) (Reply c replies.BadEntry) = Unit {0}
 IsAnswerTo command event = ⊥
 
 -- there is a value, and it meets P

@@ -1,5 +1,5 @@
 -- The lines that answer a command.
-use Rattle.std.specs.Prelude.{ℕ, List, [], ◌∷◌, ◌++◌, map, codes}
+use Rattle.std.specs.Prelude.{ℕ, List, [], ◌∷◌, ◌++◌, map, length, codes}
 use Rattle.std.specs.Fmt.{decimal}
 use Rattle.sheaf_words.specs.declared.query.Command.{Command}
 use Rattle.sheaf_words.specs.declared.query.Command.TheVariants.{Change, Ask}
@@ -10,6 +10,7 @@ use Rattle.sheaf_words.specs.declared.edit.Cause.TheVariants.{Square}
 use Rattle.sheaf_words.specs.declared.edit.Verdict.TheVariants.{Accepted, Refused}
 use Rattle.sheaf_words.specs.declared.event.Event.{Event}
 use Rattle.sheaf_words.specs.declared.event.Event.TheVariants as events
+use Rattle.sheaf_words.specs.declared.reply.Reply.{Reply}
 use Rattle.sheaf_words.specs.declared.reply.Reply.TheVariants as replies
 use Rattle.reply_text.specs.Reductions.{reduced_counts, map_counts, reduced_lines, map_lines}
 
@@ -34,25 +35,52 @@ cause_words (Entry i) = codes "entry" ∷ decimal i ∷ []
 cause_words TotalLimit = codes "total" ∷ []
 cause_words (Square s u) = codes "square" ∷ decimal s ∷ decimal u ∷ []
 
+-- the degree that a command asks about; 0 where it asks about none
+abbrev pub degree_of : Command → ℕ
+degree_of (Ask (queries.Basis k)) = k
+degree_of (Ask (queries.Class k z)) = k
+degree_of command = 0
+
+-- what the first line says of a reply, after the word of the command
+abbrev pub reply_words : Command → Reply → List (List ℕ)
+reply_words command (replies.Betti numbers) = map decimal numbers
+reply_words command (replies.Reduce r) = map decimal (reduced_counts r)
+reply_words command (replies.Equiv r m) = map decimal (reduced_counts r ++ map_counts r m)
+reply_words command (replies.Basis k vectors) = decimal k ∷ decimal (length vectors) ∷ []
+reply_words command (replies.NotCocycle k t) = decimal k ∷ codes "open" ∷ decimal t ∷ []
+reply_words command (replies.Class k coords vectors primitive) =
+    decimal k ∷ codes "closed" ∷ decimal (length coords) ∷ map decimal coords
+reply_words command replies.BadLength = decimal (degree_of command) ∷ codes "refused" ∷ codes "length" ∷ []
+reply_words command replies.BadEntry = decimal (degree_of command) ∷ codes "refused" ∷ codes "entry" ∷ []
+reply_words command r = []
+
 -- what the first line says after the word of the command
-abbrev pub answer_words : Event → List (List ℕ)
-answer_words (events.Edit c Accepted) = codes "accepted" ∷ []
-answer_words (events.Edit c (Refused cause)) = codes "refused" ∷ cause_words cause
-answer_words (events.Reply c (replies.Betti numbers)) = map decimal numbers
-answer_words (events.Reply c (replies.Reduce r)) = map decimal (reduced_counts r)
-answer_words (events.Reply c (replies.Equiv r m)) = map decimal (reduced_counts r ++ map_counts r m)
-answer_words event = []
+abbrev pub answer_words : Command → Event → List (List ℕ)
+answer_words command (events.Edit c Accepted) = codes "accepted" ∷ []
+answer_words command (events.Edit c (Refused cause)) = codes "refused" ∷ cause_words cause
+answer_words command (events.Reply c r) = reply_words command r
+answer_words command event = []
+
+-- a line for each vector of a basis
+abbrev pub vector_lines : List (List ℕ) → List (List (List ℕ))
+vector_lines vectors = map (λ v. codes "vector" ∷ map decimal v) vectors
+
+-- those, and a line for a primitive
+abbrev pub class_lines : List (List ℕ) → List ℕ → List (List (List ℕ))
+class_lines vectors primitive = vector_lines vectors ++ (codes "primitive" ∷ map decimal primitive) ∷ []
 
 -- the lines after the first
 abbrev pub further_lines : Event → List (List (List ℕ))
 further_lines (events.Reply c (replies.Reduce r)) = reduced_lines r
 further_lines (events.Reply c (replies.Equiv r m)) = reduced_lines r ++ map_lines r m
+further_lines (events.Reply c (replies.Basis k vectors)) = vector_lines vectors
+further_lines (events.Reply c (replies.Class k coords vectors primitive)) = class_lines vectors primitive
 further_lines event = []
 
 -- the first line
 abbrev pub first_line : ℕ → ℕ → Command → Event → List (List ℕ)
 first_line number v command event =
-    decimal number ∷ (codes "v" ++ decimal v) ∷ command_word command ∷ answer_words event
+    decimal number ∷ (codes "v" ++ decimal v) ∷ command_word command ∷ answer_words command event
 
 -- the lines that answer the command of this number on version v
 abbrev pub reply_lines : ℕ → ℕ → Command → Event → List (List (List ℕ))

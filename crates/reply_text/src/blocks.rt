@@ -7,7 +7,7 @@ ghost use Rattle.reply_text.specs.Parts.{spaced_words, lines_text, joined_value,
 use crate::coordinates::{Coordinates, all_coordinates};
 use crate::joined::Joined;
 use crate::sources::sources;
-use crate::words::{put_named, put_next};
+use crate::words::{put_entries, put_named, put_next};
 use dense_blocks::Block;
 use std::alloc::{AllocError as NoMemory, Global};
 
@@ -49,16 +49,6 @@ fn is_zero_between(block: &Block, s: Coordinates, t: Coordinates) -> bool
         }
     }
     true
-}
-
-/// Appends a space before each entry, and the entry.
-fn put_entries(out: &mut Vec<u8>, entries: &[u8]) -> Result<(), NoMemory>
-    ensures { OnOk result (out.new.items ≡ out.old.items ++ entries_words entries.now) }
-{
-    for entry in entries {
-        put_next(out, u32::from(*entry))?;
-    }
-    Ok(())
 }
 
 /// Appends all its entries, row after row.

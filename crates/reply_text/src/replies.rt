@@ -2,10 +2,11 @@ ghost use Rattle.std.specs.Prelude.{◌≡◌, ◌∷◌, ◌++◌, [], map, cod
 ghost use Rattle.std.specs.Fmt.{decimal};
 ghost use Rattle.reply_text.specs.Parts.{spaced_words, lines_text};
 ghost use Rattle.reply_text.specs.Reductions.{reduced_counts, map_counts, reduced_lines, map_lines};
-ghost use Rattle.reply_text.specs.Replies.{command_word, cause_words, answer_words, first_line, further_lines};
-ghost use Rattle.reply_text.specs.Replies.{reply_lines};
+ghost use Rattle.reply_text.specs.Replies.{command_word, degree_of, cause_words, reply_words, answer_words};
+ghost use Rattle.reply_text.specs.Replies.{first_line, further_lines, reply_lines};
 ghost use Rattle.reply_text.specs.ClientEvents.{IsAnswerTo};
 
+use crate::classes::{put_basis_size, put_class, put_closed, put_no_cochain, put_open, put_vectors};
 use crate::reductions::{put_map_counts, put_maps, put_reduced, put_reduced_counts};
 use crate::words::{put_all, put_named, put_next, put_number};
 use sheaf_words::{Cause, Command, Event, Maps, Query, Reduced, Reply, Verdict};
@@ -24,6 +25,16 @@ fn command_word(command: &Command) -> &'static [u8]
         Command::Ask(Query::Class { .. }) => b"class",
         Command::Ask(Query::Sections) => b"sections",
         Command::Ask(Query::Extend { .. }) => b"extend",
+    }
+}
+
+/// The degree that a command asks about; 0 where it asks about none.
+fn degree_of(command: &Command) -> u8
+    ensures { result ≡ degree_of command.now }
+{
+    match command {
+        Command::Ask(Query::Basis { k } | Query::Class { k, .. }) => *k,
+        _ => 0,
     }
 }
 
@@ -56,14 +67,24 @@ fn put_refusal(out: &mut Vec<u8>, cause: Cause) -> Result<(), NoMemory>
 }
 
 /// Appends what the first line says of a reply, after the word of the command.
-fn put_reply_words(alloc: Global, out: &mut Vec<u8>, c: u32, r: &Reply) -> Result<(), NoMemory>
-    ensures { OnOk result (out.new.items ≡ out.old.items ++ spaced_words (answer_words (Event.Reply c r.now))) }
+fn put_reply_words(
+    alloc: Global,
+    out: &mut Vec<u8>,
+    command: &Command,
+    r: &Reply,
+) -> Result<(), NoMemory>
+    ensures { OnOk result (out.new.items ≡ out.old.items ++ spaced_words (reply_words command.now r.now)) }
 {
     match r {
         Reply::Betti(numbers) => put_all(out, numbers.as_slice()),
         Reply::Reduce(reduced) => put_reduced_counts(alloc, out, reduced),
         Reply::Equiv(reduced, maps) => put_equiv_counts(alloc, out, reduced, maps),
-        _ => Ok(()),
+        Reply::Basis { k, vectors } => put_basis_size(out, *k, vectors.as_slice().len()),
+        Reply::NotCocycle { k, t } => put_open(out, *k, *t),
+        Reply::Class { k, coords, .. } => put_closed(out, *k, coords.as_slice()),
+        Reply::BadLength => put_no_cochain(out, degree_of(command), b"length"),
+        Reply::BadEntry => put_no_cochain(out, degree_of(command), b"entry"),
+        Reply::Sections(_) | Reply::Section { .. } | Reply::NoSection { .. } => Ok(()),
     }
 }
 
@@ -80,8 +101,13 @@ fn put_equiv_counts(
     put_map_counts(alloc, out, reduced, maps)
 }
 
-fn put_answer(alloc: Global, out: &mut Vec<u8>, event: &Event) -> Result<(), NoMemory>
-    ensures { OnOk result (out.new.items ≡ out.old.items ++ spaced_words (answer_words event.now)) }
+fn put_answer(
+    alloc: Global,
+    out: &mut Vec<u8>,
+    command: &Command,
+    event: &Event,
+) -> Result<(), NoMemory>
+    ensures { OnOk result (out.new.items ≡ out.old.items ++ spaced_words (answer_words command.now event.now)) }
 {
     match event {
         Event::Edit {
@@ -92,7 +118,7 @@ fn put_answer(alloc: Global, out: &mut Vec<u8>, event: &Event) -> Result<(), NoM
             verdict: Verdict::Refused(cause),
             ..
         } => put_refusal(out, *cause),
-        Event::Reply { c, r } => put_reply_words(alloc, out, *c, r),
+        Event::Reply { r, .. } => put_reply_words(alloc, out, command, r),
         _ => Ok(()),
     }
 }
@@ -114,7 +140,7 @@ fn put_first(
     put_number(out, v)?;
     out.push(b' ')?;
     out.extend_from_slice(command_word(command))?;
-    put_answer(alloc, out, event)?;
+    put_answer(alloc, out, command, event)?;
     out.push(b'\n')?;
     Ok(())
 }
@@ -145,6 +171,16 @@ fn put_further(alloc: Global, out: &mut Vec<u8>, event: &Event) -> Result<(), No
             r: Reply::Equiv(reduced, maps),
             ..
         } => put_equiv(alloc, out, reduced, maps),
+        Event::Reply {
+            r: Reply::Basis { vectors, .. },
+            ..
+        } => put_vectors(out, vectors.as_slice()),
+        Event::Reply {
+            r: Reply::Class {
+                vectors, primitive, ..
+            },
+            ..
+        } => put_class(out, vectors.as_slice(), primitive.as_slice()),
         _ => Ok(()),
     }
 }

@@ -1,6 +1,6 @@
 ghost use Rattle.std.specs.Prelude.{◌≡◌, ◌∷◌, ◌++◌, map, OnOk};
 ghost use Rattle.std.specs.Fmt.{decimal};
-ghost use Rattle.reply_text.specs.Parts.{spaced_words};
+ghost use Rattle.reply_text.specs.Parts.{spaced_words, entries_words};
 
 use itoa::Buffer;
 use std::alloc::AllocError as NoMemory;
@@ -36,6 +36,16 @@ pub fn put_all(out: &mut Vec<u8>, numbers: &[u32]) -> Result<(), NoMemory>
 {
     for number in numbers {
         put_next(out, *number)?;
+    }
+    Ok(())
+}
+
+/// Appends a space before each entry, and the entry.
+pub fn put_entries(out: &mut Vec<u8>, entries: &[u8]) -> Result<(), NoMemory>
+    ensures { OnOk result (out.new.items ≡ out.old.items ++ entries_words entries.now) }
+{
+    for entry in entries {
+        put_next(out, u32::from(*entry))?;
     }
     Ok(())
 }

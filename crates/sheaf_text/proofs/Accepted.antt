@@ -1,16 +1,17 @@
 -- What is known of a line that is not refused.
 use Rattle.std.proofs.Common.{◌≡◌, ℕ, Bool, true, false, cond, not, List, drop, length, refl, ap, ◌∙◌, Option, Some}
-use Rattle.std.proofs.Common.{None, Contains, nat_eq}
+use Rattle.std.proofs.Common.{None, Contains, nat_eq, nat_lt, ◌≤◌}
 use Rattle.std.specs.List.{list_any}
-use Rattle.std.proofs.lemmas.Bool.{eqb-true}
+use Rattle.std.proofs.lemmas.Bool.{eqb-true, ltb-false}
 use Rattle.std.proofs.lemmas.Map.Views.{Contains-from_any}
 use Rattle.cell_complex.specs.declared.fault.FaceFault.{FaceFault}
 use Rattle.cell_complex.specs.Verdicts.{face_fault}
 use Rattle.field_table.specs.Table.{orders}
 use Rattle.sheaf_text.specs.Lines.{value, may_stand, count_fits, word, face_in}
-use Rattle.sheaf_text.specs.Grammar.{Known, face_refusal, entries_refusal, kind_refusal, placed_refusal}
+use Rattle.sheaf_text.specs.Grammar.{Known, face_refusal, entries_refusal, degree_refusal, kind_refusal}
+use Rattle.sheaf_text.specs.Grammar.{placed_refusal}
 use Rattle.sheaf_text.specs.Forms.{are_below, are_numerals, is_sign, is_full, field_refusal, incidence_refusal}
-use Rattle.sheaf_text.specs.Forms.{is_query_kind, is_set_kind}
+use Rattle.sheaf_text.specs.Forms.{is_query_kind, is_set_kind, command_refusal, HasDegree}
 use Rattle.sheaf_text.specs.Parts.{TakesFace}
 use Rattle.sheaf_text.specs.State.{known_by, IsAccepted}
 use Rattle.sheaf_text.specs.declared.fault.Refusal.{Refusal}
@@ -75,6 +76,11 @@ face_fits k ws e =
     let d = passes (not (are_below k.input.order (drop 4 ws))) _ _ c.1 in
     record { no_fault = b.0; full = holds _ c.0; below = holds _ d.0 }
 
+-- a question on one degree is refused for the degree, or as any command
+pub degree_fits : (k : Known) (ws : List (List ℕ)) → degree_refusal k ws ≡ None → (value ws 1 ≤ 15)
+    × (command_refusal k ≡ None)
+degree_fits k ws e = let a = passes (nat_lt 15 (value ws 1)) _ _ e in (ltb-false _ _ a.0, a.1)
+
 -- ---- where a line stands
 
 query_stands : (kind : Kind) (s : Stage) → is_query_kind kind ≡ true → may_stand s kind ≡ true → s ≡ stages.InClient
@@ -84,6 +90,10 @@ query_stands kinds.Reduce stages.InClient e h = refl
 query_stands kinds.Reduce s e h = absurd cc
 query_stands kinds.Equiv stages.InClient e h = refl
 query_stands kinds.Equiv s e h = absurd cc
+query_stands kinds.Basis stages.InClient e h = refl
+query_stands kinds.Basis s e h = absurd cc
+query_stands kinds.Class stages.InClient e h = refl
+query_stands kinds.Class s e h = absurd cc
 query_stands kind s e h = absurd cc
 
 edit_stands : (s : Stage) → may_stand s kinds.Edit ≡ true → s ≡ stages.InClient
@@ -115,6 +125,14 @@ face_accepted s ws a =
 pub query_accepted : (s : State) (kind : Kind) (ws : List (List ℕ)) → is_query_kind kind ≡ true
     → IsAccepted s kind ws → s.stage ≡ stages.InClient
 query_accepted s kind ws e a = query_stands kind s.stage e (right (known_by s) kind ws a.accepted).stands
+
+has_degree : (k : Known) (kind : Kind) (ws : List (List ℕ)) → kind_refusal k kind ws ≡ None → HasDegree kind ws
+has_degree k kinds.Basis ws e = (degree_fits k ws e).0
+has_degree k kinds.Class ws e = (degree_fits k ws e).0
+has_degree k kind ws e = tt
+
+pub degree_accepted : (s : State) (kind : Kind) (ws : List (List ℕ)) → IsAccepted s kind ws → HasDegree kind ws
+degree_accepted s kind ws a = has_degree (known_by s) kind ws (right (known_by s) kind ws a.accepted).fits
 
 pub edit_accepted : (s : State) (ws : List (List ℕ)) → IsAccepted s kinds.Edit ws → s.stage ≡ stages.InClient
 edit_accepted s ws a = edit_stands s.stage (right (known_by s) kinds.Edit ws a.accepted).stands

@@ -1,5 +1,5 @@
 -- An input has few clients, few commands and few changes.
-use Rattle.std.proofs.Common.{◌≡◌, ℕ, suc, ◌+◌, ◌≤◌, ◌<◌, Bool, true, false, nat_eq, List, [], ◌∷◌, ◌++◌, length, All}
+use Rattle.std.proofs.Common.{◌≡◌, ℕ, suc, ◌+◌, ◌≤◌, ◌<◌, Bool, true, false, nat_eq, List, [], ◌∷◌, ◌++◌, length, map, drop, All}
 use Rattle.std.proofs.Common.{Result, Ok, Err, Option, Some, None, refl, sym, ap, subst, ◌∙◌, arith}
 use Rattle.std.specs.Prelude.{sum_by, IfOk, ◌==◌, nat_le, if◌then◌else◌}
 use Rattle.std.specs.List.{slice_split}
@@ -11,10 +11,10 @@ use Rattle.std.proofs.lemmas.List.Sums.{sum_by-append, sum_by-cons, count_by-le-
 use Rattle.std.proofs.lemmas.List.Splits.{length-slice_split}
 use Rattle.sheaf_words.specs.declared.query.Command.{Command}
 use Rattle.sheaf_words.specs.declared.query.Command.TheVariants.{Change, Ask}
-use Rattle.sheaf_words.specs.declared.query.Query.TheVariants.{Betti, Reduce, Equiv}
+use Rattle.sheaf_words.specs.declared.query.Query.TheVariants.{Betti, Reduce, Equiv, Basis, Class}
 use Rattle.sheaf_words.specs.declared.edit.Set.{Set}
-use Rattle.sheaf_text.specs.Cut.{words}
-use Rattle.sheaf_text.specs.Lines.{word, is_skipped, kind_of}
+use Rattle.sheaf_text.specs.Cut.{words, value_of}
+use Rattle.sheaf_text.specs.Lines.{word, value, is_skipped, kind_of}
 use Rattle.sheaf_text.specs.Grammar.{InputValue, Known, refusal, kind_refusal, is_ended}
 use Rattle.sheaf_text.specs.Readings.{Reading, Good, RefusedLine, input_value, command_with_set, advance}
 use Rattle.sheaf_text.specs.Readings.{nothing_known, run}
@@ -30,7 +30,7 @@ use Rattle.sheaf_text.specs.declared.fault.TextFault.{TextFault}
 use Rattle.sheaf_text.specs.declared.input.Input.{Input}
 use Rattle.sheaf_text.specs.declared.line.Kind.{Kind}
 use Rattle.sheaf_text.specs.declared.line.Kind.TheVariants as kinds
-use Rattle.sheaf_text.proofs.Accepted.{passes, right}
+use Rattle.sheaf_text.proofs.Accepted.{passes, right, degree_fits}
 use Rattle.sheaf_text.proofs.Steps.{refusal-content, known_after-skipped}
 
 -- ---- a command more, and a change more
@@ -204,6 +204,10 @@ kind_keeps dims k line kinds.Client ws e few =
 kind_keeps dims k line kinds.Betti ws e few = command_keeps dims k line (Ask Betti) tt e few
 kind_keeps dims k line kinds.Reduce ws e few = command_keeps dims k line (Ask Reduce) tt e few
 kind_keeps dims k line kinds.Equiv ws e few = command_keeps dims k line (Ask Equiv) tt e few
+kind_keeps dims k line kinds.Basis ws e few = let fits = degree_fits k ws e in
+    command_keeps dims k line (Ask (Basis (value ws 1))) fits.0 fits.1 few
+kind_keeps dims k line kinds.Class ws e few = let fits = degree_fits k ws e in
+    command_keeps dims k line (Ask (Class (value ws 1) (map value_of (drop 2 ws)))) fits.0 fits.1 few
 kind_keeps dims k line kinds.Edit ws e few =
     command_keeps dims k line (Change (record { sets = [] })) (omega arith) e few
 kind_keeps dims k line kinds.Stalk ws e few =

@@ -21,10 +21,12 @@ with_last-append f (y ∷ []) x = refl
 with_last-append f (y ∷ z ∷ xs) x = ap (λ rest. y ∷ rest) (with_last-append f (z ∷ xs) x)
 
 with_query-advances : (k : Known) (kind : Kind) (ws : List (List ℕ)) → is_query_kind kind ≡ true
-    → with_query k (query_of kind) ≡ advance k (Some kind) ws
+    → with_query k (query_of kind ws) ≡ advance k (Some kind) ws
 with_query-advances k kinds.Betti ws e = refl
 with_query-advances k kinds.Reduce ws e = refl
 with_query-advances k kinds.Equiv ws e = refl
+with_query-advances k kinds.Basis ws e = refl
+with_query-advances k kinds.Class ws e = refl
 with_query-advances k kind ws e = absurd cc
 
 known-with_query : (old : State) (scripts : Scripts) (q : Query) → old.stage ≡ stages.InClient
@@ -40,12 +42,12 @@ known-with_query old scripts q at a =
     ) refl
 
 pub takes_query : (old : State) (scripts : Scripts) (kind : Kind) (ws : List (List ℕ)) → IsSoundState old
-    → is_query_kind kind ≡ true → old.stage ≡ stages.InClient → AddsQuery old.scripts scripts (query_of kind)
+    → is_query_kind kind ≡ true → old.stage ≡ stages.InClient → AddsQuery old.scripts scripts (query_of kind ws)
     → TakesKind old (record { stage = old.stage; parts = old.parts; scripts = scripts }) kind ws
 takes_query old scripts kind ws sound asks at a = record {
   sound = record { parts = sound.parts; stands = sound.stands };
   known =
-      known-with_query old scripts (query_of kind) at a ∙ with_query-advances (known_by old) kind ws asks;
+      known-with_query old scripts (query_of kind ws) at a ∙ with_query-advances (known_by old) kind ws asks;
 }
 
 pub takes_edit : (old : State) (scripts : Scripts) (ws : List (List ℕ)) → IsSoundState old → IsClosed old.parts

@@ -27,8 +27,8 @@ abbrev pub CanBeServed : List ℕ → Query → Type 0
 CanBeServed dims Betti = Unit {0}
 CanBeServed dims Reduce = Unit {0}
 CanBeServed dims Equiv = Unit {0}
-CanBeServed dims (Basis k) = ⊥
-CanBeServed dims (Class k z) = ⊥
+CanBeServed dims (Basis k) = k ≤ 15
+CanBeServed dims (Class k z) = k ≤ 15
 CanBeServed dims Sections = ⊥
 CanBeServed dims (Extend s v) = ⊥
 

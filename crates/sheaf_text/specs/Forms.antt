@@ -1,5 +1,5 @@
 -- Parts of the grammar and of the reading, as the reader's functions and the proofs name them.
-use Rattle.std.specs.Prelude.{◌≡◌, ◌<◌, ◌*◌, ◌+◌, ℕ, Bool, true, false, List, [], ◌∷◌, ◌++◌, drop, length, map, not}
+use Rattle.std.specs.Prelude.{◌≡◌, ◌<◌, ◌≤◌, ◌*◌, ◌+◌, ℕ, Bool, true, false, List, [], ◌∷◌, ◌++◌, drop, length, map, not}
 use Rattle.std.specs.Prelude.{Option, Some, None, is_some, ◌==◌, ◌||◌, nat_le, nat_lt}
 use Rattle.std.specs.Prelude.{slice_index, if◌then◌else◌, codes}
 use Rattle.std.specs.List.{list_all, list_any}
@@ -105,12 +105,22 @@ abbrev pub is_query_kind : Kind → Bool
 is_query_kind kinds.Betti = true
 is_query_kind kinds.Reduce = true
 is_query_kind kinds.Equiv = true
+is_query_kind kinds.Basis = true
+is_query_kind kinds.Class = true
 is_query_kind kind = false
 
-abbrev pub query_of : Kind → Query
-query_of kinds.Reduce = queries.Reduce
-query_of kinds.Equiv = queries.Equiv
-query_of kind = queries.Betti
+abbrev pub query_of : Kind → List (List ℕ) → Query
+query_of kinds.Reduce ws = queries.Reduce
+query_of kinds.Equiv ws = queries.Equiv
+query_of kinds.Basis ws = queries.Basis (value ws 1)
+query_of kinds.Class ws = queries.Class (value ws 1) (map value_of (drop 2 ws))
+query_of kind ws = queries.Betti
+
+-- the degree that a line asks about, if it asks about one, is one of a cell
+abbrev pub HasDegree : Kind → List (List ℕ) → Type 0
+HasDegree kinds.Basis ws = value ws 1 ≤ 15
+HasDegree kinds.Class ws = value ws 1 ≤ 15
+HasDegree kind ws = Unit {0}
 
 -- the lines of changes, and the change of one
 abbrev pub is_set_kind : Kind → Bool

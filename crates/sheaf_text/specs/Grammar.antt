@@ -61,6 +61,13 @@ face_refusal k ws =
     else option_map_or (λ fault. Some (Bad (cause_of fault)))
     (face_fault (record { dims = k.input.dims; faces = k.input.faces }) (face_in ws)) (entries_refusal k ws)
 
+-- a question on the cohomology of one degree
+abbrev pub degree_refusal : Known → List (List ℕ) → Option Refusal
+degree_refusal k ws =
+    if nat_lt 15 (value ws 1) then Some (Over limits.Dimension)
+    else if nat_le 4096 k.commands then Some (Over limits.Commands)
+    else None
+
 abbrev pub kind_refusal : Known → Kind → List (List ℕ) → Option Refusal
 kind_refusal k kinds.Field ws = if list_any (λ q. value ws 1 == q) orders then None else Some (Bad causes.Field)
 kind_refusal k kinds.Cell ws =
@@ -74,6 +81,8 @@ kind_refusal k kinds.Client ws = if nat_le 8 (length k.input.scripts) then Some 
 kind_refusal k kinds.Betti ws = if nat_le 4096 k.commands then Some (Over limits.Commands) else None
 kind_refusal k kinds.Reduce ws = if nat_le 4096 k.commands then Some (Over limits.Commands) else None
 kind_refusal k kinds.Equiv ws = if nat_le 4096 k.commands then Some (Over limits.Commands) else None
+kind_refusal k kinds.Basis ws = degree_refusal k ws
+kind_refusal k kinds.Class ws = degree_refusal k ws
 kind_refusal k kinds.Edit ws = if nat_le 4096 k.commands then Some (Over limits.Commands) else None
 kind_refusal k kinds.Done ws = if nat_lt 1073741824 (room k.input.stalks k.input.scripts) then Some (Over limits.Room)
     else None

@@ -31,6 +31,8 @@ kind_of w =
     else if bytes_eq w (codes "betti") then Some kinds.Betti
     else if bytes_eq w (codes "reduce") then Some kinds.Reduce
     else if bytes_eq w (codes "equiv") then Some kinds.Equiv
+    else if bytes_eq w (codes "basis") then Some kinds.Basis
+    else if bytes_eq w (codes "class") then Some kinds.Class
     else if bytes_eq w (codes "edit") then Some kinds.Edit
     else if bytes_eq w (codes "stalk") then Some kinds.Stalk
     else if bytes_eq w (codes "restrict") then Some kinds.Restrict
@@ -51,6 +53,8 @@ may_stand stages.Faces kinds.Done = true
 may_stand stages.InClient kinds.Betti = true
 may_stand stages.InClient kinds.Reduce = true
 may_stand stages.InClient kinds.Equiv = true
+may_stand stages.InClient kinds.Basis = true
+may_stand stages.InClient kinds.Class = true
 may_stand stages.InClient kinds.Edit = true
 may_stand stages.InClient kinds.Client = true
 may_stand stages.InClient kinds.Done = true
@@ -66,6 +70,8 @@ count_fits kinds.Cell n = n == 3
 count_fits kinds.Stalk n = n == 3
 count_fits kinds.Face n = nat_le 4 n
 count_fits kinds.Restrict n = nat_le 3 n
+count_fits kinds.Basis n = n == 2
+count_fits kinds.Class n = nat_le 2 n
 count_fits kind n = n == 1
 
 -- the words that have to be numbers: all after the first, but the sign of a face

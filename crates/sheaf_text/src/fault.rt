@@ -39,7 +39,7 @@ pub enum LineCause {
 pub enum Which {
     /// The bytes; the line is 0.
     Bytes,
-    /// The dimension of a cell.
+    /// The dimension of a cell, or the degree that is asked about.
     Dimension,
     /// The dimension of a stalk.
     Stalk,

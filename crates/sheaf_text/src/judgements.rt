@@ -1,7 +1,7 @@
 ghost use Rattle.std.specs.Prelude.{◌≡◌, length, IfOk, IfErr};
 ghost use Rattle.sheaf_text.specs.Parts.{AreDraftParts, IsClosed};
 ghost use Rattle.sheaf_text.specs.Grammar.{is_ended, cause_of, entries_refusal, face_refusal, kind_refusal};
-ghost use Rattle.sheaf_text.specs.Grammar.{kind_refusal, placed_refusal};
+ghost use Rattle.sheaf_text.specs.Grammar.{degree_refusal, placed_refusal};
 ghost use Rattle.sheaf_text.specs.Forms.{is_full, field_refusal, client_refusal, command_refusal, content_refusal};
 ghost use Rattle.sheaf_text.specs.Forms.{room_refusal};
 ghost use Rattle.sheaf_text.specs.State.{known_by, scripts_at, IsSoundState, IsReadyFor, IsFound};
@@ -131,6 +131,17 @@ fn command_refusal(state: &State) -> Option<Refusal>
     }
 }
 
+fn degree_refusal(state: &State, line: &LineWords<'_>) -> Option<Refusal>
+    ensures { result ≡ degree_refusal (known_by state.now) line.now }
+{
+    let degree = line.s_value();
+    if degree > HIGHEST {
+        Some(Refusal::Over(Which::Dimension))
+    } else {
+        command_refusal(state)
+    }
+}
+
 fn room_refusal(state: &State) -> Option<Refusal>
     requires { AreDraftParts state.now.parts }
     ensures { result ≡ room_refusal (known_by state.now) }
@@ -153,6 +164,7 @@ fn kind_refusal(state: &State, kind: Kind, line: &LineWords<'_>) -> Option<Refus
         Kind::Face => face_refusal(state, line),
         Kind::Client => client_refusal(state),
         Kind::Betti | Kind::Reduce | Kind::Equiv | Kind::Edit => command_refusal(state),
+        Kind::Basis | Kind::Class => degree_refusal(state, line),
         Kind::Stalk | Kind::Restrict | Kind::Commit => None,
         Kind::Done => room_refusal(state),
     }

@@ -16,6 +16,8 @@ pub(crate) enum Kind {
     Betti,
     Reduce,
     Equiv,
+    Basis,
+    Class,
     Edit,
     Stalk,
     Restrict,
@@ -59,6 +61,10 @@ pub(crate) fn kind_of(word: &[u8]) -> Option<Kind>
         Some(Kind::Reduce)
     } else if word == b"equiv".as_slice() {
         Some(Kind::Equiv)
+    } else if word == b"basis".as_slice() {
+        Some(Kind::Basis)
+    } else if word == b"class".as_slice() {
+        Some(Kind::Class)
     } else if word == b"edit".as_slice() {
         Some(Kind::Edit)
     } else if word == b"stalk".as_slice() {
@@ -79,7 +85,14 @@ fn may_stand_in_client(kind: Kind) -> bool
 {
     matches!(
         kind,
-        Kind::Betti | Kind::Reduce | Kind::Equiv | Kind::Edit | Kind::Client | Kind::Done
+        Kind::Betti
+            | Kind::Reduce
+            | Kind::Equiv
+            | Kind::Basis
+            | Kind::Class
+            | Kind::Edit
+            | Kind::Client
+            | Kind::Done
     )
 }
 
@@ -102,10 +115,11 @@ pub(crate) fn count_fits(kind: Kind, count: usize) -> bool
     ensures { result ≡ count_fits kind count }
 {
     match kind {
-        Kind::Field => count == 2,
+        Kind::Field | Kind::Basis => count == 2,
         Kind::Cell | Kind::Stalk => count == 3,
         Kind::Face => count >= 4,
         Kind::Restrict => count >= 3,
+        Kind::Class => count >= 2,
         _ => count == 1,
     }
 }

@@ -3,7 +3,7 @@ ghost use Rattle.sheaf_text.specs.Cut.{words};
 ghost use Rattle.sheaf_text.specs.Lines.{is_skipped};
 ghost use Rattle.sheaf_text.specs.Answers.{Gives, GivesFault};
 ghost use Rattle.sheaf_text.specs.Readings.{RefusedLine};
-ghost use Rattle.sheaf_text.specs.Forms.{is_query_kind, query_of, set_of, is_set_kind, reading_at_end};
+ghost use Rattle.sheaf_text.specs.Forms.{is_query_kind, query_of, HasDegree, set_of, is_set_kind, reading_at_end};
 ghost use Rattle.sheaf_text.specs.State.{known_by, IsSoundState, IsReady, IsAccepted, IsUntouched, TakesKind};
 ghost use Rattle.sheaf_text.specs.State.{TakesLine, RefusesLine};
 
@@ -29,13 +29,24 @@ pub(crate) struct State {
 }
 
 /// The question of a line.
-fn query_of(kind: Kind) -> Query
-    ensures { result ≡ query_of kind }
+fn query_of(alloc: Global, kind: Kind, line: &LineWords<'_>) -> Result<Query, NoMemory>
+    requires { HasDegree kind line.now }
+    ensures { IfOk result (λ query. query ≡ query_of kind line.now) }
 {
     match kind {
-        Kind::Reduce => Query::Reduce,
-        Kind::Equiv => Query::Equiv,
-        _ => Query::Betti,
+        Kind::Reduce => Ok(Query::Reduce),
+        Kind::Equiv => Ok(Query::Equiv),
+        Kind::Basis => Ok(Query::Basis {
+            k: line.s_value() as u8,
+        }),
+        Kind::Class => {
+            let entries = values(alloc, after_words(line.after(), 1))?;
+            Ok(Query::Class {
+                k: line.s_value() as u8,
+                z: Listed::of(entries),
+            })
+        }
+        _ => Ok(Query::Betti),
     }
 }
 
@@ -120,12 +131,18 @@ impl State {
         Ok(())
     }
 
-    fn take_query(&mut self, kind: Kind, line: &LineWords<'_>) -> Result<(), NoMemory>
+    fn take_query(
+        &mut self,
+        alloc: Global,
+        kind: Kind,
+        line: &LineWords<'_>,
+    ) -> Result<(), NoMemory>
         requires accepted { IsAccepted self.old kind line.now }
         requires query { is_query_kind kind ≡ true }
         ensures { OnOk result (TakesKind self.old self.new kind line.now) }
     {
-        self.scripts.add_query(query_of(kind))?;
+        let query = query_of(alloc, kind, line)?;
+        self.scripts.add_query(query)?;
         Ok(())
     }
 
@@ -179,9 +196,11 @@ impl State {
             Kind::Cell => self.take_cell(line),
             Kind::Face => self.take_face(alloc, line),
             Kind::Client => self.take_client(alloc, line),
-            Kind::Betti => self.take_query(Kind::Betti, line),
-            Kind::Reduce => self.take_query(Kind::Reduce, line),
-            Kind::Equiv => self.take_query(Kind::Equiv, line),
+            Kind::Betti => self.take_query(alloc, Kind::Betti, line),
+            Kind::Reduce => self.take_query(alloc, Kind::Reduce, line),
+            Kind::Equiv => self.take_query(alloc, Kind::Equiv, line),
+            Kind::Basis => self.take_query(alloc, Kind::Basis, line),
+            Kind::Class => self.take_query(alloc, Kind::Class, line),
             Kind::Edit => {
                 self.take_edit(alloc, line);
                 Ok(())
