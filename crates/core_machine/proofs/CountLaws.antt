@@ -129,7 +129,7 @@ counted-reply K scripts events c r s t step h = record {
       ∙ sym (asked-more d events (Reply c r));
 }
 
-counted-step : {F : Type 0} (K : Ops) (scripts : List (List Command)) (events : List Event) (event : Event)
+pub counted-step : {F : Type 0} (K : Ops) (scripts : List (List Command)) (events : List Event) (event : Event)
     (s t : State F)
     → Step K scripts event s t → IsCounted events s → IsCounted (events ++ event ∷ []) t
 counted-step K scripts events (Edit c verdict) s t step h = counted-edit K scripts events c verdict s t step h
@@ -148,7 +148,7 @@ counted-from K scripts earlier (event ∷ events) s t leads h =
     (counted-from K scripts (earlier ++ event ∷ []) events leads.0 t leads.2
     (counted-step K scripts earlier event s leads.0 leads.1 h))
 
-counted-first : {F : Type 0} (sheaf : SheafData F) → IsCounted [] (first_state sheaf)
+pub counted-first : {F : Type 0} (sheaf : SheafData F) → IsCounted [] (first_state sheaf)
 counted-first sheaf = record { current = refl; positions = λ c. refl; pendings = λ c v e. absurd (none-some v e) }
 
 pub transcripts_count : {F : Type 0} (K : Ops) (scripts : List (List Command)) (sheaf : SheafData F)
@@ -183,6 +183,11 @@ right-answers : (K : Ops) (reduction : Reduction) (c : ℕ) (q : Query) (r : Ans
 right-answers K reduction c queries.Betti (replies.Betti numbers) right = tt
 right-answers K reduction c queries.Reduce (replies.Reduce reduced) right = tt
 right-answers K reduction c queries.Equiv (replies.Equiv reduced maps) right = tt
+right-answers K reduction c (queries.Basis k) (replies.Basis j vectors) right = tt
+right-answers K reduction c (queries.Class k z) replies.BadLength right = tt
+right-answers K reduction c (queries.Class k z) replies.BadEntry right = tt
+right-answers K reduction c (queries.Class k z) (replies.NotCocycle j t) right = tt
+right-answers K reduction c (queries.Class k z) (replies.Class j coords vectors primitive) right = tt
 right-answers K reduction c q r right = absurd right
 
 of-step : {F : Type 0} (K : Ops) (scripts : List (List Command)) (events : List Event) (event : Event) (s t : State F)

@@ -1,6 +1,9 @@
 pub mod CountLaws
 pub mod SheafLaws
+pub mod ClassLaws
+pub mod FinalLaws
 pub mod ReplyLaws
 pub mod SoloLaws
 pub mod StepLaws
 pub mod JoinedLaws
+pub mod BettiLaws

@@ -4,6 +4,7 @@ use Rattle.std.proofs.Common.{◌∙◌, arith}
 use Rattle.std.proofs.lemmas.Option.{same_Some}
 use Rattle.dense_blocks.specs.Field.{Ops}
 use Rattle.dense_blocks.specs.FieldLaws.{IsField}
+use Rattle.dense_blocks.specs.Matrices.{image_of}
 use Rattle.dense_blocks.specs.MatrixFacts.{IsInverse}
 use Rattle.dense_blocks.specs.LinearMaps.{IsMatrixOf}
 use Rattle.dense_blocks.specs.Blocks.{matrix_of}
@@ -24,7 +25,10 @@ use Rattle.equivalence_laws.specs.Laws.{AreSameMatrices}
 use Rattle.equivalence_laws.proofs.CompositeLaws.{complex_fits}
 use Rattle.equivalence_laws.proofs.ReductionLaws.{pairs_tell_composite}
 use Rattle.coboundary.specs.Start.{start_complex}
-use Rattle.coboundary.proofs.StartCoboundaryLaws.{start_is_block_complex, start_has_the_cohomology}
+use Rattle.coboundary.proofs.LiveLaws.{numbered_cells-rising}
+use Rattle.coboundary.proofs.StartCoboundaryLaws.{start_is_block_complex, start_has_the_coboundary}
+use Rattle.coboundary.proofs.StartCoboundaryLaws.{start_has_the_cohomology}
+use Rattle.sheaf_data.specs.Arrows.{numbered_cells}
 use Rattle.sheaf_data.specs.Sheaves.{SheafData}
 use Rattle.sheaf_data.specs.Betti.{cochain_complex_of, degree_count}
 use Rattle.sheaf_words.specs.declared.query.Query.{Query}
@@ -35,11 +39,13 @@ use Rattle.sheaf_words.specs.declared.reply.Reply.{Reply as Answer}
 use Rattle.sheaf_words.specs.declared.reply.Reply.TheVariants as replies
 use Rattle.core_machine.specs.Replies.{Reduction, AreGradedBlocks, IsRightReduced, AreRightMaps}
 use Rattle.equivalence_laws.specs.Equivalences.{graded_matrix}
-use Rattle.core_machine.specs.Replies.{IsRightReply}
+use Rattle.core_machine.specs.Replies.{IsRightClass, IsRightReply}
 use Rattle.core_machine.specs.Machine.{State, IsReductionOf}
 use Rattle.core_machine.specs.Rights.{IsRightForStart}
-use Rattle.core_machine.specs.Solo.{HasCompositeMaps}
+use Rattle.core_machine.specs.Solo.{Final, IsFinal, HasSoloChoices}
 use Rattle.core_machine.proofs.SheafLaws.{IsVersion}
+use Rattle.core_machine.proofs.ClassLaws.{AreAlike, start-cells, right-over, one-class}
+use Rattle.core_machine.proofs.FinalLaws.{AreSameReductions, AreSameFinals, one-final, one-vectors, one-primitive}
 
 -- ---- the start complex and the whole one
 
@@ -58,6 +64,24 @@ same-bases K s v r field h is k B =
     subst (λ C. IsBasis K C k B ↔ IsBasis K r.whole k B) (sym (same-complex start r.start h.start))
     (subst (λ W. IsBasis K (complex_of start) k B ↔ IsBasis K W k B) (sym h.whole)
     (start_has_the_cohomology K d.complex d.stalks d.blocks field is.complex is.sheaf k B))
+
+-- a right class for the start complex is right for the whole one
+class-for : {F : Type 0} (K : Ops) (s : State F) (v : ℕ) (r : Reduction) (k : ℕ) (z : List ℕ) (reply : Answer)
+    → IsField K → (h : IsReductionOf K s v r) → IsVersion K h.sheaf → IsRightClass K (complex_of r.start) k z reply
+    → IsRightClass K r.whole k z reply
+class-for K s v r k z reply field h is right =
+    let d = h.sheaf in
+    let start : BlockComplex = start_complex K d.complex d.stalks d.blocks in
+    let W : CellularComplex = cochain_complex_of K d.complex d.stalks d.blocks in
+    let like : AreAlike K (complex_of start) W = record {
+      same = start_has_the_coboundary K d.complex d.stalks d.blocks field is.complex is.sheaf;
+      bases = λ j B. (start_has_the_cohomology K d.complex d.stalks d.blocks field is.complex is.sheaf j B).0;
+      cells = λ j. start-cells j (numbered_cells 0 d.complex.dims d.stalks);
+      rising = numbered_cells-rising 0 d.complex.dims d.stalks is.sheaf.one_each;
+    } in
+    subst (λ C. IsRightClass K C k z reply) (sym h.whole)
+    (right-over K (complex_of start) W like k z reply
+    (subst (λ C. IsRightClass K C k z reply) (same-complex start r.start h.start) right))
 
 dimensions-carried : (K : Ops) (C D : CellularComplex) (degrees : ℕ) (numbers : List ℕ)
     → ((k : ℕ) (B : List (List ℕ)) → IsBasis K C k B → IsBasis K D k B) → AreDimensions K C degrees numbers
@@ -93,17 +117,12 @@ right-for K s v r queries.Reduce (replies.Reduce reply) field h is right =
     reduced-elsewhere K r (complex_of r.start) reply right
 right-for K s v r queries.Equiv (replies.Equiv reply maps) field h is right =
     (reduced-elsewhere K r (complex_of r.start) reply right.0, maps-elsewhere K r (complex_of r.start) maps right.1)
+right-for K s v r (queries.Basis k) (replies.Basis j vectors) field h is right =
+    (right.0, (same-bases K s v r field h is k vectors).0 right.1)
+right-for K s v r (queries.Class k z) reply field h is right = class-for K s v r k z reply field h is right
 right-for K s v r query reply field h is right = absurd right
 
 -- ---- one reduction
-
--- all is the same of both, block complexes up to what counts
-pub record AreSameReductions (r q : Reduction) : Type 0 where
-  pub whole : q.whole ≡ r.whole
-  pub degrees : q.degrees ≡ r.degrees
-  pub start : HaveSameMatrices r.start q.start
-  pub pairs : q.pairs ≡ r.pairs
-  pub rest : HaveSameMatrices r.rest q.rest
 
 pub one-reduction : {F : Type 0} (K : Ops) (s : State F) (v : ℕ) (r q : Reduction) → IsField K
     → (h : IsReductionOf K s v r) → IsVersion K h.sheaf → IsReductionOf K s v q → AreSameReductions r q
@@ -249,25 +268,58 @@ one-maps K r q x y field is same h k a b = λ i. record {
         (ap coordinates starts) (ap (λ C j. coordinates C (suc j)) starts) k.h_shapes)
         (λ j. (matrices j).2)
 
--- two right replies to a question on a version are the same, where their maps are the composite of its removals
-pub one-reply : {F : Type 0} (K : Ops) (s : State F) (v : ℕ) (r q : Reduction) (query : Query) (x y : Answer)
-    → IsField K → (h : IsReductionOf K s v r) → IsVersion K h.sheaf → AreSameReductions r q
-    → IsRightReply K r query x → HasCompositeMaps K r x → IsRightReply K q query y → HasCompositeMaps K q y → x ≡ y
-one-reply K s v r q queries.Betti (replies.Betti m) (replies.Betti n) field h is same a c b d =
-    let here : AreDimensions K r.whole r.degrees n = subst (λ e. AreDimensions K r.whole e n) same.degrees
-    (subst (λ W. AreDimensions K W q.degrees n) same.whole b) in
-    let carry : (k : ℕ) (B : List (List ℕ)) → IsBasis K r.whole k B → IsBasis K (complex_of r.start) k B =
-    λ k B. (same-bases K s v r field h is k B).1 in
-    ap replies.Betti ((dimensions_agree K (complex_of r.start) field
-    (complex_fits K field r.start (start-is K s v r field h is))).1 r.degrees m n
-    (dimensions-carried K r.whole (complex_of r.start) r.degrees m carry a)
-    (dimensions-carried K r.whole (complex_of r.start) r.degrees n carry here))
-one-reply K s v r q queries.Betti (replies.Betti m) y field h is same a c b d = absurd b
-one-reply K s v r q queries.Reduce (replies.Reduce x) (replies.Reduce y) field h is same a c b d =
-    ap replies.Reduce (one-reduced K r q x y field same a b)
-one-reply K s v r q queries.Reduce (replies.Reduce x) y field h is same a c b d = absurd b
-one-reply K s v r q queries.Equiv (replies.Equiv x u) (replies.Equiv y w) field h is same a c b d =
-    ap₂ replies.Equiv (one-reduced K r q x y field same a.0 b.0)
-    (one-maps K r q u w field (start-is K s v r field h is) same a.1 b.1 c d)
-one-reply K s v r q queries.Equiv (replies.Equiv x u) y field h is same a c b d = absurd b
-one-reply K s v r q query x y field h is same a c b d = absurd a
+-- a version that is a sheaf has one list of Betti numbers
+pub one-betti : {F : Type 0} (K : Ops) (d : SheafData F) (degrees : ℕ) (m n : List ℕ) → IsField K → IsVersion K d
+    → AreDimensions K (cochain_complex_of K d.complex d.stalks d.blocks) degrees m
+    → AreDimensions K (cochain_complex_of K d.complex d.stalks d.blocks) degrees n → m ≡ n
+one-betti K d degrees m n field is a b =
+    let start : BlockComplex = start_complex K d.complex d.stalks d.blocks in
+    let W : CellularComplex = cochain_complex_of K d.complex d.stalks d.blocks in
+    let carry : (k : ℕ) (B : List (List ℕ)) → IsBasis K W k B → IsBasis K (complex_of start) k B =
+    λ k B. (start_has_the_cohomology K d.complex d.stalks d.blocks field is.complex is.sheaf k B).1 in
+    (dimensions_agree K (complex_of start) field (complex_fits K field start
+    (start_is_block_complex K d.complex d.stalks d.blocks field is.complex is.sheaf))).1 degrees m n
+    (dimensions-carried K W (complex_of start) degrees m carry a)
+    (dimensions-carried K W (complex_of start) degrees n carry b)
+
+module _ {F : Type 0} (K : Ops) (s : State F) (v : ℕ) (r q : Reduction) (field : IsField K) (h : IsReductionOf K s v r)
+    (is : IsVersion K h.sheaf) (same : AreSameReductions r q) where
+  finals : (f g : Final) → IsFinal K r f → IsFinal K q g → AreSameFinals f g
+  finals f g a b = one-final K field r q f g (start-is K s v r field h is) h.rest same a b
+
+  -- the class of a cocycle is told by the maps to the end
+  class-told : (k : ℕ) (z : List ℕ) (i j : ℕ) (a c : List ℕ) (b d : List (List ℕ)) (p t : List ℕ)
+      → HasSoloChoices K r (queries.Class k z) (replies.Class i a b p)
+      → HasSoloChoices K q (queries.Class k z) (replies.Class j c d t) → (a ≡ c) × (b ≡ d) × (p ≡ t)
+  class-told k z i j a c b d p t x y =
+      let f = finals x.0 y.0 x.1 y.1 in (
+        x.3 ∙ ap (λ A. image_of K A z) (f.maps k).0 ∙ sym y.3,
+        one-vectors K x.0 y.0 f k b d x.2 y.2,
+        x.4 ∙ one-primitive K x.0 y.0 f k z ∙ sym y.4,
+      )
+
+  -- two right replies to a question on a version are the same, where their choices are those of a solo order
+  pub one-reply : (query : Query) (x y : Answer) → IsRightReply K r query x → HasSoloChoices K r query x
+      → IsRightReply K q query y → HasSoloChoices K q query y → x ≡ y
+  one-reply queries.Betti (replies.Betti m) (replies.Betti n) a c b d =
+      ap replies.Betti (one-betti K h.sheaf r.degrees m n field is
+      (subst (λ W. AreDimensions K W r.degrees m) h.whole a)
+      (subst (λ W. AreDimensions K W r.degrees n) (same.whole ∙ h.whole)
+      (subst (λ e. AreDimensions K q.whole e n) same.degrees b)))
+  one-reply queries.Betti (replies.Betti m) y a c b d = absurd b
+  one-reply queries.Reduce (replies.Reduce x) (replies.Reduce y) a c b d =
+      ap replies.Reduce (one-reduced K r q x y field same a b)
+  one-reply queries.Reduce (replies.Reduce x) y a c b d = absurd b
+  one-reply queries.Equiv (replies.Equiv x u) (replies.Equiv y w) a c b d =
+      ap₂ replies.Equiv (one-reduced K r q x y field same a.0 b.0)
+      (one-maps K r q u w field (start-is K s v r field h is) same a.1 b.1 c d)
+  one-reply queries.Equiv (replies.Equiv x u) y a c b d = absurd b
+  one-reply (queries.Basis k) (replies.Basis i x) (replies.Basis j y) a c b d =
+      ap₂ replies.Basis (a.0 ∙ sym b.0) (one-vectors K c.0 d.0 (finals c.0 d.0 c.1 d.1) k x y c.2 d.2)
+  one-reply (queries.Basis k) (replies.Basis i x) y a c b d = absurd b
+  one-reply (queries.Class k z) x y a c b d =
+      one-class K r.whole k z x y a (subst (λ W. IsRightClass K W k z y) same.whole b)
+      (λ i j o e l m p t is_x is_y. class-told k z i j o e l m p t
+      (subst (HasSoloChoices K r (queries.Class k z)) is_x c)
+      (subst (HasSoloChoices K q (queries.Class k z)) is_y d))
+  one-reply query x y a c b d = absurd a

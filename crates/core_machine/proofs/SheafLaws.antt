@@ -57,7 +57,7 @@ all-step P K scripts (Ask c) s t keeps step h = subst (All P) (sym step.versions
 all-step P K scripts (Pair v x y) s t keeps step h = subst (All P) (sym step.versions) h
 all-step P K scripts (Reply c r) s t keeps step h = subst (All P) (sym step.versions) h
 
-all-from : {F : Type 0} (P : SheafData F → Type 0) (K : Ops) (scripts : List (List Command)) (events : List Event)
+pub all-from : {F : Type 0} (P : SheafData F → Type 0) (K : Ops) (scripts : List (List Command)) (events : List Event)
     (s t : State F) → EditsKeep K P → Leads (Step {F = F} K scripts) events s t → All P s.sheaves → All P t.sheaves
 all-from P K scripts [] s t keeps leads h = subst (λ m. All P m.sheaves) leads h
 all-from P K scripts (event ∷ events) s t keeps leads h =

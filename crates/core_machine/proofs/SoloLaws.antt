@@ -34,9 +34,10 @@ use Rattle.core_machine.specs.Machine.{EditStep, AskStep, PairStep, ReplyStep, S
 use Rattle.core_machine.specs.Machine.{IsLegalAndWhole}
 use Rattle.core_machine.specs.Legal.{first_state}
 use Rattle.core_machine.specs.Counts.{lane_position, lane_pending}
-use Rattle.core_machine.specs.Solo.{SoloStep, IsSoloOrder}
+use Rattle.core_machine.specs.Solo.{HasSoloChoices, SoloStep, IsSoloOrder}
 use Rattle.core_machine.proofs.SheafLaws.{IsSheafOver, IsVersion, version-at, all-step, edits-keep-version}
-use Rattle.core_machine.proofs.ReplyLaws.{AreSameReductions, one-reduction, same-invertible, one-reply}
+use Rattle.core_machine.proofs.FinalLaws.{AreSameReductions}
+use Rattle.core_machine.proofs.ReplyLaws.{one-reduction, same-invertible, one-reply}
 
 -- ---- solo orders are legal
 
@@ -319,9 +320,10 @@ reply-unique {F} K scripts c x y s m n field solo a b = (
         (subst (λ v. IsReductionOf K s v b.0.reduction) version b.0.asked)
 
     replies : x ≡ y
-    replies = one-reply K s a.0.version a.0.reduction b.0.reduction a.0.query x y field a.0.asked asked same
+    replies = one-reply K s a.0.version a.0.reduction b.0.reduction field a.0.asked asked same a.0.query x y
         a.0.right a.1
-        (subst (λ q. IsRightReply K b.0.reduction q y) query b.0.right) b.1
+        (subst (λ q. IsRightReply K b.0.reduction q y) query b.0.right)
+        (subst (λ q. HasSoloChoices K b.0.reduction q y) query b.1)
 
 -- no pair can be removed where a reply comes
 pair-reply : {F : Type 0} (K : Ops) (scripts : List (List Command)) (v x y c : ℕ) (r : Answer) (s m n : State F)

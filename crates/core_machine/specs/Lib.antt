@@ -4,5 +4,6 @@ pub mod Legal
 pub mod Solo
 pub mod Counts
 pub mod Versions
+pub mod Betti
 pub mod Rights
 pub mod SoloLaws

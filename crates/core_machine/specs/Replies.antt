@@ -1,15 +1,15 @@
 -- Which reply is right for a question.
-use Rattle.std.specs.Prelude.{◌≡◌, ℕ, suc, List, [], Some, length, slice_get}
-use Rattle.std.specs.Option.{option_map_or}
+use Rattle.std.specs.Prelude.{◌≡◌, ◌≢◌, ℕ, suc, List, Some, length, slice_get}
 use Rattle.dense_blocks.specs.Field.{Ops}
-use Rattle.dense_blocks.specs.Blocks.{matrix_of}
 use Rattle.dense_blocks.specs.LinearMaps.{IsMatrixOf}
 use Rattle.dense_blocks.specs.declared.block.Block.{Block}
-use Rattle.cochain_vec.specs.Complexes.{CellularComplex, coordinates, coboundary}
-use Rattle.cochain_vec.specs.Cohomology.{AreDimensions}
+use Rattle.dense_blocks.specs.Vectors.{AllScalars}
+use Rattle.cochain_vec.specs.Complexes.{CellularComplex, IsCochain, coordinates, coboundary}
+use Rattle.cochain_vec.specs.Cohomology.{IsBasis, AreDimensions}
+use Rattle.cocycle_bases.specs.Classes.{IsFirstOpen, IsClass}
 use Rattle.block_complexes.specs.BlockComplexes.{BlockComplex}
 use Rattle.block_complexes.specs.Cochains.{complex_of}
-use Rattle.equivalence_laws.specs.Equivalences.{GradedMatrix, IsEquivalence, graded_matrix}
+use Rattle.equivalence_laws.specs.Equivalences.{IsEquivalence, graded_matrix}
 use Rattle.sheaf_words.specs.declared.query.Query.{Query}
 use Rattle.sheaf_words.specs.declared.query.Query.TheVariants as queries
 use Rattle.sheaf_words.specs.declared.reply.Reduced.{Reduced}
@@ -52,9 +52,21 @@ pub record AreRightMaps (K : Ops) (r : Reduction) (maps : Maps) : Type 0 where
   pub equivalence : IsEquivalence K (complex_of r.start) (complex_of r.rest)
       (graded_matrix maps.pi) (graded_matrix maps.iota) (graded_matrix maps.h)
 
+-- right for the numbers z as a cochain of degree k of C: they are too many or too few; or as many as it has
+-- coordinates, but not all scalars; or a cochain whose coboundary is not zero, first at the cell t; or a cocycle, with
+-- its class
+abbrev pub IsRightClass : Ops → CellularComplex → ℕ → List ℕ → Reply → Type 0
+IsRightClass K C k z replies.BadLength = length z ≢ coordinates C k
+IsRightClass K C k z replies.BadEntry = (length z ≡ coordinates C k) × (AllScalars K z → ⊥)
+IsRightClass K C k z (replies.NotCocycle j t) = (j ≡ k) × IsCochain K C k z × IsFirstOpen K C k z t
+IsRightClass K C k z (replies.Class j coords vectors primitive) = (j ≡ k) × IsClass K C k z coords vectors primitive
+IsRightClass K C k z reply = ⊥
+
 -- the reply is right for the question on the version: a line for each kind of reply
 abbrev pub IsRightReply : Ops → Reduction → Query → Reply → Type 0
 IsRightReply K r queries.Betti (replies.Betti numbers) = AreDimensions K r.whole r.degrees numbers
 IsRightReply K r queries.Reduce (replies.Reduce reply) = IsRightReduced K r reply
 IsRightReply K r queries.Equiv (replies.Equiv reply maps) = IsRightReduced K r reply × AreRightMaps K r maps
+IsRightReply K r (queries.Basis k) (replies.Basis j vectors) = (j ≡ k) × IsBasis K r.whole k vectors
+IsRightReply K r (queries.Class k z) reply = IsRightClass K r.whole k z reply
 IsRightReply K r query reply = ⊥

@@ -7,6 +7,6 @@
 mod laws;
 
 pub use laws::{
-    events_are_answers, right_for_start_is_right, solo_orders_are_equal, solo_orders_are_legal,
-    transcripts_count, versions_are_sheaves,
+    betti_replies_agree, events_are_answers, right_for_start_is_right, solo_orders_are_equal,
+    solo_orders_are_legal, transcripts_count, versions_are_sheaves,
 };
