@@ -1,3 +1,4 @@
+pub mod SingleLaws
 pub mod WalkLaws
 pub mod JoinLaws
 pub mod OtherLaws

@@ -1,6 +1,6 @@
 -- A walk of a rising list beside another.
 use Rattle.std.proofs.Common.{◌≡◌, ◌≢◌, ℕ, false, ◌+◌, ◌<◌, ◌≤◌, List, [], ◌∷◌, ◌++◌, length, get_or, take, sym, ap}
-use Rattle.std.proofs.Common.{◌∙◌, arith, inl, inr}
+use Rattle.std.proofs.Common.{◌∙◌, subst, arith, inl, inr}
 use Rattle.std.specs.List.{flat_map}
 use Rattle.std.proofs.lemmas.Bool.{cases_lt}
 use Rattle.std.proofs.lemmas.List.{append-nil, take_more, get_or-map, length-map}
@@ -26,6 +26,27 @@ next-passed ls ks now i r p a l m =
       get_or-map (λ s. s.0) ls i (0, 0) 0 (omega arith),
       get_or-map (λ s. s.0) ls (i + 1) (0, 0) 0 m,
     )
+
+-- what is no further than a listed cell is below the next
+pub next-beyond : (ls : List (ℕ × ℕ)) (ks : List ℕ) (now i : ℕ) → IsRising (keys ls)
+    → ((a : ℕ) → a < now → get_or ks a 0 ≤ (get_or ls i (0, 0)).0)
+    → (a : ℕ) → a < now → i + 1 < length ls → get_or ks a 0 < (get_or ls (i + 1) (0, 0)).0
+next-beyond ls ks now i r p a l m =
+    omega (
+      arith,
+      p a l,
+      r i (i + 1) (omega arith) (omega (arith, m, length-map ls (λ s. s.0))),
+      get_or-map (λ s. s.0) ls i (0, 0) 0 (omega arith),
+      get_or-map (λ s. s.0) ls (i + 1) (0, 0) 0 m,
+    )
+
+-- what is below one place or is there is no further than the cell there
+pub up-to : (ks : List ℕ) (at c : ℕ) → ((a : ℕ) → a < at → get_or ks a 0 < c) → get_or ks at 0 ≡ c
+    → (a : ℕ) → a < at + 1 → get_or ks a 0 ≤ c
+up-to ks at c p e a l = elim (cases_lt a at) [
+  | inl u ↦ omega (arith, p a u)
+  | inr u ↦ let same : at ≡ a = omega arith in subst (λ k. get_or ks k 0 ≤ c) same (omega (arith, e))
+]
 
 -- one more piece
 pub pieces-next : {X : Type 0} (f : X → List ℕ) (xs : List X) (i : ℕ) (d : X) → i < length xs

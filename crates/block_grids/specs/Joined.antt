@@ -1,7 +1,7 @@
 -- What a joined matrix is made of, row by row.
 use Rattle.std.specs.Prelude.{◌≡◌, ◌<◌, ℕ, zero, suc, List, [], ◌∷◌, ◌++◌, Option, Some, None, take, slice_index_or}
 use Rattle.std.specs.Prelude.{All}
-use Rattle.std.specs.Prelude.{option_map}
+use Rattle.std.specs.Prelude.{option_map, slice_index, unwrap_or}
 use Rattle.std.specs.List.{flat_map}
 use Rattle.dense_blocks.specs.Vectors.{zeros}
 use Rattle.dense_blocks.specs.MatrixFacts.{zero_matrix}
@@ -65,3 +65,7 @@ abbrev pub IsSameScalar : ByCell ℕ → List (ℕ × ℕ) → List (List ℕ) �
 IsSameScalar line left A row h i = window row h (width (take i left)) (slice_index_or left i (0, 0)).1 A
     ≡ grid_block (option_map scalar_block (entry line (slice_index_or left i (0, 0)).0)) h
     (slice_index_or left i (0, 0)).1
+
+-- an entry of a row of a matrix is that of a line at the i-th listed cell, 0 where there is none
+abbrev pub IsSameEntry : ByCell ℕ → List (ℕ × ℕ) → List ℕ → ℕ → Type 0
+IsSameEntry line left there i = slice_index there i ≡ unwrap_or (entry line (slice_index_or left i (0, 0)).0) 0

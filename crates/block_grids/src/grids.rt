@@ -188,6 +188,7 @@ fn count_same(
     height: u8,
 ) -> usize
     requires rising { IsRising (keys left.now) }
+    requires sizes { All (λ l. 1 ≤ l.1) left.now }
     requires shaped { AreShaped line.now height left.now }
     requires within { end ≤ length left.now }
     requires rows { row + height ≤ joined.now.rows }

@@ -3,7 +3,6 @@ ghost use Rattle.std.specs.List.Sorted.{IsStrictlyIncreasing};
 ghost use Rattle.std.specs.Iterator.{YieldsFirst, item_count};
 ghost use Rattle.cell_complex.specs.Common.{common};
 
-use std::cmp::Ordering;
 use std::marker::Model;
 
 /// The cells between two cells, rising: what two rising lists have in common.
@@ -58,14 +57,14 @@ impl Iterator for Middles<'_> {
         'merge: loop {
             let (&t, cofaces) = self.cofaces.split_first()?;
             let (&v, faces) = self.faces.split_first()?;
-            match t.cmp(&v) {
-                Ordering::Less => self.cofaces = cofaces,
-                Ordering::Greater => self.faces = faces,
-                Ordering::Equal => {
-                    self.cofaces = cofaces;
-                    self.faces = faces;
-                    return Some(t);
-                }
+            if t < v {
+                self.cofaces = cofaces;
+            } else if v < t {
+                self.faces = faces;
+            } else {
+                self.cofaces = cofaces;
+                self.faces = faces;
+                return Some(t);
             }
         }
     }

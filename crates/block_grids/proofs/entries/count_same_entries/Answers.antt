@@ -1,54 +1,39 @@
-use Rattle.std.proofs.Common.{◌≡◌, ◌<◌, ◌≤◌, ℕ, true, ap, ◌∙◌, sym, subst, length, get_or, arith, inl, inr, rules}
-use Rattle.std.proofs.lemmas.Bool.{cases_lt}
+use Rattle.std.proofs.Common.{ℕ, ap, sym, subst, length, arith}
 use Rattle.dense_blocks.specs.Blocks.{matrix_of}
-use Rattle.std.specs.Option.{option_map}
-use Rattle.block_rows.specs.BlockRows.{scalar_block}
-use Rattle.block_sparse.specs.Grids.{window}
-use Rattle.block_grids.specs.Joined.{grid_block, IsSameScalar}
-use Rattle.block_sparse.proofs.Windows.{width-next, width-within}
-use Rattle.block_grids.proofs.WalkLaws.{all-passed, next-passed}
+use Rattle.dense_blocks.proofs.BlockLaws.{block-size}
+use Rattle.block_grids.specs.Joined.{IsSameEntry}
+use Rattle.block_grids.proofs.SingleLaws.{all-single, same-single}
 use Rattle.block_grids.proofs.entries.count_same_entries.Goals as goal
 
-pub is_scalar-requires-clause-cols : goal.is_scalar-requires-clause-cols
-is_scalar-requires-clause-cols c =
-    let inside : c.loop-i.i < length c.args.left.now = omega (arith, c.requires.within) in
-    omega (arith, c.loop-i.invariant.col, width-within c.args.left.now c.loop-i.i inside, c.requires.cols)
-
-pub overflow_add-col : goal.overflow_add-col
-overflow_add-col c =
-    let inside : c.loop-i.i < length c.args.left.now = omega (arith, c.requires.within) in
-    omega (
-      arith,
-      c.loop-i.invariant.col,
-      width-within c.args.left.now c.loop-i.i inside,
-      c.requires.cols,
-      c.args.joined.now.cols_fit,
-    )
-
-pub loop-i-preserved : goal.loop-i-preserved
-loop-i-preserved c =
-    let line = c.args.line.now in
+pub returns-then-joined-left-clause-same : goal.returns-then-joined-left-clause-same
+returns-then-joined-left-clause-same c = λ i l.
     let left = c.args.left.now in
     let A = matrix_of c.args.joined.now in
-    let i : ℕ = c.loop-i.i in
-    let inside : i < length left = omega (arith, c.requires.within) in
-    let x = get_or left i (0, 0) in
-    let passed : c.is_scalar.result ≡ true = search rules in
-    record {
-      col = omega (arith, c.loop-i.invariant.col, width-next left i inside);
-      within = subst (λ ks. c.place_from-at.result ≤ length ks) c.cells-cells.ensures.cells
-          c.place_from-at.ensures.within;
-      passed = next-passed left line.cells c.place_from-at.result i c.requires.rising
-          (all-passed line.cells c.loop-i.at c.place_from-at.result x.0 (λ a l. c.loop-i.invariant.passed a l inside)
-          (subst (λ ks. (a : ℕ) → c.loop-i.at ≤ a → a < c.place_from-at.result → get_or ks a 0 < x.0)
-          c.cells-cells.ensures.cells c.place_from-at.ensures.passed));
-      same = λ k l. elim (cases_lt k i) [
-        | inl u ↦ c.loop-i.invariant.same k u
-        | inr u ↦
-            let e : i ≡ k = omega arith in
-            subst (IsSameScalar line left A c.args.row c.args.height) e
-            (ap (λ n. window c.args.row c.args.height n x.1 A) (sym c.loop-i.invariant.col)
-            ∙ c.is_scalar.ensures.0 passed
-            ∙ ap (λ o. grid_block (option_map scalar_block o) c.args.height x.1) c.entry_at.ensures)
-      ];
-    }
+    (same-single c.args.line.now left A c.args.row c.args.height i
+    (all-single left c.requires.sizes (omega (arith, c.requires.cols, c.if-joined-left.true)))
+    c.if-height-eq1.true (omega (arith, l, c.count_same_scalars.ensures.within, c.requires.within))
+    (omega (arith, block-size c.args.joined.now, c.requires.rows, c.if-height-eq1.true))
+    (omega (
+      arith,
+      ap length c.row.ensures.row,
+      c.row.ensures.size,
+      l,
+      c.count_same_scalars.ensures.within,
+      c.requires.within,
+      c.if-joined-left.true,
+    ))).0
+    (subst (λ r. IsSameEntry c.args.line.now left r i) c.row.ensures.row (c.count_same_scalars.ensures.same i l))
+
+pub returns-then-joined-left-clause-other : goal.returns-then-joined-left-clause-other
+returns-then-joined-left-clause-other c = λ l s.
+    let left = c.args.left.now in
+    let A = matrix_of c.args.joined.now in
+    let i : ℕ = c.count_same_scalars.result in
+    c.count_same_scalars.ensures.other l
+    (subst (λ r. IsSameEntry c.args.line.now left r i) (sym c.row.ensures.row)
+    ((same-single c.args.line.now left A c.args.row c.args.height i
+    (all-single left c.requires.sizes (omega (arith, c.requires.cols, c.if-joined-left.true)))
+    c.if-height-eq1.true (omega (arith, l, c.requires.within))
+    (omega (arith, block-size c.args.joined.now, c.requires.rows, c.if-height-eq1.true))
+    (omega (arith, ap length c.row.ensures.row, c.row.ensures.size, l, c.requires.within, c.if-joined-left.true))).1
+    s))

@@ -6,8 +6,8 @@ use Rattle.block_grids.proofs.entries.entry_at.Goals as goal
 use Rattle.block_grids.proofs.entries.entry_at.Goals.{else-at-cells-via-then-at-cells+else-cells-at}
 use Rattle.block_grids.proofs.entries.entry_at.Goals.{else-at-cells-via-else-at-cells}
 
-pub returns-then-cells-at : goal.returns-then-cells-at
-returns-then-cells-at c =
+pub returns-then-cells-at-clause-entry : goal.returns-then-cells-at-clause-entry
+returns-then-cells-at-clause-entry c =
     let line = c.args.line.now in
     let at : ℕ = c.args.at in
     let is = c.cells-cells.ensures.cells in
@@ -17,8 +17,8 @@ returns-then-cells-at c =
     ∙ sym (look-at line.cells line.values rises.full rises.rising at 0 inside)
     ∙ ap (entry line) (subst (λ ks. get_or ks at 0 ≡ c.args.c) is c.if-cells-at.true)
 
-pub returns-else-at-cells : goal.returns-else-at-cells
-returns-else-at-cells c =
+pub returns-else-at-cells-clause-entry : goal.returns-else-at-cells-clause-entry
+returns-else-at-cells-clause-entry c =
     let line = c.args.line.now in
     let is = c.cells-cells.ensures.cells in
     sym (look-absent c.args.c line.cells line.values

@@ -4,6 +4,7 @@ use Rattle.rising_lists.specs.Rising.{line_of}
 use Rattle.block_grids.specs.Joined.{AreShaped, IsSamePart}
 use Rattle.block_sparse.proofs.Windows.{width-next, width-within}
 use Rattle.block_grids.proofs.JoinLaws.{rows-shaped}
+use Rattle.block_grids.proofs.SingleLaws.{listed-sizes}
 use Rattle.block_grids.proofs.OtherLaws.{IsEarliest, SameAt, earliest-less, earliest-kept, no-other, first-other}
 use Rattle.block_grids.proofs.grids.first_other.Goals as goal
 use Rattle.block_grids.proofs.grids.first_other.Goals.{then-same-end, else-same-end}
@@ -20,6 +21,10 @@ count_same-same-requires-clause-shaped c =
     subst (λ l. AreShaped l (get_or below j (0, 0)).1 left) (sym c.line.ensures)
     (rows-shaped c.args.b.now left below c.live-cells.ensures.sound c.requires.left_sized c.requires.below_sized j
     (0, 0) inside)
+
+pub count_same-same-requires-clause-sizes : goal.count_same-same-requires-clause-sizes
+count_same-same-requires-clause-sizes c =
+    listed-sizes c.args.b.now.live c.args.left.now c.live-cells.ensures.sound.live_cells.sizes c.requires.left_sized
 
 pub count_same-same-requires-clause-rows : goal.count_same-same-requires-clause-rows
 count_same-same-requires-clause-rows c =

@@ -1,5 +1,4 @@
 use Rattle.std.proofs.Common.{◌≡◌, ◌<◌, [], sym, ap, ◌∙◌, length, arith}
-use Rattle.std.proofs.lemmas.Bool.Decides.{nat_tests}
 use Rattle.cell_complex.specs.Common.{common}
 use Rattle.cell_complex.proofs.Numbers.{common-none, common-less, common-greater, common-equal, rising-rest}
 use Rattle.cell_complex.proofs.middles.MiddlesIterator.next.Goals as goal
@@ -11,9 +10,9 @@ returns-in_err-v-clause-steps c =
     c.in_err-v.ensures.cases in
     rw c.from_residual-in_err-v.ensures (sym c.merge.invariant.same ∙ none, none)
 
-pub merge-preserved-in-Less : goal.merge-preserved-in-Less
-merge-preserved-in-Less c =
-    let l : c.in_ok-t.field-0-0.now < c.in_ok-v.field-0-0.now = grind (arith, nat_tests) in
+pub merge-preserved-then-t-v : goal.merge-preserved-then-t-v
+merge-preserved-then-t-v c =
+    let l : c.in_ok-t.field-0-0.now < c.in_ok-v.field-0-0.now = omega arith in
     record {
       same = sym (common-less _ _ _ _ _ _ c.in_ok-t.ensures.cases.0 c.in_ok-v.ensures.cases.0
           c.merge.invariant.faces_rise l) ∙ c.merge.invariant.same;
@@ -23,7 +22,7 @@ merge-preserved-in-Less c =
 
 pub merge-preserved : goal.merge-preserved
 merge-preserved c =
-    let l : c.in_ok-v.field-0-0.now < c.in_ok-t.field-0-0.now = grind (arith, nat_tests) in
+    let l : c.in_ok-v.field-0-0.now < c.in_ok-t.field-0-0.now = omega arith in
     record {
       same = sym (common-greater _ _ _ _ _ _ c.in_ok-t.ensures.cases.0 c.in_ok-v.ensures.cases.0
           c.merge.invariant.cofaces_rise l) ∙ c.merge.invariant.same;
@@ -31,19 +30,19 @@ merge-preserved c =
       faces_rise = rising-rest _ _ _ c.in_ok-v.ensures.cases.0 c.merge.invariant.faces_rise;
     }
 
-pub invariant_of-self-in-Equal : goal.invariant_of-self-in-Equal
-invariant_of-self-in-Equal c = (
+pub invariant_of-self-else-v-t : goal.invariant_of-self-else-v-t
+invariant_of-self-else-v-t c = (
   rising-rest _ _ _ c.in_ok-t.ensures.cases.0 c.merge.invariant.cofaces_rise,
   rising-rest _ _ _ c.in_ok-v.ensures.cases.0 c.merge.invariant.faces_rise,
 )
 
-pub returns-in-Equal-clause-steps : goal.returns-in-Equal-clause-steps
-returns-in-Equal-clause-steps c =
-    let e : c.in_ok-t.field-0-0.now ≡ c.in_ok-v.field-0-0.now = grind (arith, nat_tests) in
+pub returns-else-v-t-clause-steps : goal.returns-else-v-t-clause-steps
+returns-else-v-t-clause-steps c =
+    let e : c.in_ok-t.field-0-0.now ≡ c.in_ok-v.field-0-0.now = omega arith in
     sym c.merge.invariant.same
     ∙ common-equal _ _ _ _ _ _ c.in_ok-t.ensures.cases.0 c.in_ok-v.ensures.cases.0 c.merge.invariant.cofaces_rise e
 
-pub returns-in-Equal-clause-goes : goal.returns-in-Equal-clause-goes
-returns-in-Equal-clause-goes c =
-    let shorter = ap length (returns-in-Equal-clause-steps c) in
+pub returns-else-v-t-clause-goes : goal.returns-else-v-t-clause-goes
+returns-else-v-t-clause-goes c =
+    let shorter = ap length (returns-else-v-t-clause-steps c) in
     record { on = λ _. (tt, tt, omega (arith, shorter)); keeps = tt; rests = λ _. tt }

@@ -2,7 +2,7 @@ use Rattle.std.proofs.Common.{◌≡◌, ◌<◌, ◌≤◌, ℕ, length, get_or
 use Rattle.dense_blocks.specs.Blocks.{matrix_of}
 use Rattle.block_sparse.specs.Grids.{width}
 use Rattle.block_grids.specs.Joined.{IsSameScalar}
-use Rattle.block_grids.proofs.entries.count_same_entries.Given as goal
+use Rattle.block_grids.proofs.entries.count_same_parts.Given as goal
 
 abbrev pub invariant-loop-i : goal.invariant-loop-i
 invariant-loop-i l = record {
