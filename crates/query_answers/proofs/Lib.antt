@@ -4,3 +4,8 @@ pub mod DegreeLists
 pub mod SlotLaws
 pub mod GradedLaws
 pub mod MapLaws
+pub mod DimensionLaws
+pub mod EndingLaws
+pub mod FinalLaws
+pub mod AnswerLaws
+pub mod NumberLaws

@@ -176,7 +176,7 @@ module _ {F : Type 0} (ops : F → Ops) (slot : SlotValue F) (f : F) (v : Stored
       subst (λ x. P x v log) (sym f_is)
       (subst (λ x. P slot.f x log) (sym v_is) (subst (λ x. P slot.f slot.base x) (sym log_is) h))
 
-  at_slot : (P : F → StoredBlocks → List Step → Type 0) → P f v log → P slot.f slot.base slot.log
+  pub at_slot : (P : F → StoredBlocks → List Step → Type 0) → P f v log → P slot.f slot.base slot.log
   at_slot P h =
       subst (λ x. P slot.f slot.base x) log_is
       (subst (λ x. P slot.f x log) v_is (subst (λ x. P x v log) f_is h))

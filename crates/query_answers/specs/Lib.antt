@@ -1,2 +1,5 @@
 pub mod Degrees
 pub mod SlotReductions
+pub mod Answers
+pub mod Endings
+pub mod Vectors

@@ -18,7 +18,7 @@ use std::alloc::{AllocError as NoMemory, Global};
 /// degree `k`, and a row for each of those of degree `k + 1`, in order; it has no rows or no columns where there are no
 /// such cells. Takes, for each degree, one step for each live cell, and what [`grid`] takes. Fails only where memory
 /// does.
-pub fn coboundary_matrices(
+pub(crate) fn coboundary_matrices(
     alloc: Global,
     b: &Blocks,
     degrees: u8,

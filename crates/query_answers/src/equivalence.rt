@@ -6,13 +6,14 @@ ghost use Rattle.block_sparse.specs.StoredBlocks.{complex_in};
 ghost use Rattle.equivalence_laws.specs.Composites.{IsCompositeOfPairs};
 ghost use Rattle.core_machine.specs.Replies.{Reduction, AreRightMaps};
 ghost use Rattle.equivalence_laws.specs.Equivalences.{graded_matrix};
+ghost use Rattle.query_answers.specs.Answers.{IsAnswerIn};
 ghost use Rattle.query_answers.specs.SlotReductions.{IsReductionIn};
 
-use crate::reduction::live_cells;
+use crate::reduction::{live_cells, reduced};
 use dense_blocks::{Block, Listed, Scalars};
 use equivalences::of_log;
 use pair_commit::Slot;
-use sheaf_words::Maps;
+use sheaf_words::{Maps, Query, Reply};
 use std::alloc::{AllocError as NoMemory, Global};
 
 /// The maps between the base of a slot and what its steps leave, in each degree below `degrees`: the composite of the
@@ -20,7 +21,7 @@ use std::alloc::{AllocError as NoMemory, Global};
 ///
 /// Each live cell of the base has a degree below `degrees`, and the coboundary of each coboundary is zero in the base.
 /// Takes what [`of_log`] takes, and one step for each entry of the result. Fails only where memory does.
-pub fn maps<F: Scalars>(alloc: Global, slot: &Slot<F>, degrees: u8) -> Result<Maps, NoMemory>
+pub(crate) fn maps<F: Scalars>(alloc: Global, slot: &Slot<F>, degrees: u8) -> Result<Maps, NoMemory>
     requires degrees { All (λ l. l.1 < degrees) slot.now.base.live }
     requires few { degrees ≤ 16 }
     requires closed { IsCochainComplex (F.ops slot.now.f) (complex_of (complex_in slot.now.base)) }
@@ -39,6 +40,22 @@ pub fn maps<F: Scalars>(alloc: Global, slot: &Slot<F>, degrees: u8) -> Result<Ma
     let iota = first_blocks(alloc, &e.iota, degrees)?;
     let h = first_blocks(alloc, &e.h, degrees)?;
     Ok(Maps { base, pi, iota, h })
+}
+
+/// The answer to what the steps of a slot leave, and to the maps between the base and that.
+pub(crate) fn equivalence_reply<F: Scalars>(
+    alloc: Global,
+    slot: &Slot<F>,
+    degrees: u8,
+) -> Result<Reply, NoMemory>
+    requires degrees { All (λ l. l.1 < degrees) slot.now.base.live }
+    requires few { degrees ≤ 16 }
+    requires closed { IsCochainComplex (F.ops slot.now.f) (complex_of (complex_in slot.now.base)) }
+    ensures { IfOk result (IsAnswerIn (F.ops slot.now.f) degrees slot.now Query.Equiv) }
+{
+    let complex = reduced(alloc, slot, degrees)?;
+    let maps = maps(alloc, slot, degrees)?;
+    Ok(Reply::Equiv(complex, maps))
 }
 
 /// The first so many blocks.

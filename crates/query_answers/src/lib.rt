@@ -1,10 +1,17 @@
-//! Replies to questions, out of a slot: what a reduction leaves, and the maps to it, as one matrix for each degree.
+//! Answers to questions, out of a slot: what a reduction leaves, and the maps to it, as one matrix for each degree; the
+//! dimensions of the cohomology, bases of it, and the classes of cocycles.
 #![tactic(auto)]
 
+mod answerer;
+mod classes;
+mod cohomology;
 mod degrees;
+mod dimensions;
+mod ending;
 mod equivalence;
+mod numbers;
 mod reduction;
+mod rows;
 
-pub use degrees::coboundary_matrices;
-pub use equivalence::maps;
-pub use reduction::reduced;
+pub use answerer::Answerer;
+pub use dimensions::degree_count;

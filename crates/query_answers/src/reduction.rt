@@ -1,6 +1,7 @@
 ghost use Rattle.std.specs.Prelude.{◌≡◌, ◌<◌, All, IfOk};
 ghost use Rattle.reduce_step.specs.Logs.{pairs_of};
 ghost use Rattle.core_machine.specs.Replies.{Reduction, IsRightReduced};
+ghost use Rattle.query_answers.specs.Answers.{IsAnswerIn};
 ghost use Rattle.query_answers.specs.SlotReductions.{IsReductionIn};
 
 use crate::degrees::coboundary_matrices;
@@ -8,7 +9,7 @@ use block_sparse::Blocks;
 use dense_blocks::{Listed, Scalars};
 use pair_commit::Slot;
 use reduce_step::Step;
-use sheaf_words::Reduced;
+use sheaf_words::{Query, Reduced, Reply};
 use std::alloc::{AllocError as NoMemory, Global};
 
 /// What the steps of a slot leave of its block complex: the pairs that they removed, the cells that are left, and the
@@ -16,7 +17,11 @@ use std::alloc::{AllocError as NoMemory, Global};
 ///
 /// Each live cell of the base has a degree below `degrees`. Takes one step for each step of the log, and what
 /// [`coboundary_matrices`] takes. Fails only where memory does.
-pub fn reduced<F: Scalars>(alloc: Global, slot: &Slot<F>, degrees: u8) -> Result<Reduced, NoMemory>
+pub(crate) fn reduced<F: Scalars>(
+    alloc: Global,
+    slot: &Slot<F>,
+    degrees: u8,
+) -> Result<Reduced, NoMemory>
     requires { All (λ l. l.1 < degrees) slot.now.base.live }
     ensures { IfOk result (λ reply. (r : Reduction) → IsReductionIn degrees slot.now r
         → IsRightReduced (F.ops slot.now.f) r reply) }
@@ -26,6 +31,19 @@ pub fn reduced<F: Scalars>(alloc: Global, slot: &Slot<F>, degrees: u8) -> Result
     let live = live_cells(alloc, present)?;
     let d = coboundary_matrices(alloc, present, degrees)?;
     Ok(Reduced { pairs, live, d })
+}
+
+/// The answer to what the steps of a slot leave.
+pub(crate) fn reduced_reply<F: Scalars>(
+    alloc: Global,
+    slot: &Slot<F>,
+    degrees: u8,
+) -> Result<Reply, NoMemory>
+    requires { All (λ l. l.1 < degrees) slot.now.base.live }
+    ensures { IfOk result (IsAnswerIn (F.ops slot.now.f) degrees slot.now Query.Reduce) }
+{
+    let reply = reduced(alloc, slot, degrees)?;
+    Ok(Reply::Reduce(reply))
 }
 
 /// The pairs that steps remove, in order.
