@@ -71,7 +71,11 @@ pub(crate) fn put_vectors(out: &mut Vec<u8>, vectors: &[Row]) -> Result<(), NoMe
 }
 
 /// Appends the lines of the vectors, and the one of the primitive.
-pub(crate) fn put_class(out: &mut Vec<u8>, vectors: &[Row], primitive: &[u8]) -> Result<(), NoMemory>
+pub(crate) fn put_class(
+    out: &mut Vec<u8>,
+    vectors: &[Row],
+    primitive: &[u8],
+) -> Result<(), NoMemory>
     ensures { OnOk result (out.new.items ≡ out.old.items
         ++ lines_text (class_lines vectors.now primitive.now)) }
 {

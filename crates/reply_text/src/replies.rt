@@ -6,7 +6,9 @@ ghost use Rattle.reply_text.specs.Replies.{command_word, degree_of, cause_words,
 ghost use Rattle.reply_text.specs.Replies.{first_line, further_lines, reply_lines};
 ghost use Rattle.reply_text.specs.ClientEvents.{IsAnswerTo};
 
-use crate::classes::{put_basis_size, put_class, put_closed, put_no_cochain, put_open, put_vectors};
+use crate::classes::{
+    put_basis_size, put_class, put_closed, put_no_cochain, put_open, put_vectors,
+};
 use crate::reductions::{put_map_counts, put_maps, put_reduced, put_reduced_counts};
 use crate::words::{put_all, put_named, put_next, put_number};
 use sheaf_words::{Cause, Command, Event, Maps, Query, Reduced, Reply, Verdict};
@@ -177,7 +179,9 @@ fn put_further(alloc: Global, out: &mut Vec<u8>, event: &Event) -> Result<(), No
         } => put_vectors(out, vectors.as_slice()),
         Event::Reply {
             r: Reply::Class {
-                vectors, primitive, ..
+                vectors,
+                primitive,
+                ..
             },
             ..
         } => put_class(out, vectors.as_slice(), primitive.as_slice()),
