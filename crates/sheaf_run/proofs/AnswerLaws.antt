@@ -1,5 +1,6 @@
--- A reduced complex out of a slot is a right reply.
-use Rattle.std.proofs.Common.{◌≡◌, ℕ, refl, sym, subst, All}
+-- An answer out of a slot is a right reply, with the choices of a solo order.
+use Rattle.std.proofs.Common.{◌≡◌, ℕ, [], ◌∷◌, Some, refl, sym, subst, All}
+use Rattle.dense_blocks.specs.Field.{Ops}
 use Rattle.field_table.specs.declared.field.Field.{Field}
 use Rattle.field_table.specs.Table.{ops_of}
 use Rattle.cell_complex.specs.Invariants.{IsComplex}
@@ -8,35 +9,65 @@ use Rattle.field_table.specs.TableLaws.{table_is_field}
 use Rattle.block_complexes.specs.BlockComplexes.{HaveSameMatrices}
 use Rattle.block_complexes.specs.Cochains.{complex_of}
 use Rattle.block_complexes.proofs.SameLaws.{same-refl, same-complex}
-use Rattle.equivalence_laws.specs.Equivalences.{graded_matrix}
-use Rattle.equivalence_laws.specs.Composites.{IsCompositeOfPairs}
 use Rattle.block_sparse.specs.StoredBlocks.{complex_in}
+use Rattle.reduce_step.specs.Logs.{pairs_of}
 use Rattle.pair_commit.specs.Slots.{SlotValue}
 use Rattle.sheaf_data.specs.Sheaves.{SheafData, IsSheaf}
 use Rattle.sheaf_data.specs.Arrows.{numbered_cells}
 use Rattle.sheaf_data.specs.Betti.{degree_count}
-use Rattle.sheaf_words.specs.declared.query.Query.TheVariants as queries
-use Rattle.sheaf_words.specs.declared.reply.Maps.{Maps}
-use Rattle.sheaf_words.specs.declared.reply.Reduced.{Reduced}
-use Rattle.sheaf_words.specs.declared.reply.Reply.TheVariants as replies
+use Rattle.sheaf_words.specs.declared.query.Query.{Query}
+use Rattle.sheaf_words.specs.declared.reply.Reply.{Reply as Answer}
 use Rattle.coboundary.specs.Start.{with_stalks, start_complex}
 use Rattle.coboundary.specs.StartCoboundary.{StartIsCochainComplex}
-use Rattle.core_machine.specs.Replies.{Reduction, IsRightReduced, AreRightMaps}
-use Rattle.query_answers.specs.SlotReductions.{IsReductionIn}
+use Rattle.first_reduction.proofs.FirstLaws.{reduction-after}
+use Rattle.core_machine.specs.Replies.{Reduction}
+use Rattle.core_machine.specs.Rights.{IsRightForStart}
+use Rattle.core_machine.specs.Machine.{State, IsReductionOf, free_lane}
+use Rattle.core_machine.specs.Solo.{HasSoloChoices}
+use Rattle.core_machine.proofs.ReplyLaws.{right-for}
+use Rattle.query_answers.specs.Answers.{IsAnswerIn}
 use Rattle.sheaf_run.specs.Sessions.{IsSheafReduction, IsSoloReply, version_reduction}
 use Rattle.sheaf_run.proofs.DegreeLaws.{HasDegreeBelow, degrees-below}
 
-pub reduced-right : (sheaf : SheafData Field) (slot here : SlotValue Field) (degrees : ℕ) (reply : Reduced)
-    → here ≡ slot → slot.f ≡ sheaf.field → degrees ≡ degree_count sheaf.complex.dims
-    → ((r : Reduction) → IsReductionIn degrees here r → IsRightReduced (ops_of here.f) r reply)
-    → IsSoloReply sheaf slot queries.Reduce (replies.Reduce reply)
-reduced-right sheaf slot here degrees reply e f d right = record {
-  right = subst (λ x. IsRightReduced (ops_of x) (version_reduction sheaf slot) reply) f
-      (subst (λ s. IsRightReduced (ops_of s.f) (version_reduction sheaf slot) reply) e
-      (right (version_reduction sheaf slot) (subst (λ s. IsReductionIn degrees s (version_reduction sheaf slot)) (sym e)
-      (record { degrees_are = sym d; pairs = refl; rest = same-refl (complex_in slot.present) }))));
-  composite = tt;
+-- an answer out of the slot is right for the question on the version
+pub answer-right : (sheaf : SheafData Field) (slot here : SlotValue Field) (degrees : ℕ) (query : Query) (reply : Answer)
+    → here ≡ slot → IsSheafReduction sheaf slot → degrees ≡ degree_count sheaf.complex.dims → IsComplex sheaf.complex
+    → IsSheaf (ops_of sheaf.field) sheaf.complex sheaf.stalks sheaf.blocks
+    → IsAnswerIn (ops_of here.f) degrees here query reply → IsSoloReply sheaf slot query reply
+answer-right sheaf slot here degrees query reply e is d complex sheaf-is answer = record {
+  right = right-for K state 0 r query reply (table_is_field sheaf.field) reduction_of
+      (record { complex = complex; sheaf = sheaf-is }) answered.0;
+  choices = answered.1;
 }
+  where
+    K : Ops
+    K = ops_of sheaf.field
+
+    r : Reduction
+    r = version_reduction sheaf slot
+
+    own : IsAnswerIn K degrees slot query reply
+    own = subst (λ f. IsAnswerIn (ops_of f) degrees slot query reply) is.field
+        (subst (λ s. IsAnswerIn (ops_of s.f) degrees s query reply) e answer)
+
+    answered : IsRightForStart K r query reply × HasSoloChoices K r query reply
+    answered = own r (record { degrees_are = sym d; pairs = refl; rest = same-refl (complex_in slot.present) })
+        (same-refl (complex_in slot.base))
+
+    -- a machine with this version alone
+    state : State Field
+    state = record { sheaves = sheaf ∷ []; lanes = λ c. free_lane 0; pairs = λ v. Some (pairs_of slot.log) }
+
+    reduction_of : IsReductionOf K state 0 r
+    reduction_of = record {
+      sheaf = sheaf;
+      version = refl;
+      whole = refl;
+      degrees = refl;
+      start = is.start;
+      removed = refl;
+      rest = reduction-after K (complex_in slot.base) (complex_in slot.present) (pairs_of slot.log) is.reduction;
+    }
 
 -- the live cells of a start complex have degrees below the number of degrees
 pub live-degrees : (sheaf : SheafData Field) (slot here : SlotValue Field) (degrees : ℕ) → here ≡ slot
@@ -47,38 +78,6 @@ live-degrees sheaf slot here degrees e is d =
     (subst (All (HasDegreeBelow degrees)) (sym is.start.live)
     (subst (λ n. All (HasDegreeBelow n) (with_stalks (numbered_cells 0 sheaf.complex.dims sheaf.stalks))) (sym d)
     (degrees-below 0 sheaf.complex.dims sheaf.stalks)))
-
--- and so are the maps
-pub equivalence-right : (sheaf : SheafData Field) (slot here : SlotValue Field) (degrees : ℕ) (reply : Reduced)
-    (maps : Maps) → here ≡ slot → slot.f ≡ sheaf.field → degrees ≡ degree_count sheaf.complex.dims
-    → ((r : Reduction) → IsReductionIn degrees here r → IsRightReduced (ops_of here.f) r reply)
-    → ((r : Reduction) → IsReductionIn degrees here r → HaveSameMatrices (complex_in here.base) r.start
-    → AreRightMaps (ops_of here.f) r maps)
-    → ((r : Reduction) → IsReductionIn degrees here r → HaveSameMatrices (complex_in here.base) r.start
-    → IsCompositeOfPairs (ops_of here.f) r.start r.pairs (graded_matrix maps.pi) (graded_matrix maps.iota)
-    (graded_matrix maps.h))
-    → IsSoloReply sheaf slot queries.Equiv (replies.Equiv reply maps)
-equivalence-right sheaf slot here degrees reply maps e f d reduced right composite = record {
-  right = (
-    (reduced-right sheaf slot here degrees reply e f d reduced).right,
-    subst (λ x. AreRightMaps (ops_of x) r maps) f (subst (λ s. AreRightMaps (ops_of s.f) r maps) e (right r in_slot base)),
-  );
-  composite = subst (λ x. IsCompositeOfPairs (ops_of x) r.start r.pairs (graded_matrix maps.pi)
-      (graded_matrix maps.iota) (graded_matrix maps.h)) f
-      (subst (λ s. IsCompositeOfPairs (ops_of s.f) r.start r.pairs (graded_matrix maps.pi) (graded_matrix maps.iota)
-      (graded_matrix maps.h)) e (composite r in_slot base));
-}
-  where
-    r : Reduction
-    r = version_reduction sheaf slot
-
-    in_slot : IsReductionIn degrees here r
-    in_slot = subst (λ s. IsReductionIn degrees s (version_reduction sheaf slot)) (sym e)
-        (record { degrees_are = sym d; pairs = refl; rest = same-refl (complex_in slot.present) })
-
-    base : HaveSameMatrices (complex_in here.base) r.start
-    base = subst (λ s. HaveSameMatrices (complex_in s.base) (complex_in slot.base)) (sym e)
-        (same-refl (complex_in slot.base))
 
 -- twice the coboundary is zero at the base of a reduction of a sheaf
 pub base-closed : (sheaf : SheafData Field) (slot here : SlotValue Field) → here ≡ slot → IsSheafReduction sheaf slot

@@ -389,7 +389,7 @@ reply-step scripts start c i p slot q r comes there is right h =
     } in record {
       state = after;
       legal = leads-more (SoloStep K scripts) p.events (Reply c r) (first_state start) h.state after h.legal
-          (reply, good.composite);
+          (reply, good.choices);
       current = h.current;
       current_sheaf = h.current_sheaf;
       field = h.field;
@@ -490,6 +490,8 @@ session_command dims (commands.Change edit) few = few
 session_command dims (commands.Ask queries.Betti) can = tt
 session_command dims (commands.Ask queries.Reduce) can = tt
 session_command dims (commands.Ask queries.Equiv) can = tt
+session_command dims (commands.Ask (queries.Basis k)) can = can
+session_command dims (commands.Ask (queries.Class k z)) can = can
 session_command dims (commands.Ask q) can = absurd can
 
 pub session_commands : (dims : List ℕ) (scripts : List (List Command)) → AreServable dims scripts

@@ -11,9 +11,7 @@ use Rattle.pair_commit.specs.Slots.{SlotValue}
 use Rattle.first_reduction.specs.FirstPairs.{IsFirstReduction}
 use Rattle.sheaf_data.specs.Sheaves.{SheafData}
 use Rattle.sheaf_data.specs.Betti.{cochain_complex_of, degree_count}
-use Rattle.sheaf_data.specs.BettiNumbers.{AreBetti}
 use Rattle.sheaf_words.specs.declared.query.Query.{Query}
-use Rattle.sheaf_words.specs.declared.query.Query.TheVariants.{Betti, Reduce, Equiv}
 use Rattle.sheaf_words.specs.declared.query.Command.{Command}
 use Rattle.sheaf_words.specs.declared.query.Command.TheVariants.{Change, Ask}
 use Rattle.sheaf_words.specs.declared.edit.Edit.{Edit}
@@ -26,7 +24,8 @@ use Rattle.edit_versions.specs.Verdicts.{IsVerdict, IsEdited}
 use Rattle.core_machine.specs.Replies.{Reduction, IsRightReply}
 use Rattle.core_machine.specs.Machine.{State, Lane, free_lane, waiting_lane, with_lane, Leads}
 use Rattle.core_machine.specs.Legal.{first_state}
-use Rattle.core_machine.specs.Solo.{SoloStep, HasCompositeMaps}
+use Rattle.core_machine.specs.Solo.{SoloStep, HasSoloChoices}
+use Rattle.query_answers.specs.Answers.{IsAnswered}
 
 -- the current sheaf and the number of its version; its reduction, if it was asked; and what has happened
 pub record Progress : Type 0 where
@@ -34,10 +33,6 @@ pub record Progress : Type 0 where
   pub version : ℕ
   pub slot : Option (SlotValue Field)
   pub events : List Event
-
--- the numbers, if they are known, are the Betti numbers of the sheaf
-abbrev pub AreKnown : SheafData Field → Option (List ℕ) → Type 0
-AreKnown sheaf numbers = IfSome numbers (AreBetti (ops_of sheaf.field) sheaf.complex sheaf.stalks sheaf.blocks)
 
 -- the slot has reduced the start complex of the sheaf by the first pair each time, until no pair can be removed
 pub record IsSheafReduction (sheaf : SheafData Field) (slot : SlotValue Field) : Type 0 where
@@ -56,17 +51,10 @@ removed_pairs (Some slot) = Some (pairs_of slot.log)
 abbrev pub pair_events : ℕ → List (ℕ × ℕ) → List Event
 pair_events version pairs = map (λ p. Pair version p.0 p.1) pairs
 
--- a question that a session answers
-abbrev pub IsSoloQuery : Query → Type 0
-IsSoloQuery Betti = Unit {0}
-IsSoloQuery Reduce = Unit {0}
-IsSoloQuery Equiv = Unit {0}
-IsSoloQuery query = ⊥
-
--- a command that a session serves: an edit of at most 1,000,000,000 changes, or a question that it answers
+-- a command that a session serves: an edit of at most 1,000,000,000 changes, or a question that is answered
 abbrev pub IsSessionCommand : Command → Type 0
 IsSessionCommand (Change edit) = length edit.sets ≤ 1000000000
-IsSessionCommand (Ask query) = IsSoloQuery query
+IsSessionCommand (Ask query) = IsAnswered query
 
 -- after an edit that was accepted: the edited sheaf is one version more, which was not asked
 pub record IsNextVersion (old : Progress) (edit : Edit) (new : Progress) : Type 0 where
@@ -123,10 +111,10 @@ IsWaiting scripts start c i p =
     IsReachedBy scripts start (with_lane (λ d. free_lane (position_of scripts c i d)) c (waiting_lane i p.version))
     (Some (unwrap_or (removed_pairs p.slot) [])) p
 
--- the reply is right for the question on the version, with the maps of the composite
+-- the reply is right for the question on the version, with each choice that of a solo order
 pub record IsSoloReply (sheaf : SheafData Field) (slot : SlotValue Field) (query : Query) (reply : Reply) : Type 0 where
   pub right : IsRightReply (ops_of sheaf.field) (version_reduction sheaf slot) query reply
-  pub composite : HasCompositeMaps (ops_of sheaf.field) (version_reduction sheaf slot) reply
+  pub choices : HasSoloChoices (ops_of sheaf.field) (version_reduction sheaf slot) query reply
 
 -- the version has been reduced
 pub record HasReduction (p : Progress) : Type 0 where

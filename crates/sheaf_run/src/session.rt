@@ -3,13 +3,12 @@ ghost use Rattle.std.specs.Prelude.{IfOk, OnOk, All};
 ghost use Rattle.field_table.specs.Table.{ops_of};
 ghost use Rattle.field_table.specs.declared.field.Field.{Field as FieldValue};
 ghost use Rattle.sheaf_data.specs.Sheaves.{SheafData};
-ghost use Rattle.sheaf_data.specs.BettiNumbers.{AreBetti};
 ghost use Rattle.sheaf_words.specs.declared.query.Command.{Command as CommandValue};
 ghost use Rattle.sheaf_words.specs.declared.query.Command.TheVariants.{Change, Ask};
-ghost use Rattle.sheaf_words.specs.declared.query.Query.TheVariants.{Reduce, Equiv};
 ghost use Rattle.core_machine.specs.Machine.{command_at, IsLegalAndWhole};
 ghost use Rattle.core_machine.specs.Solo.{IsSoloOrder};
-ghost use Rattle.sheaf_run.specs.Sessions.{IsSessionCommand, IsSoloQuery, IsSoloAnswer, IsJudged, HasReduction};
+ghost use Rattle.query_answers.specs.Answers.{IsAnswered};
+ghost use Rattle.sheaf_run.specs.Sessions.{IsSessionCommand, IsSoloAnswer, IsJudged, HasReduction};
 ghost use Rattle.sheaf_run.specs.Sessions.{IsProgress, IsReducedFrom};
 
 use crate::reduction::{push_pairs, reduction};
@@ -17,11 +16,9 @@ use coboundary::start_is_cochain_complex;
 use dense_blocks::Listed;
 use edit_versions::{EditFault, apply};
 use field_table::Field;
-use pair_commit::Slot;
-use plain_betti::{betti, degree_count};
-use query_answers::{maps, reduced};
+use query_answers::{Answerer, degree_count};
 use sheaf_data::Sheaf;
-use sheaf_words::{Command, Edit, Event, Numbers, Query, Reply, Verdict, copy_values};
+use sheaf_words::{Command, Edit, Event, Query, Reply, Verdict};
 use std::alloc::{AllocError as NoMemory, Global};
 use std::marker::Model;
 
@@ -31,21 +28,19 @@ struct Session {
     sheaf: Sheaf<Field>,
     /// The number of the sheaf's version: so many edits were accepted.
     version: u32,
-    /// The reduction of the sheaf, once it was asked.
-    slot: Option<Slot<Field>>,
-    /// The Betti numbers of the sheaf, once they were asked.
-    numbers: Option<Numbers>,
+    /// The reduction of the sheaf, which answers questions, once it was asked.
+    answerer: Option<Answerer<Field>>,
     events: Vec<Event>,
 }
 
 impl Model for Session {
-    ghost use Rattle.sheaf_run.specs.Sessions.{Progress, AreKnown, IsKnownReduction};
+    ghost use Rattle.sheaf_run.specs.Sessions.{Progress, IsKnownReduction};
 
     ghost Value = { Progress };
 
-    ghost view = { λ s. record { sheaf = s.sheaf; version = s.version; slot = s.slot; events = s.events.items } };
+    ghost view = { λ s. record { sheaf = s.sheaf; version = s.version; slot = s.answerer; events = s.events.items } };
 
-    ghost invariant = { λ s. AreKnown s.sheaf s.numbers × IsKnownReduction s.sheaf s.slot };
+    ghost invariant = { λ s. IsKnownReduction s.sheaf s.answerer };
 }
 
 impl Session {
@@ -56,28 +51,12 @@ impl Session {
         Session {
             sheaf,
             version: 0,
-            slot: None,
-            numbers: None,
+            answerer: None,
             events: Vec::new(alloc),
         }
     }
 
-    /// The Betti numbers of the sheaf as it is. They are computed once for each version that is asked.
-    fn numbers(&mut self, alloc: Global) -> Result<Numbers, NoMemory>
-        ensures same { self.new ≡ self.old }
-        ensures numbers { IfOk result (AreBetti (ops_of self.old.sheaf.field)
-            self.old.sheaf.complex self.old.sheaf.stalks self.old.sheaf.blocks) }
-    {
-        if let Some(numbers) = &self.numbers {
-            return copy_values(alloc, numbers);
-        }
-        let numbers = Listed::of(betti(alloc, self.sheaf.draft())?);
-        let copy = copy_values(alloc, &numbers)?;
-        self.numbers = Some(numbers);
-        Ok(copy)
-    }
-
-    /// Makes the edit, or refuses it; gives the verdict. Numbers and reduction stay with the version.
+    /// Makes the edit, or refuses it; gives the verdict. The reduction stays with the version.
     fn edit_verdict(&mut self, alloc: Global, edit: &Edit) -> Result<Verdict, NoMemory>
         requires few { length edit.now.sets ≤ 1000000000 }
         requires room { self.old.version < 4096 }
@@ -87,8 +66,7 @@ impl Session {
         match apply(alloc, &mut self.sheaf, edit) {
             Ok(()) => {
                 self.version += 1;
-                self.slot = None;
-                self.numbers = None;
+                self.answerer = None;
                 Ok(Verdict::Accepted)
             }
             Err(EditFault::Refused(cause)) => Ok(Verdict::Refused(cause)),
@@ -116,61 +94,34 @@ impl Session {
         ensures known { OnOk result (HasReduction self.new) }
         ensures version { self.new.version ≡ self.old.version }
     {
-        if self.slot.is_some() {
+        if self.answerer.is_some() {
             return Ok(());
         }
         let slot = reduction(alloc, &self.sheaf)?;
         push_pairs(&mut self.events, self.version, slot.log())?;
-        self.slot = Some(slot);
+        self.answerer = Some(Answerer::new(slot));
         Ok(())
     }
 
     /// The answer to a question on the version that stands, which was reduced.
     fn reply(&mut self, alloc: Global, query: &Query) -> Result<Reply, NoMemory>
-        requires query { IsSoloQuery query.now }
+        requires query { IsAnswered query.now }
         requires reduced { HasReduction self.old }
         ensures same { self.new ≡ self.old }
         ensures right { IfOk result (IsSoloAnswer self.old query.now) }
     {
-        match query {
-            Query::Betti => Ok(Reply::Betti(self.numbers(alloc)?)),
-            Query::Equiv => self.equivalence_reply(alloc),
-            _ => self.reduced_reply(alloc),
-        }
-    }
-
-    /// The pairs that were removed from the version that stands, and what they leave.
-    fn reduced_reply(&self, alloc: Global) -> Result<Reply, NoMemory>
-        requires { HasReduction self.now }
-        ensures { IfOk result (IsSoloAnswer self.now Reduce) }
-    {
-        let degrees = degree_count(self.sheaf.draft().complex.dims()) as u8;
-        let Some(slot) = &self.slot else {
-            unreachable!()
-        };
-        Ok(Reply::Reduce(reduced(alloc, slot, degrees)?))
-    }
-
-    /// What the pairs that were removed from the version that stands leave, and the maps between the whole complex and
-    /// that.
-    fn equivalence_reply(&self, alloc: Global) -> Result<Reply, NoMemory>
-        requires { HasReduction self.now }
-        ensures { IfOk result (IsSoloAnswer self.now Equiv) }
-    {
         // This call is made for its clauses alone.
         start_is_cochain_complex();
         let degrees = degree_count(self.sheaf.draft().complex.dims()) as u8;
-        let Some(slot) = &self.slot else {
+        let Some(answerer) = &mut self.answerer else {
             unreachable!()
         };
-        let complex = reduced(alloc, slot, degrees)?;
-        let maps = maps(alloc, slot, degrees)?;
-        Ok(Reply::Equiv(complex, maps))
+        answerer.reply(alloc, degrees, query)
     }
 
     /// Asks the question that the client comes to, and answers it.
     fn answer(&mut self, alloc: Global, client: u32, query: &Query) -> Result<(), NoMemory>
-        requires { IsSoloQuery query.now }
+        requires { IsAnswered query.now }
         ensures progress { OnOk result ((scripts : List (List CommandValue)) (start : SheafData FieldValue) (i : ℕ)
             → command_at scripts client i ≡ Some (Ask query.now)
             → IsProgress scripts start client i self.old → IsProgress scripts start client (i + 1) self.new) }
