@@ -1,5 +1,7 @@
 -- An answer out of a slot is a right reply, with the choices of a solo order.
-use Rattle.std.proofs.Common.{◌≡◌, ℕ, [], ◌∷◌, Some, refl, sym, subst, All}
+use Rattle.std.proofs.Common.{◌≡◌, ◌∙◌, ℕ, [], ◌∷◌, Some, Result, Ok, Err, refl, sym, subst, All}
+use Rattle.std.specs.Prelude.{IfOk}
+use Rattle.std.proofs.lemmas.Option.{same_Some}
 use Rattle.dense_blocks.specs.Field.{Ops}
 use Rattle.field_table.specs.declared.field.Field.{Field}
 use Rattle.field_table.specs.Table.{ops_of}
@@ -26,7 +28,8 @@ use Rattle.core_machine.specs.Machine.{State, IsReductionOf, free_lane}
 use Rattle.core_machine.specs.Solo.{HasSoloChoices}
 use Rattle.core_machine.proofs.ReplyLaws.{right-for}
 use Rattle.query_answers.specs.Answers.{IsAnswerIn}
-use Rattle.sheaf_run.specs.Sessions.{IsSheafReduction, IsSoloReply, version_reduction}
+use Rattle.sheaf_run.specs.Sessions.{Progress, IsSheafReduction, HasReduction, IsSoloReply, IsSoloAnswer}
+use Rattle.sheaf_run.specs.Sessions.{version_reduction}
 use Rattle.sheaf_run.proofs.DegreeLaws.{HasDegreeBelow, degrees-below}
 
 -- an answer out of the slot is right for the question on the version
@@ -68,6 +71,16 @@ answer-right sheaf slot here degrees query reply e is d complex sheaf-is answer 
       removed = refl;
       rest = reduction-after K (complex_in slot.base) (complex_in slot.present) (pairs_of slot.log) is.reduction;
     }
+
+-- and so is each that is given
+pub solo-answers : {E : Type 0} (p : Progress) (h : HasReduction p) (here : SlotValue Field) (degrees : ℕ) (query : Query)
+    (r : Result Answer E) → Some here ≡ p.slot → degrees ≡ degree_count p.sheaf.complex.dims → IsComplex p.sheaf.complex
+    → IsSheaf (ops_of p.sheaf.field) p.sheaf.complex p.sheaf.stalks p.sheaf.blocks
+    → IfOk r (IsAnswerIn (ops_of here.f) degrees here query) → IfOk r (IsSoloAnswer p query)
+solo-answers p h here degrees query (Err e) is d complex sheaf answer = tt
+solo-answers p h here degrees query (Ok reply) is d complex sheaf answer = λ slot there field.
+    answer-right p.sheaf slot here degrees query reply (same_Some here slot (is ∙ there))
+    (subst (IsSheafReduction p.sheaf) (same_Some h.slot slot (sym h.there ∙ there)) h.reduction) d complex sheaf answer
 
 -- the live cells of a start complex have degrees below the number of degrees
 pub live-degrees : (sheaf : SheafData Field) (slot here : SlotValue Field) (degrees : ℕ) → here ≡ slot
