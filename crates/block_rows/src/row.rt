@@ -1,7 +1,7 @@
 ghost use Rattle.std.specs.Prelude.{◌≡◌, ◌==◌, ◌<◌, ℕ, [], None, Some, if◌then◌else◌, length, map, replicate};
 ghost use Rattle.std.specs.Prelude.{slice_index};
 ghost use Rattle.std.specs.Prelude.{option_copied, option_map, OnOk, OnErr, IfOk, IfSome};
-ghost use Rattle.rising_lists.specs.Rising.{IsRising, IsLine, has, keys, entry, entry_after};
+ghost use Rattle.rising_lists.specs.Rising.{IsRising, IsLine, has, keys, entry, entry_after, nonzero_entry};
 ghost use Rattle.block_rows.specs.BlockRows.{block_or, scalar_block};
 
 use crate::scalar_blocks::ScalarBlocks;
@@ -101,6 +101,11 @@ impl Row {
         Ok(())
     }
 
+    /// The entries alone, for their room.
+    pub fn into_spare(self) -> Line<u8> {
+        self.entries
+    }
+
     /// Equal blocks by cell.
     pub fn copy(&self, alloc: Global) -> Result<Row, NoMemory>
         ensures { IfOk result (λ r. r ≡ self.now) }
@@ -117,16 +122,17 @@ impl Row {
     pub fn with_entries(
         &self,
         alloc: Global,
+        spare: Line<u8>,
         listed: &[(u32, u8)],
-        entries: Vec<Option<u8>>,
+        entries: &[u8],
     ) -> Result<Row, NoMemory>
         requires rising { IsRising (keys listed.now) }
-        requires full { length entries.items ≡ length listed.now }
-        ensures { IfOk result (λ r. (q : ℕ) → entry r q
-            ≡ entry_after (keys listed.now) (map (option_map scalar_block) entries.items) (entry self.now q) q) }
+        requires full { length entries.now ≡ length listed.now }
+        ensures { IfOk result (λ r. (q : ℕ) → entry r q ≡ entry_after (keys listed.now)
+            (map (option_map scalar_block) (map nonzero_entry entries.now)) (entry self.now q) q) }
     {
         Ok(Row {
-            entries: self.entries.with_copied(alloc, listed, entries.as_slice())?,
+            entries: self.entries.with_entries(spare, listed, entries)?,
             larger: without(alloc, &self.larger, listed)?,
         })
     }

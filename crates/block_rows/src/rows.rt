@@ -6,9 +6,10 @@ ghost use Rattle.block_rows.specs.BlockRows.{scalar_block};
 use crate::row::Row;
 use crate::scalar_blocks::ScalarBlocks;
 use dense_blocks::Block;
-use rising_lists::place;
+use rising_lists::{Spares, place};
 use std::alloc::{AllocError as NoMemory, Global};
 use std::marker::Model;
+use std::mem::replace;
 
 /// For each of some cells a row of blocks; the cells are in rising order.
 #[derive(Debug, Drop)]
@@ -141,8 +142,18 @@ impl Rows {
         }
     }
 
-    /// Puts other rows at the listed cells, one for each.
-    pub fn install(&mut self, listed: &[(u32, u8)], mut rows: Vec<Row>)
+    /// Puts another row at a cell that has one, and gives that.
+    fn replace_row(&mut self, c: u32, row: Row) -> Row
+        requires { has c self.old.cells ≡ true }
+        ensures cells { self.new.cells ≡ self.old.cells }
+        ensures lines { (k : ℕ) → line_of self.new k ≡ (if k == c then row else line_of self.old k) }
+    {
+        let at = place(&self.cells, c).unwrap();
+        replace(&mut self.rows[at], row)
+    }
+
+    /// Puts other rows at the listed cells, one for each; keeps the lines of those that stood there.
+    pub fn install(&mut self, listed: &[(u32, u8)], mut rows: Vec<Row>, spares: &mut Spares<u8>)
         requires full { length rows.items ≡ length listed.now }
         requires within { (c : ℕ) → has c (keys listed.now) ≡ true → has c self.old.cells ≡ true }
         ensures cells { self.new.cells ≡ self.old.cells }
@@ -151,7 +162,8 @@ impl Rows {
     {
         while let Some(row) = rows.pop() {
             let at = rows.as_slice().len();
-            self.put_row(listed[at].0, row);
+            let old = self.replace_row(listed[at].0, row);
+            spares.keep(old.into_spare());
         }
     }
 

@@ -1,15 +1,22 @@
 -- The parts of a row of a matrix at cells of size 1.
 use Rattle.std.proofs.Common.{◌≡◌, ℕ, zero, suc, ◌<◌, ◌≤◌, Bool, true, false, ◌&&◌, cond, refl, sym, ap, ap₂, ◌∙◌}
 use Rattle.std.proofs.Common.{subst, arith, List, [], ◌∷◌, length, map, take, drop, get_or, Option, None, Some, All}
-use Rattle.std.proofs.Common.{eqb}
+use Rattle.std.proofs.Common.{eqb, ◌+◌, ◌*◌}
 use Rattle.std.proofs.Common.{drop-cons, inl, inr}
 use Rattle.std.proofs.lemmas.Bool.{cases_eq, eq-eqb, ne_eqb}
-use Rattle.std.proofs.lemmas.List.{get_or-take, get_or-map, length-map, length-take-le}
+use Rattle.std.proofs.lemmas.List.{get_or-take, get_or-drop, get_or-map, length-map, length-drop, length-take-le}
+use Rattle.std.proofs.lemmas.Nat.{row_fits}
 use Rattle.std.specs.Option.{option_map}
 use Rattle.dense_blocks.specs.declared.block.Block.{Block}
+use Rattle.dense_blocks.specs.Blocks.{matrix_of}
+use Rattle.dense_blocks.proofs.BlockLaws.{block-size}
+use Rattle.dense_blocks.proofs.Cutting.{cut-row}
+use Rattle.open_columns.specs.declared.mark.Mark.{Mark}
+use Rattle.rising_lists.specs.Rising.{nonzero_entry, value_if, strided}
+use Rattle.rising_lists.proofs.MergeLaws.{value-fresh, strided-count, strided-at}
 use Rattle.block_rows.specs.BlockRows.{scalar_block}
 use Rattle.block_sparse.specs.StoredBlocks.{is_zero}
-use Rattle.block_sparse.specs.Fresh.{nonzero_entry}
+use Rattle.block_sparse.specs.Fresh.{mark_of}
 use Rattle.block_sparse.specs.Grids.{width, window, IsPart}
 
 pub scalar-width : (left : List (ℕ × ℕ)) → All (λ l. l.1 ≡ 1) left → (i : ℕ) → i ≤ length left
@@ -106,3 +113,45 @@ module _ (A : List (List ℕ)) (row : ℕ) (left : List (ℕ × ℕ)) (scalar : 
       (subst (λ p. IsPart p 1 1 (window row 1 i 1 A)) (sym (part-at i l))
       (subst (IsPart (option_map scalar_block (nonzero_entry (get_or (get_or A row []) i 0))) 1 1)
       (sym (scalar-window A row i inside (omega (arith, l, long)))) (scalar-part (get_or (get_or A row []) i 0)))))
+
+-- what a column notes of a block without a flag that has one entry
+abbrev pub scalar_mark : Mark
+scalar_mark = record { flagged = false; square = true }
+
+-- what a column notes of the entries of a column of a matrix
+abbrev pub scalar_marks : Block → ℕ → List (ℕ × ℕ) → List (Option Mark)
+scalar_marks b col below = map (value_if scalar_mark) (strided b.entries col b.cols (length below))
+
+module _ (b : Block) (col : ℕ) (below : List (ℕ × ℕ)) (scalar : All (λ l. l.1 ≡ 1) below)
+    (tall : length below ≤ b.rows) (inside : col + 1 ≤ b.cols) where
+  pub marks-count : length (scalar_marks b col below) ≡ length below
+  marks-count = length-map (strided b.entries col b.cols (length below)) (value_if scalar_mark)
+      ∙ strided-count b.entries col b.cols (length below)
+
+  pub marks-are : (j : ℕ) → j < length below → get_or (scalar_marks b col below) j None
+      ≡ mark_of (get_or below j (0, 0)).1 1
+      (window (width (take j below)) (get_or below j (0, 0)).1 col 1 (matrix_of b))
+  marks-are j l =
+      let size : (get_or below j (0, 0)).1 ≡ 1 = scalar j (0, 0) l in
+      let at : width (take j below) ≡ j = scalar-width below scalar j (omega arith) in
+      let row_is : get_or (matrix_of b) j [] ≡ take b.cols (drop (j * b.cols) b.entries) =
+      cut-row b.rows b.cols b.entries j (omega (arith, l, tall)) in
+      let entry_is : get_or (get_or (matrix_of b) j []) col 0 ≡ get_or b.entries (col + j * b.cols) 0 =
+      ap (λ r. get_or r col 0) row_is
+      ∙ get_or-take b.cols (drop (j * b.cols) b.entries) col 0 (omega (arith, inside))
+      ∙ get_or-drop (j * b.cols) b.entries col 0
+      ∙ (let e : j * b.cols + col ≡ col + j * b.cols = omega arith in ap (λ k. get_or b.entries k 0) e) in
+      let high : j < length (matrix_of b) = omega (arith, l, tall, block-size b) in
+      let room : j * b.cols + b.cols ≤ b.rows * b.cols =
+      row_fits j b.cols b.rows b.cols (omega (arith, l, tall)) (omega arith) in
+      let left : b.cols ≤ length (drop (j * b.cols) b.entries) =
+      omega (arith, length-drop (j * b.cols) b.entries, b.full, room) in
+      let wide : col < length (get_or (matrix_of b) j []) =
+      omega (arith, inside, ap length row_is, length-take-le b.cols (drop (j * b.cols) b.entries) left) in
+      value-fresh (value_if scalar_mark) (strided b.entries col b.cols (length below)) j _ (omega (
+        arith,
+        l,
+        strided-count b.entries col b.cols (length below),
+      )) (ap (value_if scalar_mark) (strided-at b.entries col b.cols (length below) j l ∙ sym entry_is))
+      ∙ ap (λ z. cond z None (Some scalar_mark)) (sym (scalar-zero (matrix_of b) j col 1 1 refl refl high wide))
+      ∙ ap₂ (λ n h. mark_of h 1 (window n h col 1 (matrix_of b))) (sym at) (sym size)

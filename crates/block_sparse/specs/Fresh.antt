@@ -11,10 +11,6 @@ use Rattle.block_sparse.specs.Grids.{width, window, IsPart}
 abbrev pub mark_of : ℕ → ℕ → List (List ℕ) → Option Mark
 mark_of h w A = if is_zero A then None else Some (record { flagged = false; square = h == w })
 
--- the entry, if it is not 0
-abbrev pub nonzero_entry : ℕ → Option ℕ
-nonzero_entry e = if e == 0 then None else Some e
-
 -- a row of blocks once the parts of h rows of a matrix have come in at the listed cells
 pub record IsFreshRow (A : List (List ℕ)) (row h : ℕ) (left : List (ℕ × ℕ)) (old new : ByCell Block) : Type 0 where
   pub parts : List (Option Block)

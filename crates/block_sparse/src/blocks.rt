@@ -16,6 +16,7 @@ use crate::parts::scalar_at;
 use block_rows::{Row, Rows, ScalarBlocks};
 use dense_blocks::Block;
 use open_columns::{Columns, Mark};
+use rising_lists::{Line, Spares};
 use std::alloc::{AllocError as NoMemory, Global};
 use std::marker::Model;
 
@@ -28,6 +29,8 @@ pub struct Blocks {
     live: LiveCells,
     rows: Rows,
     columns: Columns,
+    row_spares: Spares<u8>,
+    column_spares: Spares<Mark>,
 }
 
 impl Model for Blocks {
@@ -68,6 +71,8 @@ impl Blocks {
             live: LiveCells::of(alloc, live)?,
             rows: Rows::of_cells(alloc, &cells)?,
             columns: Columns::of_cells(alloc, &cells)?,
+            row_spares: Spares::new(alloc),
+            column_spares: Spares::new(alloc),
         })
     }
 
@@ -79,6 +84,8 @@ impl Blocks {
             live: self.live.copy(alloc)?,
             rows: self.rows.copy(alloc)?,
             columns: self.columns.copy(alloc)?,
+            row_spares: Spares::new(alloc),
+            column_spares: Spares::new(alloc),
         })
     }
 
@@ -223,10 +230,12 @@ impl Blocks {
         ensures err { OnErr result (self.new ≡ self.old) }
     {
         let alloc = self.live.allocator();
-        let rows = fresh_rows(alloc, &self.rows, left, below, joined)?;
-        let columns = fresh_columns(alloc, &self.columns, left, below, joined)?;
-        self.rows.install(below, rows);
-        self.columns.install(left, columns);
+        let row_spares = &mut self.row_spares;
+        let column_spares = &mut self.column_spares;
+        let rows = fresh_rows(alloc, row_spares, &self.rows, left, below, joined)?;
+        let columns = fresh_columns(alloc, column_spares, &self.columns, left, below, joined)?;
+        self.rows.install(below, rows, row_spares);
+        self.columns.install(left, columns, column_spares);
         Ok(())
     }
 
@@ -356,7 +365,7 @@ impl Blocks {
         let column = self
             .columns
             .line(s)
-            .with_copied(alloc, &[(t, 1)], &[Some(mark)])?;
+            .with_value(Line::new(alloc), &[(t, 1)], mark, &[1], 0, 1)?;
         self.rows.push_entry(t, s, entry)?;
         self.columns.put_line(s, column);
         Ok(())

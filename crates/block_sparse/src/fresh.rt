@@ -8,12 +8,13 @@ use crate::parts::{are_scalar, column_marks, row_entries, row_parts};
 use block_rows::{Row, Rows};
 use dense_blocks::Block;
 use open_columns::{Columns, Mark};
-use rising_lists::Line;
+use rising_lists::{Line, Spares};
 use std::alloc::{AllocError as NoMemory, Global};
 
 /// A row of blocks once the parts of some rows of a matrix have come in at the listed cells.
 fn fresh_row(
     alloc: Global,
+    spares: &mut Spares<u8>,
     old: &Row,
     left: &[(u32, u8)],
     joined: &Block,
@@ -26,7 +27,7 @@ fn fresh_row(
     ensures { IfOk result (λ l. IsFreshRow (matrix_of joined.now) row height left.now old.now l) }
 {
     if height == 1 && are_scalar(left) {
-        row_of_entries(alloc, old, left, joined, row)
+        row_of_entries(alloc, spares, old, left, joined, row)
     } else {
         row_of_blocks(alloc, old, left, joined, row, height)
     }
@@ -35,6 +36,7 @@ fn fresh_row(
 /// The same for one row of a matrix and cells of size 1.
 fn row_of_entries(
     alloc: Global,
+    spares: &mut Spares<u8>,
     old: &Row,
     left: &[(u32, u8)],
     joined: &Block,
@@ -46,8 +48,8 @@ fn row_of_entries(
     requires cols { width left.now ≤ joined.now.cols }
     ensures { IfOk result (λ l. IsFreshRow (matrix_of joined.now) row 1 left.now old.now l) }
 {
-    let entries = row_entries(alloc, joined, row, left.len())?;
-    let fresh = old.with_entries(alloc, left, entries)?;
+    let entries = row_entries(joined, row, left.len());
+    let fresh = old.with_entries(alloc, spares.take(alloc), left, entries)?;
     Ok(fresh)
 }
 
@@ -72,6 +74,28 @@ fn row_of_blocks(
 /// A column once the parts of some columns of a matrix have been noted at the listed cells.
 fn fresh_column(
     alloc: Global,
+    spares: &mut Spares<Mark>,
+    old: &Line<Mark>,
+    below: &[(u32, u8)],
+    joined: &Block,
+    col: u32,
+    size: u8,
+) -> Result<Line<Mark>, NoMemory>
+    requires rising { IsRising (keys below.now) }
+    requires cols { col + size ≤ joined.now.cols }
+    requires rows { width below.now ≤ joined.now.rows }
+    ensures { IfOk result (λ l. IsFreshColumn (matrix_of joined.now) col size below.now old.now l) }
+{
+    if size == 1 && are_scalar(below) {
+        column_of_entries(spares.take(alloc), old, below, joined, col)
+    } else {
+        column_of_blocks(alloc, old, below, joined, col, size)
+    }
+}
+
+/// The same for cells of any size.
+fn column_of_blocks(
+    alloc: Global,
     old: &Line<Mark>,
     below: &[(u32, u8)],
     joined: &Block,
@@ -84,13 +108,44 @@ fn fresh_column(
     ensures { IfOk result (λ l. IsFreshColumn (matrix_of joined.now) col size below.now old.now l) }
 {
     let marks = column_marks(alloc, joined, col, size, below)?;
-    let fresh = old.with_copied(alloc, below, marks.as_slice())?;
+    let fresh = old.with_fresh(alloc, below, marks)?;
+    Ok(fresh)
+}
+
+/// The same for one column of a matrix and cells of size 1.
+fn column_of_entries(
+    spare: Line<Mark>,
+    old: &Line<Mark>,
+    below: &[(u32, u8)],
+    joined: &Block,
+    col: u32,
+) -> Result<Line<Mark>, NoMemory>
+    requires rising { IsRising (keys below.now) }
+    requires scalar { All (λ l. l.1 ≡ 1) below.now }
+    requires cols { col + 1 ≤ joined.now.cols }
+    requires rows { width below.now ≤ joined.now.rows }
+    ensures { IfOk result (λ l. IsFreshColumn (matrix_of joined.now) col 1 below.now old.now l) }
+{
+    let mark = Mark {
+        flagged: false,
+        square: true,
+    };
+    let entries = joined.entries.as_slice();
+    let fresh = old.with_value(
+        spare,
+        below,
+        mark,
+        entries,
+        col as usize,
+        joined.cols as usize,
+    )?;
     Ok(fresh)
 }
 
 /// The rows of the cells below once a joined matrix has come in.
 pub(crate) fn fresh_rows(
     alloc: Global,
+    spares: &mut Spares<u8>,
     rows: &Rows,
     left: &[(u32, u8)],
     below: &[(u32, u8)],
@@ -110,7 +165,7 @@ pub(crate) fn fresh_rows(
         // The loop's invariant names the place.
         let _at = j;
         let height = cell.1;
-        fresh.push(fresh_row(alloc, rows.row(cell.0), left, joined, row, height)?)?;
+        fresh.push(fresh_row(alloc, spares, rows.row(cell.0), left, joined, row, height)?)?;
         row += u32::from(height);
     }
     Ok(fresh)
@@ -119,6 +174,7 @@ pub(crate) fn fresh_rows(
 /// The columns of the cells on the left once a joined matrix has come in.
 pub(crate) fn fresh_columns(
     alloc: Global,
+    spares: &mut Spares<Mark>,
     columns: &Columns,
     left: &[(u32, u8)],
     below: &[(u32, u8)],
@@ -138,7 +194,15 @@ pub(crate) fn fresh_columns(
         // The loop's invariant names the place.
         let _at = i;
         let size = cell.1;
-        fresh.push(fresh_column(alloc, columns.line(cell.0), below, joined, col, size)?)?;
+        fresh.push(fresh_column(
+            alloc,
+            spares,
+            columns.line(cell.0),
+            below,
+            joined,
+            col,
+            size,
+        )?)?;
         col += u32::from(size);
     }
     Ok(fresh)

@@ -5,7 +5,7 @@ ghost use Rattle.dense_blocks.specs.Blocks.{matrix_of};
 ghost use Rattle.dense_blocks.specs.BlockFacts.{IsBlock};
 ghost use Rattle.block_sparse.specs.StoredBlocks.{is_zero};
 ghost use Rattle.block_sparse.specs.Grids.{width, window, IsPart};
-ghost use Rattle.block_sparse.specs.Fresh.{mark_of, nonzero_entry};
+ghost use Rattle.block_sparse.specs.Fresh.{mark_of};
 
 use dense_blocks::{Block, Entries};
 use open_columns::Mark;
@@ -116,28 +116,14 @@ pub(crate) fn are_scalar(listed: &[(u32, u8)]) -> bool
     listed.iter().all(|l| l.1 == 1)
 }
 
-/// The first `count` entries of a row of a matrix; none for each that is 0.
-pub(crate) fn row_entries(
-    alloc: Global,
-    joined: &Block,
-    row: u32,
-    count: usize,
-) -> Result<Vec<Option<u8>>, NoMemory>
+/// The first `count` entries of a row of a matrix.
+pub(crate) fn row_entries(joined: &Block, row: u32, count: usize) -> &[u8]
     requires row { row < joined.now.rows }
     requires cols { count ≤ joined.now.cols }
-    ensures entries { IfOk result
-        (λ es. es.items ≡ map nonzero_entry (take count (slice_index_or (matrix_of joined.now) row []))) }
+    ensures entries { result.now ≡ take count (slice_index_or (matrix_of joined.now) row []) }
     ensures size { length (slice_index_or (matrix_of joined.now) row []) ≡ joined.now.cols }
 {
-    let entries = &joined.row(row)[..count];
-    entries.iter().map(nonzero_entry).collect(alloc)
-}
-
-/// The entry; none where it is 0.
-fn nonzero_entry(entry: &u8) -> Option<u8>
-    ensures { result ≡ nonzero_entry entry.now }
-{
-    if *entry == 0 { None } else { Some(*entry) }
+    &joined.row(row)[..count]
 }
 
 /// The parts of some rows of a matrix, one for each of the cells that its columns belong to.

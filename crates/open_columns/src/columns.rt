@@ -5,7 +5,7 @@ ghost use Rattle.open_columns.specs.Open.{FirstFrom, FirstPair, NoneBelow, is_op
 
 use crate::firsts::Firsts;
 use crate::mark::{First, Mark};
-use rising_lists::{Line, Lines};
+use rising_lists::{Line, Lines, Spares};
 use std::alloc::{AllocError as NoMemory, Global};
 use std::marker::Model;
 
@@ -155,8 +155,25 @@ impl Columns {
         }
     }
 
-    /// Puts other columns at the listed cells, one for each.
-    pub fn install(&mut self, listed: &[(u32, u8)], mut columns: Vec<Line<Mark>>)
+    /// Puts another column at a cell that has one, and gives that.
+    fn replace_line(&mut self, x: u32, column: Line<Mark>) -> Line<Mark>
+        requires { has x self.old.cells ≡ true }
+        ensures cells { self.new.cells ≡ self.old.cells }
+        ensures lines { (k : ℕ) → line_of self.new k ≡ (if k == x then column else line_of self.old k) }
+    {
+        let open = first_from(&column, 0);
+        let old = self.marks.replace_line(x, column);
+        self.firsts.put(x, First { cell: open });
+        old
+    }
+
+    /// Puts other columns at the listed cells, one for each; keeps those that stood there.
+    pub fn install(
+        &mut self,
+        listed: &[(u32, u8)],
+        mut columns: Vec<Line<Mark>>,
+        spares: &mut Spares<Mark>,
+    )
         requires full { length columns.items ≡ length listed.now }
         requires within { (c : ℕ) → has c (keys listed.now) ≡ true → has c self.old.cells ≡ true }
         ensures cells { self.new.cells ≡ self.old.cells }
@@ -165,7 +182,8 @@ impl Columns {
     {
         while let Some(column) = columns.pop() {
             let at = columns.as_slice().len();
-            self.put_line(listed[at].0, column);
+            let old = self.replace_line(listed[at].0, column);
+            spares.keep(old);
         }
     }
 }

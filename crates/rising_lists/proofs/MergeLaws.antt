@@ -3,10 +3,12 @@ use Rattle.std.proofs.Common.{◌≡◌, ◌≢◌, ℕ, zero, suc, ◌<◌, ◌
 use Rattle.std.proofs.Common.{◌∙◌, arith, ◌⊎◌, inl, inr, List, [], ◌∷◌, ◌++◌, length, get_or, drop, Option, Some, None}
 use Rattle.std.proofs.Common.{eqb, subst, length-append, drop-cons, MatchBool}
 use Rattle.std.specs.Option.{unwrap_or, option_map, option_to_list}
-use Rattle.std.proofs.Common.{append-nil, append_assoc, get_or-drop, add-one, take}
+use Rattle.std.proofs.Common.{append-nil, append_assoc, get_or-drop, add-one, take, set, map, ◌*◌}
 use Rattle.std.proofs.lemmas.List.{get_or_push, get_or_append_left, get_or_default, take_more, length-drop}
+use Rattle.std.proofs.lemmas.List.{take_more_set, length-set, get_or-map}
 use Rattle.std.proofs.lemmas.Bool.{eq-eqb, ne_eqb, cases_eq, cases_lt, lt-ltb, le-ltb}
-use Rattle.rising_lists.specs.Rising.{has, look, entry_after, IsRising, IsLine, stands, past, IsNext}
+use Rattle.rising_lists.specs.Rising.{has, look, entry_after, IsRising, IsLine, stands, past, IsNext, IsMerge}
+use Rattle.rising_lists.specs.Rising.{value_if, strided}
 use Rattle.rising_lists.proofs.Keyed.{has-absent, look-absent, look-at, rising_le}
 
 -- the first i cells are below low, and the others are not
@@ -387,12 +389,6 @@ merged-listed {A} old vs listed fresh i j done values rises listed_rises full fr
         ]
     entries (Some x) q = look-push q done values (get_or listed j 0) x m.line.full (m.after (get_or listed j 0) low)
 
--- a line with its cells said otherwise
-pub line-said : {A : Type 0} (done done' : List ℕ) (values : List A) → done ≡ done'
-    → IsLine {A = A} (record { cells = done; values = values })
-    → IsLine {A = A} (record { cells = done'; values = values })
-line-said {A} done done' values e line = subst (λ d. IsLine {A = A} (record { cells = d; values = values })) e line
-
 -- all was merged
 pub merged-all : {A : Type 0} (old : List ℕ) (vs : List A) (listed : List ℕ) (fresh rest : List (Option A)) (i j : ℕ)
     (done : List ℕ) (values : List A)
@@ -407,3 +403,129 @@ merged-all old vs listed fresh rest i j done values m l n q = elim (cases_lt q m
       (has-absent q listed (λ a s e. absurd (omega (arith, m.listed_place.below a (omega arith), e)))))
       (look-absent q old vs (has-absent q old (λ a s e. absurd (omega (arith, m.old_place.below a (omega arith), e))))))
 ]
+
+-- a merge under way: the first k cells and values are those merged so far
+pub record Merging {A : Type 0} (old : List ℕ) (vs : List A) (ks : List ℕ) (fresh : List (Option A)) (i j k : ℕ)
+    (cells : List ℕ) (values : List A) : Type 0 where
+  pub merged : Merged old vs ks fresh (drop j fresh) i j (take k cells) (take k values)
+  pub count : k ≤ i + j
+  pub cell_room : length old + length ks ≤ length cells
+  pub value_room : length old + length ks ≤ length values
+
+pub merging-start : {A : Type 0} (old : List ℕ) (vs : List A) (ks : List ℕ) (fresh : List (Option A)) (cells : List ℕ)
+    (values : List A) → length old + length ks ≤ length cells → length old + length ks ≤ length values
+    → Merging old vs ks fresh 0 0 0 cells values
+merging-start old vs ks fresh cells values c v = record {
+  merged = record {
+    low = 0;
+    old_place = record { within = omega arith; below = λ a l. absurd (omega arith); from = λ a l m. omega arith };
+    listed_place = record { within = omega arith; below = λ a l. absurd (omega arith); from = λ a l m. omega arith };
+    left = refl;
+    line = record { rising = λ a b l m. absurd (omega arith); full = refl };
+    before = λ q l. absurd (omega arith);
+    after = λ q l. refl;
+  };
+  count = omega arith;
+  cell_room = c;
+  value_room = v;
+}
+
+module _ {A : Type 0} (old : List ℕ) (vs : List A) (ks : List ℕ) (fresh : List (Option A)) (i j k : ℕ)
+    (cells : List ℕ) (values : List A) (rises : IsRising old) (ks_rise : IsRising ks) (full : length vs ≡ length old)
+    (fresh_full : length fresh ≡ length ks) (m : Merging old vs ks fresh i j k cells values) where
+  -- a cell that the line keeps
+  pub merging-kept : i < length old → (j < length ks → get_or old i 0 < get_or ks j 0) → (v : A) → v ≡ get_or vs i v
+      → Merging old vs ks fresh (i + 1) j (k + 1) (set cells k (get_or old i 0)) (set values k v)
+  merging-kept l before v is =
+      let here : k < length cells =
+      omega (arith, l, m.count, m.cell_room, m.merged.listed_place.within) in
+      let there : k < length values =
+      omega (arith, l, m.count, m.value_room, m.merged.listed_place.within) in
+      let run = merged-run old vs ks fresh (drop j fresh) i j (take k cells) (take k values) rises ks_rise full
+      fresh_full m.merged 1 (omega (arith, l)) (λ a o p q. let e : i ≡ a = omega (arith, o, p) in
+      subst (λ x. get_or old x 0 < get_or ks j 0) e (before q)) in
+      let one : take 1 (drop i old) ≡ get_or old i 0 ∷ [] = ap (take 1) (drop-cons old i 0 l) in
+      let one_value : take 1 (drop i vs) ≡ v ∷ [] =
+      ap (take 1) (drop-cons vs i v (omega (arith, l, full))) ∙ ap (λ x. x ∷ []) (sym is) in
+      record {
+        merged = subst (Merged old vs ks fresh (drop j fresh) (i + 1) j (take (k + 1) (set cells k (get_or old i 0))))
+            (ap (λ x. take k values ++ x) one_value ∙ sym (take_more_set values k v there))
+            (subst (λ d. Merged old vs ks fresh (drop j fresh) (i + 1) j d (take k values ++ take 1 (drop i vs)))
+            (ap (λ x. take k cells ++ x) one ∙ sym (take_more_set cells k (get_or old i 0) here)) run);
+        count = omega (arith, m.count);
+        cell_room = omega (arith, m.cell_room, length-set cells k (get_or old i 0));
+        value_room = omega (arith, m.value_room, length-set values k v);
+      }
+
+  -- a listed cell with a fresh value
+  pub merging-put : j < length ks → (i < length old → get_or ks j 0 ≤ get_or old i 0) → (v : A)
+      → get_or fresh j None ≡ Some v
+      → Merging old vs ks fresh (past old i (get_or ks j 0)) (j + 1) (k + 1) (set cells k (get_or ks j 0))
+      (set values k v)
+  merging-put l before v is =
+      let here : k < length cells =
+      omega (arith, l, m.count, m.cell_room, m.merged.old_place.within) in
+      let there : k < length values =
+      omega (arith, l, m.count, m.value_room, m.merged.old_place.within) in
+      let next = merged-listed old vs ks fresh i j (take k cells) (take k values) rises ks_rise full fresh_full
+      m.merged l before in
+      record {
+        merged = subst (Merged old vs ks fresh (drop (j + 1) fresh) (past old i (get_or ks j 0)) (j + 1)
+            (take (k + 1) (set cells k (get_or ks j 0))))
+            (ap (λ o. take k values ++ option_to_list o) is ∙ sym (take_more_set values k v there))
+            (subst (λ d. Merged old vs ks fresh (drop (j + 1) fresh) (past old i (get_or ks j 0)) (j + 1) d
+            (take k values ++ option_to_list (get_or fresh j None)))
+            (ap (λ o. take k cells ++ option_to_list (option_map (λ _. get_or ks j 0) o)) is
+            ∙ sym (take_more_set cells k (get_or ks j 0) here)) next);
+        count = omega (arith, m.count, past-on old i (get_or ks j 0));
+        cell_room = omega (arith, m.cell_room, length-set cells k (get_or ks j 0));
+        value_room = omega (arith, m.value_room, length-set values k v);
+      }
+
+  -- a listed cell with none
+  pub merging-none : j < length ks → (i < length old → get_or ks j 0 ≤ get_or old i 0) → get_or fresh j None ≡ None
+      → Merging old vs ks fresh (past old i (get_or ks j 0)) (j + 1) k cells values
+  merging-none l before is =
+      let next = merged-listed old vs ks fresh i j (take k cells) (take k values) rises ks_rise full fresh_full
+      m.merged l before in
+      record {
+        merged = subst (Merged old vs ks fresh (drop (j + 1) fresh) (past old i (get_or ks j 0)) (j + 1) (take k cells))
+            (ap (λ o. take k values ++ option_to_list o) is ∙ append-nil (take k values))
+            (subst (λ d. Merged old vs ks fresh (drop (j + 1) fresh) (past old i (get_or ks j 0)) (j + 1) d
+            (take k values ++ option_to_list (get_or fresh j None)))
+            (ap (λ o. take k cells ++ option_to_list (option_map (λ _. get_or ks j 0) o)) is
+            ∙ append-nil (take k cells)) next);
+        count = omega (arith, m.count, past-on old i (get_or ks j 0));
+        cell_room = m.cell_room;
+        value_room = m.value_room;
+      }
+
+  -- all cells are merged
+  pub merging-done : length old ≤ i → length ks ≤ j → IsMerge old vs ks fresh k cells values
+  merging-done l n = record {
+    line = m.merged.line;
+    entries = merged-all old vs ks fresh (drop j fresh) i j (take k cells) (take k values) m.merged l n;
+  }
+
+-- fresh values by their entries
+pub value-fresh : {A : Type 0} (f : ℕ → Option A) (es : List ℕ) (j : ℕ) (o : Option A) → j < length es
+    → f (get_or es j 0) ≡ o → get_or (map f es) j None ≡ o
+value-fresh f es j o l is = get_or-map f es j 0 None l ∙ is
+
+pub value-there : {A : Type 0} (v : A) (e : ℕ) → e ≢ 0 → value_if v e ≡ Some v
+value-there v e n = ap (λ b. cond b None (Some v)) (ne_eqb e 0 n)
+
+pub value-none : {A : Type 0} (v : A) (e : ℕ) → e ≡ 0 → value_if v e ≡ None
+value-none v e z = ap (λ b. cond b None (Some v)) (eq-eqb e 0 z)
+
+pub strided-count : (xs : List ℕ) (at step n : ℕ) → length (strided xs at step n) ≡ n
+strided-count xs at step zero = refl
+strided-count xs at step (suc n) = ap suc (strided-count xs (at + step) step n)
+
+pub strided-at : (xs : List ℕ) (at step n j : ℕ) → j < n → get_or (strided xs at step n) j 0
+    ≡ get_or xs (at + j * step) 0
+strided-at xs at step zero j l = absurd (omega arith)
+strided-at xs at step (suc n) zero l = let e : at ≡ at + zero * step = omega arith in ap (λ k. get_or xs k 0) e
+strided-at xs at step (suc n) (suc j) l =
+    let e : (at + step) + j * step ≡ at + suc j * step = omega arith in
+    strided-at xs (at + step) step n j (omega arith) ∙ ap (λ k. get_or xs k 0) e

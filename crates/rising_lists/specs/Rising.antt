@@ -1,6 +1,6 @@
 -- Rising lists of cells, and values by cell.
 use Rattle.std.specs.Prelude.{◌≡◌, ◌<◌, ◌==◌, ◌||◌, ℕ, Bool, false, List, [], ◌∷◌, Option, Some, None, ◌&&◌, nat_lt}
-use Rattle.std.specs.Prelude.{◌+◌, ◌≤◌, ◌⊎◌, if◌then◌else◌, length, map, slice_index, unwrap_or}
+use Rattle.std.specs.Prelude.{◌+◌, ◌≤◌, ◌⊎◌, zero, suc, if◌then◌else◌, length, map, take, slice_index, unwrap_or}
 
 -- each cell is less than each later one
 abbrev pub IsRising : List ℕ → Type 0
@@ -47,6 +47,19 @@ keys sized = map (λ s. s.0) sized
 abbrev pub entry_after : {A : Type 0} → List ℕ → List (Option A) → Option A → ℕ → Option A
 entry_after listed fresh had c = unwrap_or (look c listed fresh) had
 
+-- the value, if the entry is not 0
+abbrev pub value_if : {A : Type 0} → A → ℕ → Option A
+value_if v e = if e == 0 then None else Some v
+
+-- the entry, if it is not 0
+abbrev pub nonzero_entry : ℕ → Option ℕ
+nonzero_entry e = if e == 0 then None else Some e
+
+-- n members of a list from a place on, each the same number of places after the one before
+abbrev pub strided : List ℕ → ℕ → ℕ → ℕ → List ℕ
+strided xs at step zero = []
+strided xs at step (suc n) = slice_index xs at ∷ strided xs (at + step) step n
+
 -- whether the cell stands at the place
 abbrev pub stands : List ℕ → ℕ → ℕ → Bool
 stands cells i c = nat_lt i (length cells) && (slice_index cells i == c)
@@ -62,3 +75,9 @@ pub record IsNext (first second : List ℕ) (i j c : ℕ) : Type 0 where
   pub in_second : j < length second → c ≤ slice_index second j
   pub is : ((j < length second) × (slice_index second j ≡ c))
       ⊎ ((i < length first) × (slice_index first i ≡ c) × (j < length second → c < slice_index second j))
+
+-- the first n cells and values of two lists make the line of an old one once the listed cells have got fresh values
+pub record IsMerge {A : Type 0} (old : List ℕ) (vs : List A) (listed : List ℕ) (fresh : List (Option A)) (n : ℕ)
+    (cells : List ℕ) (values : List A) : Type 0 where
+  pub line : IsLine {A = A} (record { cells = take n cells; values = take n values })
+  pub entries : (q : ℕ) → look q (take n cells) (take n values) ≡ entry_after listed fresh (look q old vs) q

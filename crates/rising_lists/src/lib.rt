@@ -6,8 +6,10 @@ mod line;
 mod lines;
 mod merges;
 mod places;
+mod spares;
 
 pub use duplicate::Duplicate;
 pub use line::Line;
 pub use lines::Lines;
 pub use places::place;
+pub use spares::Spares;

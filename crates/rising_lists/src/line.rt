@@ -1,11 +1,11 @@
-ghost use Rattle.std.specs.Prelude.{◌≡◌, ◌==◌, ◌<◌, ◌≤◌, ℕ, [], None, Some, if◌then◌else◌, length, replicate};
-ghost use Rattle.std.specs.Prelude.{slice_index, option_copied, option_map, OnOk, OnErr, IfOk};
-ghost use Rattle.rising_lists.specs.Rising.{IsRising, IsLine, has, keys, look, entry, entry_after};
+ghost use Rattle.std.specs.Prelude.{◌≡◌, ◌==◌, ◌<◌, ◌≤◌, ◌*◌, ℕ, [], None, Some, if◌then◌else◌, length, replicate};
+ghost use Rattle.std.specs.Prelude.{slice_index, option_copied, option_map, map, OnOk, OnErr, IfOk};
+ghost use Rattle.rising_lists.specs.Rising.{IsRising, IsLine, has, keys, look, entry, entry_after, nonzero_entry};
+ghost use Rattle.rising_lists.specs.Rising.{value_if, strided};
 
 use crate::duplicate::Duplicate;
 use crate::merges::{
-    append, append_one, append_run, fresh_at, is_listed, next_cell, next_value, past, past_listed,
-    place_from,
+    append, is_listed, merge_entries, merge_value, next_cell, next_value, past, past_listed,
 };
 use crate::places::{count_below, place};
 use std::alloc::{AllocError as NoMemory, Global};
@@ -186,32 +186,83 @@ impl<T: Duplicate> Line<T> {
     }
 }
 
-impl<T: Copy + Drop> Line<T> {
-    /// What [`Line::with_fresh`] gives, of values that are copied: those between two listed cells at once.
-    pub fn with_copied(
+impl Line<u8> {
+    /// The line once the listed cells have got these entries, or none where the entry is 0; the others keep what they have.
+    ///
+    /// Takes one step for each cell of the line and each listed cell, and memory only where the spare line has no room.
+    pub fn with_entries(
         &self,
-        alloc: Global,
+        spare: Line<u8>,
         listed: &[(u32, u8)],
-        fresh: &[Option<T>],
-    ) -> Result<Line<T>, NoMemory>
+        entries: &[u8],
+    ) -> Result<Line<u8>, NoMemory>
         requires rising { IsRising (keys listed.now) }
-        requires full { length fresh.now ≡ length listed.now }
+        requires full { length entries.now ≡ length listed.now }
         ensures { IfOk result (λ l. (q : ℕ)
-            → entry l q ≡ entry_after (keys listed.now) fresh.now (entry self.now q) q) }
+            → entry l q ≡ entry_after (keys listed.now) (map nonzero_entry entries.now) (entry self.now q) q) }
     {
         let old = self.cells();
-        let room = old.len().saturating_add(listed.len());
-        let mut cells = Vec::with_capacity(alloc, room)?;
-        let mut values = Vec::with_capacity(alloc, room)?;
-        let mut i = 0;
-        for (j, cell) in listed.iter().enumerate() {
-            let c = cell.0;
-            let to = place_from(old, i, c);
-            append_run(&mut cells, &mut values, self, i, to)?;
-            append_one(&mut cells, &mut values, c, fresh_at(fresh, j))?;
-            i = past(old, to, c);
-        }
-        append_run(&mut cells, &mut values, self, i, old.len())?;
+        let room = old.len() + listed.len();
+        let (mut cells, mut values) = spare.with_room(room, 0)?;
+        let count = merge_entries(old, self.values(), listed, entries, &mut cells, &mut values);
+        cells.truncate(count);
+        values.truncate(count);
         Ok(Line { cells, values })
+    }
+}
+
+impl<T: Copy + Drop> Line<T> {
+    /// The line once the listed cells have got this value, or none where their entry is 0; the others keep what they have.
+    /// The entry of the first is at the place `start`, and that of each next one `step` places on.
+    ///
+    /// Takes one step for each cell of the line and each listed cell, and memory only where the spare line has no room.
+    pub fn with_value(
+        &self,
+        spare: Line<T>,
+        listed: &[(u32, u8)],
+        value: T,
+        entries: &[u8],
+        start: usize,
+        step: usize,
+    ) -> Result<Line<T>, NoMemory>
+        requires rising { IsRising (keys listed.now) }
+        requires start { start < step }
+        requires within { length listed.now * step ≤ length entries.now }
+        ensures { IfOk result (λ l. (q : ℕ) → entry l q ≡ entry_after (keys listed.now)
+            (map (value_if value) (strided entries.now start step (length listed.now))) (entry self.now q) q) }
+    {
+        let old = self.cells();
+        let room = old.len() + listed.len();
+        let (mut cells, mut values) = spare.with_room(room, value)?;
+        let count = merge_value(
+            old,
+            self.values(),
+            listed,
+            value,
+            entries,
+            start,
+            step,
+            &mut cells,
+            &mut values,
+        );
+        cells.truncate(count);
+        values.truncate(count);
+        Ok(Line { cells, values })
+    }
+}
+
+impl<T: Copy + Drop> Line<T> {
+    /// The lists of a line, with so many members.
+    fn with_room(self, count: usize, value: T) -> Result<(Vec<u32>, Vec<T>), NoMemory>
+        ensures cells { IfOk result (λ r. length r.0.items ≡ count) }
+        ensures values { IfOk result (λ r. length r.1.items ≡ count) }
+    {
+        let Line {
+            mut cells,
+            mut values,
+        } = self;
+        cells.resize(count, 0)?;
+        values.resize(count, value)?;
+        Ok((cells, values))
     }
 }

@@ -7,6 +7,7 @@ use crate::line::Line;
 use crate::places::place;
 use std::alloc::{AllocError as NoMemory, Global};
 use std::marker::Model;
+use std::mem::replace;
 
 /// For each of some cells a line; the cells are in rising order.
 #[derive(Debug, Drop)]
@@ -135,6 +136,16 @@ impl<T: Drop> Lines<T> {
         for c in listed {
             self.remove(*c, q);
         }
+    }
+
+    /// Puts another line at a cell that has one, and gives that.
+    pub fn replace_line(&mut self, c: u32, line: Line<T>) -> Line<T>
+        requires { has c self.old.cells ≡ true }
+        ensures cells { self.new.cells ≡ self.old.cells }
+        ensures lines { (k : ℕ) → line_of self.new k ≡ (if k == c then line else line_of self.old k) }
+    {
+        let at = place(&self.cells, c).unwrap();
+        replace(&mut self.lines[at], line)
     }
 
     /// Puts other lines at the listed cells, one for each.

@@ -1,16 +1,12 @@
-ghost use Rattle.std.specs.Prelude.{◌≡◌, ◌==◌, ◌<◌, ◌≤◌, ◌-◌, ◌++◌, ℕ, true, false, None, Some, ◌∷◌, if◌then◌else◌};
-ghost use Rattle.std.specs.Prelude.{length, take, drop, slice_index, slice_index_or, option_map, MatchBool, OnOk, IfOk};
-ghost use Rattle.std.specs.Option.{option_to_list};
+ghost use Rattle.std.specs.Prelude.{◌≡◌, ◌==◌, ◌<◌, ◌≤◌, ◌+◌, ◌*◌, ℕ, true, false, None, Some, ◌∷◌, if◌then◌else◌};
+ghost use Rattle.std.specs.Prelude.{length, map, slice_index, slice_index_or, MatchBool, OnOk, IfOk};
 ghost use Rattle.std.specs.Vec.Iter.{into_iter_items};
-ghost use Rattle.rising_lists.specs.Rising.{IsLine, keys, look, stands, past, IsNext};
+ghost use Rattle.rising_lists.specs.Rising.{IsRising, IsLine, keys, look, stands, past, IsNext, IsMerge};
+ghost use Rattle.rising_lists.specs.Rising.{nonzero_entry, value_if, strided};
 
 use crate::duplicate::Duplicate;
-use crate::line::Line;
 use std::alloc::{AllocError as NoMemory, Global};
 use std::vec::IntoIter;
-
-/// Fewer cells than so many are put one by one: a copy of a slice takes longer to begin than they take.
-const SHORT: usize = 8;
 
 /// The least cell of two rising lists from these places on, one of which has some left.
 pub(crate) fn next_cell(first: &[u32], i: usize, second: &[(u32, u8)], j: usize) -> u32
@@ -94,106 +90,99 @@ pub(crate) fn append<T: Drop>(
     Ok(())
 }
 
-/// The first place from `at` on whose cell is not below `c`: one step for each that it passes.
-pub(crate) fn place_from(cells: &[u32], at: usize, c: u32) -> usize
-    requires { at ≤ length cells.now }
-    ensures from { at ≤ result }
-    ensures within { result ≤ length cells.now }
-    ensures passed { (i : ℕ) → at ≤ i → i < result → slice_index cells.now i < c }
-    ensures here { result < length cells.now → c ≤ slice_index cells.now result }
+/// Whether the next cell of a merge is one that the line keeps, before any that is listed.
+fn is_kept(old: &[u32], i: usize, listed: &[(u32, u8)], j: usize) -> bool
+    requires { length old.now ≤ i → j < length listed.now }
+    ensures kept { result ≡ true → (i < length old.now)
+        × (j < length listed.now → slice_index old.now i < slice_index (keys listed.now) j) }
+    ensures listed { result ≡ false → (j < length listed.now)
+        × (i < length old.now → slice_index (keys listed.now) j ≤ slice_index old.now i) }
 {
-    let mut place = at;
-    while place < cells.len() && cells[place] < c {
-        place += 1;
-    }
-    place
+    j >= listed.len() || (i < old.len() && old[i] < listed[j].0)
 }
 
-/// Puts the cells of a line from one place up to another, with their values, at the end; without memory one of the
-/// lists may be longer.
-pub(crate) fn append_run<T: Copy>(
-    cells: &mut Vec<u32>,
-    values: &mut Vec<T>,
-    line: &Line<T>,
-    from: usize,
-    to: usize,
-) -> Result<(), NoMemory>
-    requires order { from ≤ to }
-    requires within { to ≤ length line.now.cells }
-    ensures cells { OnOk result (cells.new.items ≡ cells.old.items ++ take (to - from) (drop from line.now.cells)) }
-    ensures values { OnOk result (values.new.items ≡ values.old.items ++ take (to - from) (drop from line.now.values)) }
+/// Merges a line with listed cells that get entries, or none where theirs is 0, into two lists that have room.
+pub(crate) fn merge_entries(
+    old: &[u32],
+    old_values: &[u8],
+    listed: &[(u32, u8)],
+    entries: &[u8],
+    cells: &mut [u32],
+    values: &mut [u8],
+) -> usize
+    requires rising { IsRising old.now }
+    requires full { length old_values.now ≡ length old.now }
+    requires listed_rising { IsRising (keys listed.now) }
+    requires listed_full { length entries.now ≡ length listed.now }
+    requires cell_room { length old.now + length listed.now ≤ length cells.old }
+    requires value_room { length old.now + length listed.now ≤ length values.old }
+    ensures { IsMerge old.now old_values.now (keys listed.now) (map nonzero_entry entries.now) result
+        cells.new values.new }
 {
-    if to - from < SHORT {
-        append_each(cells, values, line, from, to)
-    } else {
-        append_at_once(cells, values, line, from, to)
-    }
-}
-
-/// The same, one by one.
-fn append_each<T: Copy>(
-    cells: &mut Vec<u32>,
-    values: &mut Vec<T>,
-    line: &Line<T>,
-    from: usize,
-    to: usize,
-) -> Result<(), NoMemory>
-    requires order { from ≤ to }
-    requires within { to ≤ length line.now.cells }
-    ensures cells { OnOk result (cells.new.items ≡ cells.old.items ++ take (to - from) (drop from line.now.cells)) }
-    ensures values { OnOk result (values.new.items ≡ values.old.items ++ take (to - from) (drop from line.now.values)) }
-{
-    let run = &line.cells()[from..to];
-    let run_values = &line.values()[from..to];
-    for i in 0..run.len() {
-        cells.push(run[i])?;
-        values.push(run_values[i])?;
-    }
-    Ok(())
-}
-
-/// The same, all of them at once.
-fn append_at_once<T: Copy>(
-    cells: &mut Vec<u32>,
-    values: &mut Vec<T>,
-    line: &Line<T>,
-    from: usize,
-    to: usize,
-) -> Result<(), NoMemory>
-    requires order { from ≤ to }
-    requires within { to ≤ length line.now.cells }
-    ensures cells { OnOk result (cells.new.items ≡ cells.old.items ++ take (to - from) (drop from line.now.cells)) }
-    ensures values { OnOk result (values.new.items ≡ values.old.items ++ take (to - from) (drop from line.now.values)) }
-{
-    cells.extend_from_slice(&line.cells()[from..to])?;
-    values.extend_from_slice(&line.values()[from..to])?;
-    Ok(())
-}
-
-/// Puts a cell with its value at the end, if there is one; without memory one of the lists may be longer.
-pub(crate) fn append_one<T: Copy>(
-    cells: &mut Vec<u32>,
-    values: &mut Vec<T>,
-    c: u32,
-    value: Option<T>,
-) -> Result<(), NoMemory>
-    ensures cells { OnOk result (cells.new.items ≡ cells.old.items ++ option_to_list (option_map (λ _. c) value)) }
-    ensures values { OnOk result (values.new.items ≡ values.old.items ++ option_to_list value) }
-{
-    match value {
-        Some(value) => {
-            cells.push(c)?;
-            values.push(value)?;
-            Ok(())
+    let mut i = 0;
+    let mut j = 0;
+    let mut k = 0;
+    while j < listed.len() || i < old.len() {
+        if is_kept(old, i, listed, j) {
+            cells[k] = old[i];
+            values[k] = old_values[i];
+            i += 1;
+            k += 1;
+        } else {
+            let c = listed[j].0;
+            if entries[j] != 0 {
+                cells[k] = c;
+                values[k] = entries[j];
+                k += 1;
+            }
+            i = past(old, i, c);
+            j += 1;
         }
-        None => Ok(()),
     }
+    k
 }
 
-/// The fresh value at a place.
-pub(crate) fn fresh_at<T: Copy>(fresh: &[Option<T>], j: usize) -> Option<T>
-    requires { j < length fresh.now }
-    ensures { result ≡ slice_index_or fresh.now j None }
+/// The same with one value for each entry that is not 0; the entries stand `step` places apart.
+pub(crate) fn merge_value<T: Copy>(
+    old: &[u32],
+    old_values: &[T],
+    listed: &[(u32, u8)],
+    value: T,
+    entries: &[u8],
+    start: usize,
+    step: usize,
+    cells: &mut [u32],
+    values: &mut [T],
+) -> usize
+    requires rising { IsRising old.now }
+    requires full { length old_values.now ≡ length old.now }
+    requires listed_rising { IsRising (keys listed.now) }
+    requires start { start < step }
+    requires within { length listed.now * step ≤ length entries.now }
+    requires cell_room { length old.now + length listed.now ≤ length cells.old }
+    requires value_room { length old.now + length listed.now ≤ length values.old }
+    ensures { IsMerge old.now old_values.now (keys listed.now)
+        (map (value_if value) (strided entries.now start step (length listed.now))) result cells.new values.new }
 {
-    fresh[j]
+    let mut i = 0;
+    let mut j = 0;
+    let mut k = 0;
+    while j < listed.len() || i < old.len() {
+        if is_kept(old, i, listed, j) {
+            cells[k] = old[i];
+            values[k] = old_values[i];
+            i += 1;
+            k += 1;
+        } else {
+            let c = listed[j].0;
+            if entries[start + j * step] != 0 {
+                cells[k] = c;
+                values[k] = value;
+                k += 1;
+            }
+            i = past(old, i, c);
+            j += 1;
+        }
+    }
+    k
 }

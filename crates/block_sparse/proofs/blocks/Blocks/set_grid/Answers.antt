@@ -17,8 +17,8 @@ fresh_columns-requires-clause-within c = λ k h.
     c.self.invariant.has_column k (ap (λ v. has k (cells v.live)) c.self.view_is
     ∙ sized-live c.args.self.now.live c.args.left.now c.requires.left_sized k h)
 
-pub invariant_of-self : goal.invariant_of-self
-invariant_of-self c =
+pub invariant_of-self-2 : goal.invariant_of-self-2
+invariant_of-self-2 c =
     let A = matrix_of c.args.joined.now in
     let left = c.args.left.now in
     let below = c.args.below.now in
