@@ -23,7 +23,7 @@ use Rattle.equivalence_laws.proofs.BasisLaws.{cocycles_have_coordinates, unit_im
 use Rattle.equivalences.specs.declared.equivalence.Equivalence.{Equivalence}
 use Rattle.equivalences.proofs.ComposedBlocks.{graded-at}
 use Rattle.cocycle_bases.specs.Answers.{HasClass}
-use Rattle.cocycle_bases.specs.Classes.{IsFirstNonzero, IsFirstOpen, IsClass, IsCochainBelow, coboundary_below}
+use Rattle.cocycle_bases.specs.Classes.{IsFirstNonzeroCell, IsFirstOpen, IsClass, IsCochainBelow, coboundary_below}
 use Rattle.cocycle_bases.specs.Classes.{homotopy_below}
 
 -- a vector of zeros
@@ -54,11 +54,11 @@ module _ (K : Ops) (v : BlockComplex) (live : List (ℕ × ℕ × ℕ)) (same : 
   pub image-size : length image ≡ total_size (of_degree (k + 1) live)
   image-size = ap length made.read ∙ made.cochain.size ∙ ap (λ ls. total_size (of_degree (k + 1) ls)) (sym same)
 
-  first_open : (t : ℕ) → IsFirstNonzero (of_degree (k + 1) live) image t → IsFirstOpen K (complex_of v) k z t
+  first_open : (t : ℕ) → IsFirstNonzeroCell (of_degree (k + 1) live) image t → IsFirstOpen K (complex_of v) k z t
   first_open t first =
-      subst (λ u. IsFirstNonzero (of_degree (suc k) v.live) u t) image-is
-      (subst (λ ls. IsFirstNonzero (of_degree (suc k) ls) image t) same
-      (subst (λ j. IsFirstNonzero (of_degree j live) image t) (add-one k) first))
+      subst (λ u. IsFirstNonzeroCell (of_degree (suc k) v.live) u t) image-is
+      (subst (λ ls. IsFirstNonzeroCell (of_degree (suc k) ls) image t) same
+      (subst (λ j. IsFirstNonzeroCell (of_degree j live) image t) (add-one k) first))
 
   zero-closed : IsCochain K (complex_of v) k z → All (λ a. a ≡ 0) image → IsCocycle K (complex_of v) k z
   zero-closed cochain are_zero =
@@ -72,7 +72,7 @@ module _ (K : Ops) (v : BlockComplex) (live : List (ℕ × ℕ × ℕ)) (same : 
 
   -- so it is a cocycle, or has a first open cell
   pub open-or-closed : IsCochain K (complex_of v) k z → (o : Option ℕ)
-      → MatchOption o (All (λ a. a ≡ 0) image) (IsFirstNonzero (of_degree (k + 1) live) image)
+      → MatchOption o (All (λ a. a ≡ 0) image) (IsFirstNonzeroCell (of_degree (k + 1) live) image)
       → MatchOption o (IsCocycle K (complex_of v) k z) (IsFirstOpen K (complex_of v) k z)
   open-or-closed cochain None h = zero-closed cochain h
   open-or-closed cochain (Some t) h = first_open t h

@@ -12,7 +12,7 @@ use Rattle.rising_lists.proofs.Keyed.{rising_tail, rising_head, place_of}
 use Rattle.block_complexes.specs.BlockComplexes.{cells}
 use Rattle.block_complexes.specs.Cochains.{cell_of, of_degree}
 use Rattle.block_complexes.proofs.DegreeLaws.{start-next}
-use Rattle.cocycle_bases.specs.Classes.{numbers, IsZeroAt, IsFirstNonzero}
+use Rattle.cocycle_bases.specs.Classes.{numbers, IsZeroAt, IsFirstNonzeroCell}
 
 abbrev pub AllZero : List ℕ → Type 0
 AllZero z = All (λ a. a ≡ 0) z
@@ -20,7 +20,7 @@ AllZero z = All (λ a. a ≡ 0) z
 -- a cell before the others, at which z is zero
 zero-head : (c : Cell) (cs : List Cell) (z : List ℕ) (t : ℕ)
     → ((s : ℕ) → has s (numbers cs) ≡ true → c.cell < s) → AllZero (take c.size z)
-    → IsFirstNonzero cs (drop c.size z) t → IsFirstNonzero (c ∷ cs) z t
+    → IsFirstNonzeroCell cs (drop c.size z) t → IsFirstNonzeroCell (c ∷ cs) z t
 zero-head c cs z t above h first = record {
   cell = later (eqb c.cell t) first.cell;
   nonzero = λ is. first.nonzero (subst (λ b. AllZero (at b t)) (ne_eqb c.cell t apart) is);
@@ -43,7 +43,7 @@ zero-head c cs z t above h first = record {
 
 -- a cell before the others, at which it is not
 open-head : (c : Cell) (cs : List Cell) (z : List ℕ) → ((s : ℕ) → has s (numbers cs) ≡ true → c.cell < s)
-    → (AllZero (take c.size z) → ⊥) → IsFirstNonzero (c ∷ cs) z c.cell
+    → (AllZero (take c.size z) → ⊥) → IsFirstNonzeroCell (c ∷ cs) z c.cell
 open-head c cs z above h = record {
   cell = ap (λ b. b || has c.cell (numbers cs)) (eq-eqb c.cell c.cell refl);
   nonzero = λ is. h (subst (λ b. AllZero (cond b (take c.size z) (value_at cs (drop c.size z) c.cell)))
@@ -79,24 +79,24 @@ module _ (k : ℕ) (l : ℕ × ℕ × ℕ) (ls : List (ℕ × ℕ × ℕ)) (rise
   size = total_size (of_degree k (l ∷ []))
 
   -- the first of the later cells is that of all
-  zero-next : (t : ℕ) → AllZero (take size z) → IsFirstNonzero (of_degree k ls) (drop size z) t
-      → IsFirstNonzero (of_degree k (l ∷ ls)) z t
+  zero-next : (t : ℕ) → AllZero (take size z) → IsFirstNonzeroCell (of_degree k ls) (drop size z) t
+      → IsFirstNonzeroCell (of_degree k (l ∷ ls)) z t
   zero-next t = go (eqb l.1 k)
     where
       go : (b : Bool) → AllZero (take (total_size (cond b (cell_of l ∷ []) [])) z)
-          → IsFirstNonzero (of_degree k ls) (drop (total_size (cond b (cell_of l ∷ []) [])) z) t
-          → IsFirstNonzero (cond b (cell_of l ∷ of_degree k ls) (of_degree k ls)) z t
+          → IsFirstNonzeroCell (of_degree k ls) (drop (total_size (cond b (cell_of l ∷ []) [])) z) t
+          → IsFirstNonzeroCell (cond b (cell_of l ∷ of_degree k ls) (of_degree k ls)) z t
       go false h first = first
       go true h first =
           let e : l.2 + 0 ≡ l.2 = omega arith in
           zero-head (cell_of l) (of_degree k ls) z t above (subst (λ n. AllZero (take n z)) e h)
-          (subst (λ n. IsFirstNonzero (of_degree k ls) (drop n z) t) e first)
+          (subst (λ n. IsFirstNonzeroCell (of_degree k ls) (drop n z) t) e first)
 
-  open-next : (AllZero (take size z) → ⊥) → IsFirstNonzero (of_degree k (l ∷ ls)) z l.0
+  open-next : (AllZero (take size z) → ⊥) → IsFirstNonzeroCell (of_degree k (l ∷ ls)) z l.0
   open-next = go (eqb l.1 k)
     where
       go : (b : Bool) → (AllZero (take (total_size (cond b (cell_of l ∷ []) [])) z) → ⊥)
-          → IsFirstNonzero (cond b (cell_of l ∷ of_degree k ls) (of_degree k ls)) z l.0
+          → IsFirstNonzeroCell (cond b (cell_of l ∷ of_degree k ls) (of_degree k ls)) z l.0
       go false h = absurd (h (All-nil (λ (a : ℕ). a ≡ 0)))
       go true h =
           let e : l.2 ≡ l.2 + 0 = omega arith in
@@ -124,8 +124,8 @@ within-total k (l ∷ ls) (suc i) = go (eqb l.1 k) (within-total k ls i)
 -- up to the place i the cochain, whose coordinates at the later cells begin at start, is zero
 pub record IsZeroSoFar (k : ℕ) (live : List (ℕ × ℕ × ℕ)) (z : List ℕ) (i start : ℕ) : Type 0 where
   pub start_is : start ≡ total_size (of_degree k (take i live))
-  pub first : (t : ℕ) → IsFirstNonzero (of_degree k (drop i live)) (drop start z) t
-      → IsFirstNonzero (of_degree k live) z t
+  pub first : (t : ℕ) → IsFirstNonzeroCell (of_degree k (drop i live)) (drop start z) t
+      → IsFirstNonzeroCell (of_degree k live) z t
   pub zero : AllZero (drop start z) → AllZero z
 
 module _ (k : ℕ) (live : List (ℕ × ℕ × ℕ)) (rises : IsRising (cells live)) (z : List ℕ) (i start : ℕ)
@@ -152,9 +152,9 @@ module _ (k : ℕ) (live : List (ℕ × ℕ × ℕ)) (rises : IsRising (cells li
     zero_so_far-next end e h = record {
       start_is = omega (arith, so_far.start_is, start-next k live i d inside, e);
       first = λ t first. so_far.first t
-          (subst (λ ls. IsFirstNonzero (of_degree k ls) (drop start z) t) (sym split)
+          (subst (λ ls. IsFirstNonzeroCell (of_degree k ls) (drop start z) t) (sym split)
           (zero-next k cell (drop (i + 1) live) rises_here (drop start z) t h
-          (subst (λ u. IsFirstNonzero (of_degree k (drop (i + 1) live)) u t) (sym later) first)));
+          (subst (λ u. IsFirstNonzeroCell (of_degree k (drop (i + 1) live)) u t) (sym later) first)));
       zero = λ rest. so_far.zero
           (subst AllZero (take-append-drop count (drop start z))
           (All-append (λ (a : ℕ). a ≡ 0) (take count (drop start z)) (drop count (drop start z)) h
@@ -164,7 +164,7 @@ module _ (k : ℕ) (live : List (ℕ × ℕ × ℕ)) (rises : IsRising (cells li
         later : drop count (drop start z) ≡ drop end z
         later = drop-drop count start z ∙ ap (λ n. drop n z) (sym e)
 
-    pub first-found : (AllZero (take count (drop start z)) → ⊥) → IsFirstNonzero (of_degree k live) z cell.0
+    pub first-found : (AllZero (take count (drop start z)) → ⊥) → IsFirstNonzeroCell (of_degree k live) z cell.0
     first-found h = so_far.first cell.0
-        (subst (λ ls. IsFirstNonzero (of_degree k ls) (drop start z) cell.0) (sym split)
+        (subst (λ ls. IsFirstNonzeroCell (of_degree k ls) (drop start z) cell.0) (sym split)
         (open-next k cell (drop (i + 1) live) rises_here (drop start z) h))

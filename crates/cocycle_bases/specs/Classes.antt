@@ -18,14 +18,14 @@ abbrev pub IsZeroAt : List Cell → List ℕ → ℕ → Type 0
 IsZeroAt cs z t = All (λ a. a ≡ 0) (value_at cs z t)
 
 -- t is the first of the cells at which it is not
-pub record IsFirstNonzero (cs : List Cell) (z : List ℕ) (t : ℕ) : Type 0 where
+pub record IsFirstNonzeroCell (cs : List Cell) (z : List ℕ) (t : ℕ) : Type 0 where
   pub cell : has t (numbers cs) ≡ true
   pub nonzero : IsZeroAt cs z t → ⊥
   pub zero_before : (s : ℕ) → has s (numbers cs) ≡ true → s < t → IsZeroAt cs z s
 
 -- t is the first cell of degree k + 1 at which the coboundary of z, a cochain of degree k, is not zero
 abbrev pub IsFirstOpen : Ops → CellularComplex → ℕ → List ℕ → ℕ → Type 0
-IsFirstOpen K C k z t = IsFirstNonzero (cells_of C (suc k)) (coboundary K C k z) t
+IsFirstOpen K C k z t = IsFirstNonzeroCell (cells_of C (suc k)) (coboundary K C k z) t
 
 -- the coboundary of u, which has degree k - 1; in degree 0, which has none below, the zero cochain
 abbrev pub coboundary_below : Ops → CellularComplex → ℕ → List ℕ → List ℕ

@@ -2,7 +2,7 @@ ghost use Rattle.std.specs.Prelude.{◌≡◌, ◌↔◌, ◌∷◌, [], length,
 ghost use Rattle.cochain_vec.specs.Complexes.{total_size};
 ghost use Rattle.block_complexes.specs.Cochains.{of_degree};
 ghost use Rattle.block_sparse.specs.StoredBlocks.{AreLive};
-ghost use Rattle.cocycle_bases.specs.Classes.{IsFirstNonzero};
+ghost use Rattle.cocycle_bases.specs.Classes.{IsFirstNonzeroCell};
 
 /// The first of the live cells of this degree at which the cochain of it is not zero; none where it is zero.
 ///
@@ -11,7 +11,7 @@ pub(crate) fn first_open(live: &[(u32, u8, u8)], degree: u8, values: &[u8]) -> O
     requires live_cells { AreLive live.now }
     requires size { length values.now ≡ total_size (of_degree degree live.now) }
     ensures { MatchOption result (All (λ a. a ≡ 0) values.now)
-        (λ t. IsFirstNonzero (of_degree degree live.now) values.now t) }
+        (λ t. IsFirstNonzeroCell (of_degree degree live.now) values.now t) }
 {
     let mut start = 0;
     for cell in live {

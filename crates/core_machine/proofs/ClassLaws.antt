@@ -15,7 +15,7 @@ use Rattle.cochain_vec.proofs.StalklessLaws.{has_coordinates, rising-filter}
 use Rattle.block_complexes.specs.Cochains.{cell_of}
 use Rattle.coboundary.specs.Start.{with_stalks}
 use Rattle.coboundary.specs.StartCoboundary.{HaveSameCoboundary}
-use Rattle.cocycle_bases.specs.Classes.{numbers, IsZeroAt, IsFirstNonzero, IsFirstOpen, IsCochainBelow, IsClass}
+use Rattle.cocycle_bases.specs.Classes.{numbers, IsZeroAt, IsFirstNonzeroCell, IsFirstOpen, IsCochainBelow, IsClass}
 use Rattle.cocycle_bases.specs.Classes.{coboundary_below}
 use Rattle.sheaf_words.specs.declared.reply.Reply.{Reply as Answer}
 use Rattle.sheaf_words.specs.declared.reply.Reply.TheVariants as replies
@@ -89,7 +89,7 @@ has-kept (c ∷ cs) s h = go (has_coordinates c) h (has-kept cs s)
     go false m over = or-later (eqb c.cell s) (has s (numbers cs)) (over m)
 
 first-kept : (cs : List Cell) (z : List ℕ) (t : ℕ) → HasRisingCells cs
-    → IsFirstNonzero (filter has_coordinates cs) z t → IsFirstNonzero cs z t
+    → IsFirstNonzeroCell (filter has_coordinates cs) z t → IsFirstNonzeroCell cs z t
 first-kept cs z t rising h = record {
   cell = has-kept cs t h.cell;
   nonzero = λ zero. h.nonzero (subst (All (λ a. a ≡ 0)) (sym (value-kept cs z t rising)) zero);
@@ -104,7 +104,7 @@ first-kept cs z t rising h = record {
         (All-nil (λ a. a ≡ 0))
 
 -- there is one first cell
-first-unique : (cs : List Cell) (z : List ℕ) (s t : ℕ) → IsFirstNonzero cs z s → IsFirstNonzero cs z t → s ≡ t
+first-unique : (cs : List Cell) (z : List ℕ) (s t : ℕ) → IsFirstNonzeroCell cs z s → IsFirstNonzeroCell cs z t → s ≡ t
 first-unique cs z s t h k = ⊎_elim (λ (e : s ≡ t). e)
     (λ o. ⊎_elim (λ (l : s < t). absurd (h.nonzero (k.zero_before s h.cell l)))
     (λ (l : t < s). absurd (k.nonzero (h.zero_before t k.cell l))) o)
@@ -158,8 +158,8 @@ module _ (K : Ops) (C D : CellularComplex) (like : AreAlike K C D) where
   open-over : (k : ℕ) (z : List ℕ) (t : ℕ) → IsFirstOpen K C k z t → IsFirstOpen K D k z t
   open-over k z t h = first-kept (cells_of D (suc k)) (coboundary K D k z) t
       (rising-filter (λ c. c.degree == suc k) D.cells like.rising)
-      (subst (λ w. IsFirstNonzero (filter has_coordinates (cells_of D (suc k))) w t) (like.same.maps k z)
-      (subst (λ cs. IsFirstNonzero cs (coboundary K C k z) t) (like.cells (suc k)) h))
+      (subst (λ w. IsFirstNonzeroCell (filter has_coordinates (cells_of D (suc k))) w t) (like.same.maps k z)
+      (subst (λ cs. IsFirstNonzeroCell cs (coboundary K C k z) t) (like.cells (suc k)) h))
 
   below-over : (k : ℕ) (u : List ℕ) → IsCochainBelow K C k u → IsCochainBelow K D k u
   below-over zero u h = h

@@ -1,10 +1,9 @@
 -- Which replies answer a question, out of a slot and what is kept of it.
-use Rattle.std.proofs.Common.{◌≡◌, ◌≢◌, ℕ, List, length, refl, sym, ap, ◌∙◌, subst}
+use Rattle.std.proofs.Common.{◌≡◌, ℕ, List, refl, sym, ap, ◌∙◌, subst}
 use Rattle.std.specs.Prelude.{vec_len}
 use Rattle.dense_blocks.specs.Field.{Ops}
 use Rattle.dense_blocks.specs.FieldLaws.{IsField}
-use Rattle.dense_blocks.specs.Vectors.{AllScalars}
-use Rattle.cochain_vec.specs.Complexes.{CellularComplex, IsCochain, coordinates}
+use Rattle.cochain_vec.specs.Complexes.{CellularComplex, IsCochain}
 use Rattle.cochain_vec.specs.CochainComplexes.{IsCochainComplex}
 use Rattle.cochain_vec.specs.Cohomology.{AreDimensions, IsBasis}
 use Rattle.block_complexes.specs.BlockComplexes.{BlockComplex, IsBlockComplex, HaveSameMatrices}
@@ -92,15 +91,6 @@ module _ {F : Type 0} (K : Ops) (slot : SlotValue F) where
         (subst (λ n. AreDimensions K base n numbers) (sym is.degrees_are) h),
     tt,
   )
-
-  pub length-answer : (k : ℕ) (z : List ℕ) → length z ≢ coordinates base k → (degrees : ℕ)
-      → IsAnswerIn K degrees slot (queries.Class k z) replies.BadLength
-  length-answer k z h degrees r is start = (at-start (λ C. length z ≢ coordinates C k) r start h, tt)
-
-  pub entry-answer : (k : ℕ) (z : List ℕ) → length z ≡ coordinates base k → (AllScalars K z → ⊥) → (degrees : ℕ)
-      → IsAnswerIn K degrees slot (queries.Class k z) replies.BadEntry
-  entry-answer k z size h degrees r is start =
-      ((at-start (λ C. length z ≡ coordinates C k) r start size, h), tt)
 
   pub open-answer : (k : ℕ) (z : List ℕ) (t : ℕ) → IsCochain K base k z → IsFirstOpen K base k z t → (degrees : ℕ)
       → IsAnswerIn K degrees slot (queries.Class k z) (replies.NotCocycle k t)

@@ -50,13 +50,6 @@ impl<F: Scalars> Answerer<F> {
         }
     }
 
-    /// The slot.
-    pub fn slot(&self) -> &Slot<F>
-        ensures { result.now ≡ self.now }
-    {
-        &self.slot
-    }
-
     /// The answer to a question: what is right for the base of the slot, with each choice that of a solo order.
     ///
     /// Each live cell of the base has a degree below `degrees`, and the coboundary of each coboundary is zero in the

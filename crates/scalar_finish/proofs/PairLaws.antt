@@ -31,7 +31,7 @@ use Rattle.reduce_step.specs.Steps.{IsStepOf}
 use Rattle.reduce_step.proofs.DifferenceLaws.{not-both}
 use Rattle.reduce_step.proofs.FitLaws.{nonzero-block_at, zero_matrix-zero}
 use Rattle.reduce_step.proofs.StandingLaws.{footprint-fits, pivot-stands}
-use Rattle.scalar_finish.specs.Beginnings.{HasNoneFrom, IsFirstFrom, IsStepAt}
+use Rattle.scalar_finish.specs.Beginnings.{IsFirstFrom, IsStepAt}
 
 -- ---- the first block of a column
 
@@ -40,9 +40,6 @@ module _ (v : StoredBlocks) (x : ℕ) (column : List ℕ) (are : (t : ℕ) → h
       → matrix v x t ≡ zero_matrix (size_of v.live t) (size_of v.live x)
   zero-at t n = ap (λ o. matrix_or o (zero_matrix (size_of v.live t) (size_of v.live x)))
       (not-block_at (block_at v x t) n)
-
-  pub none-below : column ≡ [] → HasNoneFrom (complex_in v) x
-  none-below e t l = zero-at t (sym (are t) ∙ ap (has t) e)
 
   pub first-below : IsRising column → ((t : ℕ) → has t column ≡ true → IsBetween v x t) → 0 < length column
       → IsFirstFrom (complex_in v) x (get_or column 0 0)

@@ -2,6 +2,5 @@ pub mod Sheaves
 pub mod Drafts
 pub mod Betti
 pub mod Arrows
-pub mod BettiNumbers
 pub mod Refusals
 pub mod Changes
