@@ -438,6 +438,26 @@ judged-events : (p new : Progress) (e : Change) (v : Verdict) → IsProgressAfte
 judged-events p new e Accepted next = next.events
 judged-events p new e (Refused cause) same = ap (λ (q : Progress). q.events) same
 
+not-some : {X : Type 0} (o : Option X) → is_some o ≡ false → o ≡ None
+not-some None h = refl
+not-some (Some x) h = cc
+
+abbrev after-asking : Progress → SlotValue Field → List Event → Progress
+after-asking p slot events = record { sheaf = p.sheaf; version = p.version; slot = Some slot; events = events }
+
+-- a version that was not asked before, and is reduced now
+pub first-asked : (p old : Progress) (slot kept : SlotValue Field) (events : List Event) → p ≡ old
+    → is_some p.slot ≡ false → IsSheafReduction p.sheaf slot
+    → events ≡ p.events ++ pair_events p.version (pairs_of slot.log) → kept ≡ slot
+    → IsReducedFrom old (record { sheaf = p.sheaf; version = p.version; slot = Some kept; events = events })
+first-asked p old slot kept events same none reduction grown is =
+    subst (λ q. IsReducedFrom q (after-asking p kept events)) same (inr (record {
+      none = not-some p.slot none;
+      slot = slot;
+      reduction = reduction;
+      new_is = ap₂ (after-asking p) is grown;
+    }))
+
 -- the reduction of a version that was asked
 pub known-reduction : (p : Progress) → is_some p.slot ≡ true → IsKnownReduction p.sheaf p.slot → HasReduction p
 known-reduction p is known = go p.slot refl is known
