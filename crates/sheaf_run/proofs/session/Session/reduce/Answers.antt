@@ -15,7 +15,7 @@ returns-clause-reduced c =
     let s = c.self.inside in
     let p : Progress = record { sheaf = s.sheaf; version = s.version; slot = s.answerer; events = s.events.items } in
     first-asked p c.args.self.now c.in_ok-slot.slot c.new.result c.push_pairs.new.events.items c.self.view_is
-        (sym c.if-is_some.ensures) c.in_ok-slot.ensures
-        (c.in_ok-push_pairs.ensures
-        ∙ ap (λ log. s.events.items ++ pair_events s.version (pairs_of log)) c.log.ensures)
-        c.new.ensures
+    (sym c.if-is_some.ensures) c.in_ok-slot.ensures
+    (c.in_ok-push_pairs.ensures
+    ∙ ap (λ log. s.events.items ++ pair_events s.version (pairs_of log)) c.log.ensures)
+    c.new.ensures
