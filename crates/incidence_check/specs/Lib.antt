@@ -2,3 +2,4 @@ pub mod Incidences
 pub mod Answers
 pub mod Reach
 pub mod Passes
+pub mod Marks
