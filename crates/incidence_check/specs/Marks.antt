@@ -19,8 +19,7 @@ next_state n (Some a) = if n == 0 then once a else if n == 3 - once a then 3 els
 -- the state after ways of these products
 abbrev pub state_of : List (Option Sign) → ℕ
 state_of [] = 0
-state_of (None ∷ []) = 4
-state_of (Some a ∷ []) = once a
+state_of (a ∷ []) = next_state 0 a
 state_of (a ∷ b ∷ []) = if are_opposite a b then 3 else 4
 state_of (a ∷ b ∷ _) = 4
 
