@@ -27,6 +27,7 @@ pub(crate) fn all_pass(c: &Complex) -> bool
 fn mark_all(c: &Complex, marks: &mut [u32], u: u32)
     requires complex { IsComplex c.now }
     requires u_is_cell { u < length c.now.dims }
+    requires few { u < 4096 }
     requires count { length marks.old ≡ 4096 }
     requires marks { AreMarks c.now u [] marks.old }
     ensures count { length marks.new ≡ 4096 }
@@ -41,6 +42,7 @@ fn mark_all(c: &Complex, marks: &mut [u32], u: u32)
 fn mark_below(c: &Complex, marks: &mut [u32], u: u32, at: usize)
     requires complex { IsComplex c.now }
     requires u_is_cell { u < length c.now.dims }
+    requires few { u < 4096 }
     requires at { at < length (faces_of c.now u) }
     requires count { length marks.old ≡ 4096 }
     requires marks { AreMarks c.now u (take at (faces_of c.now u)) marks.old }
@@ -89,6 +91,7 @@ fn next_state(state: u32, way: Option<Sign>) -> u32
 fn all_cancel(c: &Complex, marks: &[u32], u: u32) -> bool
     requires complex { IsComplex c.now }
     requires u_is_cell { u < length c.now.dims }
+    requires few { u < 4096 }
     requires count { length marks.now ≡ 4096 }
     requires marks { AreMarks c.now u (faces_of c.now u) marks.now }
     ensures { IsTrue result → PassesBelow c.now u }

@@ -45,7 +45,7 @@ returns-then-all_pass-clause-first c =
     (filter_map-none (edge_fault all) 0 (length all.dims)
     (λ k l m. c.loop-t.invariant k (omega (arith, ap length c.dims.ensures.dims))))
     (flat_map-none (pair_faults all) 0 (length all.dims)
-    (λ s l m. filter_map-none (pair_fault all s) 0 (length all.dims) (λ u p q. c.if-all_pass.ensures.0 refl s u)))
+    (λ s l m. filter_map-none (pair_fault all s) 0 (length all.dims) (λ u p q. c.if-all_pass.ensures refl s u)))
 
 pub returns-clause-first : goal.returns-clause-first
 returns-clause-first c =
