@@ -1,5 +1,5 @@
 -- Where no pair of cells has a fault, by the marks of cells.
-use Rattle.std.proofs.Common.{◌≡◌, ◌≢◌, ℕ, ◌+◌, ◌*◌, ◌-◌, ◌<◌, ◌≤◌, Bool, true, false, ◌&&◌, cond, ⊎_elim, take, set, subst, ap₂, List, [], ◌∷◌, ◌++◌, length, map}
+use Rattle.std.proofs.Common.{◌≡◌, ◌≢◌, ℕ, ◌+◌, ◌*◌, ◌-◌, ◌<◌, ◌≤◌, Bool, true, false, ◌&&◌, cond, ⊎_elim, take, set, subst, ap₂, List, [], ◌∷◌, ◌++◌, length, map, replicate, zero, suc}
 use Rattle.std.proofs.Common.{filter, get_or, nat_eq, Option, None, Some, All, refl, sym, ap, ◌∙◌, arith}
 use Rattle.std.specs.List.{list_any}
 use Rattle.std.proofs.lemmas.Bool.{true≢false, cases_eq, eqb-true, eq-eqb, cond-true, cond-false}
@@ -204,9 +204,9 @@ module _ (c : CellComplex) (u : ℕ) (ts items marks : List ℕ) (j x : ℕ) whe
       (cases_eq k j)
 
   pub left-more : MarksLeft c u ts items j marks → MarksLeft c u ts items (j + 1) (set marks (get_or items j 0) x)
-  left-more h s no =
-      subst (IsMark c u ts s) (sym (get_or-set_other marks (get_or items j 0) s x 0 (λ e. no j (omega arith) (sym e))))
-      (h s (λ k l. no k (omega arith)))
+  left-more h s apart =
+      subst (IsMark c u ts s) (sym (get_or-set_other marks (get_or items j 0) s x 0 (λ e. apart j (omega arith) (sym e))))
+      (h s (λ k l. apart k (omega arith)))
 
 -- the marks after all faces of the face of u at a place
 pub marks-after : (c : CellComplex) → IsComplex c → (u at t : ℕ) (fs items : List ℕ) (n : ℕ) (marks : List ℕ)
@@ -234,3 +234,11 @@ unmarked-next c u ts marks h s =
     let e : get_or marks s 0 - 4 * u ≡ state_of (products c u ts s) = h s in
     let m : state_of (products c u ts s) ≤ 4 = state-most (products c u ts s) in
     let z : get_or marks s 0 - 4 * (u + 1) ≡ 0 = omega (arith, e, m) in z
+
+pub unmarked-first : (c : CellComplex) (n : ℕ) → AreMarks c 0 [] (replicate n 0)
+unmarked-first c n s = let z : get_or (replicate n 0) s 0 - 4 * 0 ≡ 0 = omega (arith, zeros n s) in z
+  where
+    zeros : (n k : ℕ) → get_or (replicate n 0) k 0 ≡ 0
+    zeros zero k = refl
+    zeros (suc n) zero = refl
+    zeros (suc n) (suc k) = zeros n k
