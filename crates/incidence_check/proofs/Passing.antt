@@ -238,7 +238,7 @@ unmarked-next c u ts marks h s =
 pub unmarked-first : (c : CellComplex) (n : ℕ) → AreMarks c 0 [] (replicate n 0)
 unmarked-first c n s = let z : get_or (replicate n 0) s 0 - 4 * 0 ≡ 0 = omega (arith, zeros n s) in z
   where
-    zeros : (n k : ℕ) → get_or (replicate n 0) k 0 ≡ 0
+    zeros : (n k : ℕ) → ◌≡◌ {A = ℕ} (get_or (replicate n 0) k 0) 0
     zeros zero k = refl
     zeros (suc n) zero = refl
     zeros (suc n) (suc k) = zeros n k
