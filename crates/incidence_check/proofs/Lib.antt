@@ -1,4 +1,5 @@
 mod Firsts
+pub mod Faces
 pub mod Faults
 mod Least
 mod Passing

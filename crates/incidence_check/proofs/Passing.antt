@@ -1,26 +1,24 @@
 -- Where no pair of cells has a fault, by the marks of cells.
-use Rattle.std.proofs.Common.{◌≡◌, ◌≢◌, ℕ, ◌+◌, ◌*◌, ◌-◌, ◌<◌, ◌≤◌, Bool, true, false, ◌&&◌, cond, ⊎_elim, take, set, subst, ap₂, List, [], ◌∷◌, ◌++◌, length, map, replicate, zero, suc}
-use Rattle.std.proofs.Common.{filter, get_or, nat_eq, Option, None, Some, All, refl, sym, ap, ◌∙◌, arith}
+use Rattle.std.proofs.Common.{◌≡◌, ◌≢◌, ℕ, zero, suc, ◌+◌, ◌*◌, ◌-◌, ◌<◌, ◌≤◌, Bool, true, false, ◌&&◌, cond, ⊎_elim}
+use Rattle.std.proofs.Common.{List, [], ◌∷◌, ◌++◌, length, map, filter, replicate, take, set, get_or, nat_eq, Option}
+use Rattle.std.proofs.Common.{None, Some, All, refl, sym, ap, ap₂, ◌∙◌, subst, arith}
 use Rattle.std.specs.List.{list_any}
-use Rattle.std.proofs.lemmas.Bool.{true≢false, cases_eq, eqb-true, eq-eqb, cond-true, cond-false}
+use Rattle.std.proofs.lemmas.Bool.{true≢false, cases_eq, cond-true, cond-false}
 use Rattle.std.proofs.lemmas.List.{map-append, take_more, get_or-set_same, get_or-set_other}
-use Rattle.std.proofs.lemmas.List.Elements.{All-filter, filter-append, filter_passes}
-use Rattle.std.proofs.lemmas.List.Folds.{list_any_at}
-use Rattle.std.proofs.lemmas.List.FromFn.{length-range_with_len, get_or-range_with_len}
+use Rattle.std.proofs.lemmas.List.Elements.{filter-append, filter_passes}
 use Rattle.std.proofs.lemmas.List.Kept.{AllPairs-from_increasing}
 use Rattle.std.specs.List.Sorted.{IsStrictlyIncreasing}
-use Rattle.std.proofs.lemmas.Map.Views.{any-filter_same}
 use Rattle.cell_complex.specs.declared.face.Sign.{Sign}
 use Rattle.cell_complex.specs.declared.face.Sign.TheVariants.{Plus, Minus}
 use Rattle.cell_complex.specs.Complexes.{CellComplex, all_cells, is_face, faces_of, middles}
 use Rattle.cell_complex.specs.Invariants.{IsComplex}
-use Rattle.cell_complex.proofs.Numbers.{range-below}
 use Rattle.cell_complex.proofs.Places.{all-listed}
-use Rattle.cell_complex.proofs.Callers.{AreIncident, incident_from_face}
+use Rattle.cell_complex.proofs.Callers.{incident_from_face}
 use Rattle.incidence_check.specs.Incidences.{are_opposite, sign_product, middles_fault}
 use Rattle.incidence_check.specs.Answers.{pair_fault}
 use Rattle.incidence_check.specs.Marks.{next_state, state_of, products, IsMark, AreMarks}
 use Rattle.incidence_check.specs.Passes.{PassesBelow, AllPass}
+use Rattle.incidence_check.proofs.Faces.{list_any-faces_of}
 use Rattle.incidence_check.proofs.Faults.{first_middle}
 
 -- the states after one way more
@@ -69,7 +67,8 @@ module _ (c : CellComplex) (u : ℕ) (ts : List ℕ) (t s : ℕ) where
   abbrev product-at : ℕ → Option Sign
   product-at t = sign_product c s t u
 
-  pub products-more : is_face c s t ≡ true → products c u (ts ++ t ∷ []) s ≡ products c u ts s ++ sign_product c s t u ∷ []
+  pub products-more : is_face c s t ≡ true
+      → products c u (ts ++ t ∷ []) s ≡ products c u ts s ++ sign_product c s t u ∷ []
   products-more h =
       ap (map product-at) (filter-append (is_face c s) ts (t ∷ [])
       ∙ ap (λ xs. filter (is_face c s) ts ++ xs) (cond-true (is_face c s t) (t ∷ []) [] h))
@@ -133,7 +132,8 @@ passes_below c u marks are h s = by (middles c s u) refl
     by (t ∷ ts) is =
         let b = first_middle c s u t ts is in
         let e : state_of (products c u (faces_of c u) s) ≡ 3 = omega (arith, are s, h t s b.1 b.0) in
-        cancel c s u (middles c s u) (ap (λ xs. state_of (map (λ t. sign_product c s t u) xs)) (middles_by_faces c s u) ∙ e)
+        cancel c s u (middles c s u)
+        (ap (λ xs. state_of (map (λ t. sign_product c s t u) xs)) (middles_by_faces c s u) ∙ e)
 
 -- each pair with a cell between is judged at its upper cell
 pub all-pass : (c : CellComplex) → IsComplex c → ((u : ℕ) → u < length c.dims → PassesBelow c u) → AllPass c
@@ -144,29 +144,6 @@ all-pass c k h s u = by (middles c s u) refl
     by (t ∷ ts) is =
         let i = incident_from_face c k t u (first_middle c s u t ts is).1 in
         h u i.t_is_cell s
-
-pub faces_of-below : (c : CellComplex) (t : ℕ) → All (λ s. s < length c.dims) (faces_of c t)
-faces_of-below c t k d l =
-    let h = All-filter (λ s. is_face c s t) (λ s. s < 0 + length c.dims) (all_cells c) (range-below 0 (length c.dims)) k
-    d l in
-    omega (arith, h)
-
--- s is in the list below t just where it is a face of t
-pub list_any-faces_of : (c : CellComplex) → IsComplex c → (s t : ℕ) → list_any (nat_eq s) (faces_of c t) ≡ is_face c s t
-list_any-faces_of c h s t =
-    any-filter_same (nat_eq s) (λ v. is_face c v t) (is_face c s t)
-    (λ k e. ap (λ v. is_face c v t) (sym (eqb-true s k e))) (all_cells c)
-    ∙ by (is_face c s t) (λ e. there (incident_from_face c h s t e))
-  where
-    there : AreIncident c.dims s t → list_any (nat_eq s) (all_cells c) ≡ true
-    there i =
-        list_any_at (nat_eq s) (all_cells c) s 0 (omega (arith, i.s_is_cell, length-range_with_len 0 (length c.dims)))
-        (eq-eqb s (get_or (all_cells c) s 0) (omega (arith, get_or-range_with_len 0 (length c.dims) s 0 i.s_is_cell)))
-
-    by : (b : Bool) → (b ≡ true → list_any (nat_eq s) (all_cells c) ≡ true) → (b && list_any (nat_eq s) (all_cells c))
-        ≡ b
-    by true h = h refl
-    by false h = refl
 
 -- the mark of s after a way through the face of u at a place
 pub mark-here : (c : CellComplex) (u at t s mark state : ℕ) (fs : List ℕ) (way : Option Sign) → at < length fs
@@ -199,13 +176,15 @@ module _ (c : CellComplex) (u : ℕ) (ts items marks : List ℕ) (j x : ℕ) whe
       (subst (IsMark c u ts (get_or items j 0)) (sym (get_or-set_same marks (get_or items j 0) x 0 room)) here))
       (λ (ne : k ≢ j). subst (IsMark c u ts (get_or items k 0)) (sym (get_or-set_other marks (get_or items j 0)
       (get_or items k 0) x 0
-      (λ e. let a : get_or items k 0 < get_or items j 0 = AllPairs-from_increasing items rise k j 0 (omega arith) inside in
+      (λ e. let a : get_or items k 0 < get_or items j 0 =
+      AllPairs-from_increasing items rise k j 0 (omega arith) inside in
       omega (arith, e, a)))) (h k (omega arith)))
       (cases_eq k j)
 
   pub left-more : MarksLeft c u ts items j marks → MarksLeft c u ts items (j + 1) (set marks (get_or items j 0) x)
   left-more h s apart =
-      subst (IsMark c u ts s) (sym (get_or-set_other marks (get_or items j 0) s x 0 (λ e. apart j (omega arith) (sym e))))
+      subst (IsMark c u ts s)
+      (sym (get_or-set_other marks (get_or items j 0) s x 0 (λ e. apart j (omega arith) (sym e))))
       (h s (λ k l. apart k (omega arith)))
 
 -- the marks after all faces of the face of u at a place

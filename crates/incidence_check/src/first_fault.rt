@@ -11,8 +11,8 @@ use crate::signs::{are_opposite, sign_product};
 use cell_complex::Complex;
 
 /// Whether each edge has exactly two faces, of opposite sign, and between any two cells two dimensions apart are no
-/// cells, or two whose products of signs are opposite. Takes no memory. It looks only at pairs with a cell between, and
-/// costs about as much as there are chains of two faces; the first fault is searched for only where there is one.
+/// cells, or two whose products of signs are opposite. Takes 16 KiB of the stack, and no other memory. It visits each
+/// chain of two faces twice, and each edge; the first fault is searched for only where there is one.
 ///
 /// # Errors
 ///

@@ -1,17 +1,12 @@
 -- Squares through the cells between two cells.
-use Rattle.std.proofs.Common.{◌≡◌, ℕ, ◌+◌, ◌<◌, Bool, true, false, ◌&&◌, ◌↔◌, IsTrue, ⊎_elim, List, [], ◌∷◌, length}
-use Rattle.std.proofs.Common.{get_or, nat_eq, Option, Some, All, refl, sym, ap, ap₂, ◌∙◌, subst, arith}
+use Rattle.std.proofs.Common.{◌≡◌, ℕ, Bool, true, ◌&&◌, ◌↔◌, IsTrue, ⊎_elim, List, [], ◌∷◌, length, Option, Some, All}
+use Rattle.std.proofs.Common.{refl, sym, ap, ap₂, ◌∙◌, subst, arith}
 use Rattle.std.specs.Option.{option_map, option_and_then}
-use Rattle.std.specs.List.{list_any}
-use Rattle.std.proofs.lemmas.Bool.{and_parts, eqb-true, eq-eqb}
-use Rattle.std.proofs.lemmas.List.Folds.{list_any_at}
-use Rattle.std.proofs.lemmas.List.FromFn.{length-range_with_len, get_or-range_with_len}
-use Rattle.std.proofs.lemmas.Map.Views.{any-filter_same}
-use Rattle.std.proofs.lemmas.List.Elements.{All-head, All-cons, All-filter, filter_passes}
-use Rattle.cell_complex.specs.Complexes.{CellComplex, all_cells, is_face, faces_of, middles}
+use Rattle.std.proofs.lemmas.Bool.{and_parts}
+use Rattle.std.proofs.lemmas.List.Elements.{All-head, All-cons, filter_passes}
+use Rattle.cell_complex.specs.Complexes.{CellComplex, all_cells, is_face, middles}
 use Rattle.cell_complex.specs.Invariants.{IsComplex}
-use Rattle.cell_complex.proofs.Numbers.{range-below}
-use Rattle.cell_complex.proofs.Callers.{AreIncident, incident_from_face}
+use Rattle.cell_complex.proofs.Callers.{incident_from_face}
 use Rattle.incidence_check.specs.Incidences.{HasRegularIncidences, are_opposite_pair, sign_product}
 use Rattle.incidence_check.proofs.Faults.{opposite_middles}
 use Rattle.dense_blocks.specs.Field.{Ops}
@@ -54,29 +49,6 @@ middles-two c h r s u a b ts is =
     none : (xs : List ℕ) → length xs ≡ 0 → xs ≡ []
     none [] e = refl
     none (x ∷ xs) e = absurd (omega arith)
-
-pub faces_of-below : (c : CellComplex) (t : ℕ) → All (λ s. s < length c.dims) (faces_of c t)
-faces_of-below c t k d l =
-    let h = All-filter (λ s. is_face c s t) (λ s. s < 0 + length c.dims) (all_cells c) (range-below 0 (length c.dims)) k
-    d l in
-    omega (arith, h)
-
--- s is in the list below t just where it is a face of t
-pub list_any-faces_of : (c : CellComplex) → IsComplex c → (s t : ℕ) → list_any (nat_eq s) (faces_of c t) ≡ is_face c s t
-list_any-faces_of c h s t =
-    any-filter_same (nat_eq s) (λ v. is_face c v t) (is_face c s t)
-    (λ k e. ap (λ v. is_face c v t) (sym (eqb-true s k e))) (all_cells c)
-    ∙ by (is_face c s t) (λ e. there (incident_from_face c h s t e))
-  where
-    there : AreIncident c.dims s t → list_any (nat_eq s) (all_cells c) ≡ true
-    there i =
-        list_any_at (nat_eq s) (all_cells c) s 0 (omega (arith, i.s_is_cell, length-range_with_len 0 (length c.dims)))
-        (eq-eqb s (get_or (all_cells c) s 0) (omega (arith, get_or-range_with_len 0 (length c.dims) s 0 i.s_is_cell)))
-
-    by : (b : Bool) → (b ≡ true → list_any (nat_eq s) (all_cells c) ≡ true) → (b && list_any (nat_eq s) (all_cells c))
-        ≡ b
-    by true h = h refl
-    by false h = refl
 
 pub through-is : (K : Ops) (c : CellComplex) (blocks : List Block) (s t u : ℕ) (low up : Block)
     → restriction c blocks s t ≡ Some low

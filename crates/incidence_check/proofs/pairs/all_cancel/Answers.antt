@@ -2,7 +2,8 @@ use Rattle.std.proofs.Common.{◌≡◌, ◌+◌, ◌*◌, ◌<◌, true, nat_eq
 use Rattle.std.specs.List.{list_any}
 use Rattle.cell_complex.specs.Complexes.{is_face}
 use Rattle.cell_complex.proofs.Places.{all-listed}
-use Rattle.incidence_check.proofs.Passing.{faces_of-below, list_any-faces_of, passes_below}
+use Rattle.incidence_check.proofs.Faces.{faces_of-below, list_any-faces_of}
+use Rattle.incidence_check.proofs.Passing.{passes_below}
 use Rattle.incidence_check.proofs.pairs.all_cancel.Goals as goal
 
 pub all_marked-requires-clause-t_is_cell : goal.all_marked-requires-clause-t_is_cell

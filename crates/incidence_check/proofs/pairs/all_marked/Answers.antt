@@ -1,7 +1,7 @@
 use Rattle.std.proofs.Common.{◌≡◌, ◌<◌, nat_eq, length, All, get_or, sym, ap, ◌∙◌, subst, arith}
 use Rattle.std.specs.List.{list_any}
 use Rattle.cell_complex.proofs.Places.{all-listed}
-use Rattle.incidence_check.proofs.Passing.{faces_of-below, list_any-faces_of}
+use Rattle.incidence_check.proofs.Faces.{faces_of-below, list_any-faces_of}
 use Rattle.incidence_check.proofs.pairs.all_marked.Goals as goal
 
 pub bounds-marks-s : goal.bounds-marks-s

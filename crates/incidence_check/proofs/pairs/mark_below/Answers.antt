@@ -1,4 +1,5 @@
-use Rattle.std.proofs.Common.{◌≡◌, ℕ, ◌+◌, ◌*◌, ◌-◌, ◌<◌, true, List, length, All, get_or, take, sym, ap, ap₂, ◌∙◌, subst, arith}
+use Rattle.std.proofs.Common.{◌≡◌, ℕ, ◌+◌, ◌*◌, ◌-◌, ◌<◌, true, List, length, All, get_or, take, sym, ap, ap₂, ◌∙◌}
+use Rattle.std.proofs.Common.{subst, arith}
 use Rattle.std.specs.Option.{option_map, option_and_then}
 use Rattle.std.proofs.lemmas.List.{length-set}
 use Rattle.std.proofs.lemmas.List.Elements.{filter_passes}
@@ -6,7 +7,8 @@ use Rattle.std.proofs.lemmas.List.Kept.{AllPairs-from_increasing}
 use Rattle.cell_complex.specs.Complexes.{CellComplex, all_cells, is_face, faces_of}
 use Rattle.incidence_check.specs.Incidences.{times, sign_product}
 use Rattle.incidence_check.specs.Marks.{next_state, IsMark}
-use Rattle.incidence_check.proofs.Passing.{faces_of-below, mark-here, done-more, left-more, marks-after}
+use Rattle.incidence_check.proofs.Faces.{faces_of-below}
+use Rattle.incidence_check.proofs.Passing.{mark-here, done-more, left-more, marks-after}
 use Rattle.incidence_check.proofs.pairs.mark_below.Goals as goal
 
 pub before_faces-guess-requires : goal.before_faces-guess-requires

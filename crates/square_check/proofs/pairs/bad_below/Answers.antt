@@ -1,11 +1,11 @@
 use Rattle.std.proofs.Common.{ℕ, ◌+◌, ◌<◌, length, get_or, List, nat_eq, Option, All, below_more, sym, ap, ◌∙◌, subst}
 use Rattle.std.proofs.Common.{arith}
 use Rattle.std.specs.List.{list_any}
+use Rattle.cell_complex.proofs.Places.{all-listed}
+use Rattle.incidence_check.proofs.Faces.{faces_of-below, list_any-faces_of}
 use Rattle.square_check.specs.Searches.{Fails, PassesBefore}
 use Rattle.square_check.specs.Squares.{Commutes}
 use Rattle.square_check.proofs.Clearing.{earlier-fails, earlier-clears_first, earlier-clears_second}
-use Rattle.square_check.proofs.Commuting.{faces_of-below, list_any-faces_of}
-use Rattle.cell_complex.proofs.Places.{all-listed}
 use Rattle.square_check.proofs.pairs.bad_below.Goals as goal
 
 pub bad_pair-requires-clause-s_is_cell : goal.bad_pair-requires-clause-s_is_cell
