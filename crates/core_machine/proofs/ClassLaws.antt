@@ -34,7 +34,7 @@ value-none (c ∷ cs) z s h = go (eqb c.cell s) h (value-none cs (drop c.size z)
     go true m r = cc
     go false m r = r m
 
-none-before : (cs : List Cell) (s : ℕ) → All (λ (d : Cell). s < d.cell) cs → has s (numbers cs) ≡ false
+pub none-before : (cs : List Cell) (s : ℕ) → All (λ (d : Cell). s < d.cell) cs → has s (numbers cs) ≡ false
 none-before [] s h = refl
 none-before (c ∷ cs) s h = go (eqb c.cell s) refl (none-before cs s (All-tail (λ (d : Cell). s < d.cell) c cs h))
   where
@@ -43,7 +43,7 @@ none-before (c ∷ cs) s h = go (eqb c.cell s) refl (none-before cs s (All-tail 
     go false e r = r
 
 -- where a cell has no coordinates, it has no value
-size-none : (c : Cell) → has_coordinates c ≡ false → c.size ≡ 0
+pub size-none : (c : Cell) → has_coordinates c ≡ false → c.size ≡ 0
 size-none c h = go (c.size == 0) refl h
   where
     go : (b : Bool) → (c.size == 0) ≡ b → not b ≡ false → c.size ≡ 0
@@ -51,7 +51,7 @@ size-none c h = go (c.size == 0) refl h
     go false e f = cc
 
 -- without the cells that have no coordinates, each cell has the same value
-value-kept : (cs : List Cell) (z : List ℕ) (s : ℕ) → HasRisingCells cs
+pub value-kept : (cs : List Cell) (z : List ℕ) (s : ℕ) → HasRisingCells cs
     → value_at (filter has_coordinates cs) z s ≡ value_at cs z s
 value-kept [] z s h = refl
 value-kept (c ∷ cs) z s h = go (has_coordinates c) (eqb c.cell s) refl refl (λ y. value-kept cs y s h.1)
@@ -155,6 +155,12 @@ module _ (K : Ops) (C D : CellularComplex) (like : AreAlike K C D) where
   cochain-over : (k : ℕ) (z : List ℕ) → IsCochain K C k z → IsCochain K D k z
   cochain-over k z h = subst (λ n. IsVector K n z) (like.same.sizes k) h
 
+  pub cocycle-over : (k : ℕ) (z : List ℕ) → IsCocycle K C k z → IsCocycle K D k z
+  cocycle-over k z h = record {
+    cochain = cochain-over k z h.cochain;
+    closed = sym (like.same.maps k z) ∙ h.closed ∙ ap zeros (like.same.sizes (suc k));
+  }
+
   open-over : (k : ℕ) (z : List ℕ) (t : ℕ) → IsFirstOpen K C k z t → IsFirstOpen K D k z t
   open-over k z t h = first-kept (cells_of D (suc k)) (coboundary K D k z) t
       (rising-filter (λ c. c.degree == suc k) D.cells like.rising)
@@ -172,10 +178,7 @@ module _ (K : Ops) (C D : CellularComplex) (like : AreAlike K C D) where
   class-over : (k : ℕ) (z coords : List ℕ) (vectors : List (List ℕ)) (primitive : List ℕ)
       → IsClass K C k z coords vectors primitive → IsClass K D k z coords vectors primitive
   class-over k z coords vectors primitive h = record {
-    cocycle = record {
-      cochain = cochain-over k z h.cocycle.cochain;
-      closed = sym (like.same.maps k z) ∙ h.cocycle.closed ∙ ap zeros (like.same.sizes (suc k));
-    };
+    cocycle = cocycle-over k z h.cocycle;
     basis = like.bases k vectors h.basis;
     one_each = h.one_each;
     cochain = below-over k primitive h.cochain;

@@ -2,6 +2,7 @@ pub mod CountLaws
 pub mod SheafLaws
 pub mod ClassLaws
 pub mod FinalLaws
+pub mod ExtensionLaws
 pub mod ReplyLaws
 pub mod SoloLaws
 pub mod StepLaws

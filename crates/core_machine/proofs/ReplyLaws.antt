@@ -4,6 +4,7 @@ use Rattle.std.proofs.Common.{◌∙◌, arith}
 use Rattle.std.proofs.lemmas.Option.{same_Some}
 use Rattle.dense_blocks.specs.Field.{Ops}
 use Rattle.dense_blocks.specs.FieldLaws.{IsField}
+use Rattle.dense_blocks.specs.Vectors.{IsVector}
 use Rattle.dense_blocks.specs.Matrices.{image_of}
 use Rattle.dense_blocks.specs.MatrixFacts.{IsInverse}
 use Rattle.dense_blocks.specs.LinearMaps.{IsMatrixOf}
@@ -39,12 +40,13 @@ use Rattle.sheaf_words.specs.declared.reply.Reply.{Reply as Answer}
 use Rattle.sheaf_words.specs.declared.reply.Reply.TheVariants as replies
 use Rattle.core_machine.specs.Replies.{Reduction, AreGradedBlocks, IsRightReduced, AreRightMaps}
 use Rattle.equivalence_laws.specs.Equivalences.{graded_matrix}
-use Rattle.core_machine.specs.Replies.{IsRightClass, IsRightReply}
+use Rattle.core_machine.specs.Replies.{vertex_size, IsRightClass, IsRightExtension, IsRightReply}
 use Rattle.core_machine.specs.Machine.{State, IsReductionOf}
 use Rattle.core_machine.specs.Rights.{IsRightForStart}
 use Rattle.core_machine.specs.Solo.{Final, IsFinal, HasSoloChoices}
 use Rattle.core_machine.proofs.SheafLaws.{IsVersion}
 use Rattle.core_machine.proofs.ClassLaws.{AreAlike, start-cells, right-over, one-class}
+use Rattle.core_machine.proofs.ExtensionLaws.{size-over, extension-over, one-extension, one-section, one-obstruction}
 use Rattle.core_machine.proofs.FinalLaws.{AreSameReductions, AreSameFinals, one-final, one-vectors, one-primitive}
 
 -- ---- the start complex and the whole one
@@ -65,11 +67,10 @@ same-bases K s v r field h is k B =
     (subst (λ W. IsBasis K (complex_of start) k B ↔ IsBasis K W k B) (sym h.whole)
     (start_has_the_cohomology K d.complex d.stalks d.blocks field is.complex is.sheaf k B))
 
--- a right class for the start complex is right for the whole one
-class-for : {F : Type 0} (K : Ops) (s : State F) (v : ℕ) (r : Reduction) (k : ℕ) (z : List ℕ) (reply : Answer)
-    → IsField K → (h : IsReductionOf K s v r) → IsVersion K h.sheaf → IsRightClass K (complex_of r.start) k z reply
-    → IsRightClass K r.whole k z reply
-class-for K s v r k z reply field h is right =
+-- the start complex is like the whole one
+alike : {F : Type 0} (K : Ops) (s : State F) (v : ℕ) (r : Reduction) → IsField K → (h : IsReductionOf K s v r)
+    → IsVersion K h.sheaf → AreAlike K (complex_of r.start) r.whole
+alike K s v r field h is =
     let d = h.sheaf in
     let start : BlockComplex = start_complex K d.complex d.stalks d.blocks in
     let W : CellularComplex = cochain_complex_of K d.complex d.stalks d.blocks in
@@ -79,9 +80,8 @@ class-for K s v r k z reply field h is right =
       cells = λ j. start-cells j (numbered_cells 0 d.complex.dims d.stalks);
       rising = numbered_cells-rising 0 d.complex.dims d.stalks is.sheaf.one_each;
     } in
-    subst (λ C. IsRightClass K C k z reply) (sym h.whole)
-    (right-over K (complex_of start) W like k z reply
-    (subst (λ C. IsRightClass K C k z reply) (same-complex start r.start h.start) right))
+    subst (λ C. AreAlike K C r.whole) (sym (same-complex start r.start h.start))
+    (subst (AreAlike K (complex_of start)) (sym h.whole) like)
 
 dimensions-carried : (K : Ops) (C D : CellularComplex) (degrees : ℕ) (numbers : List ℕ)
     → ((k : ℕ) (B : List (List ℕ)) → IsBasis K C k B → IsBasis K D k B) → AreDimensions K C degrees numbers
@@ -119,7 +119,12 @@ right-for K s v r queries.Equiv (replies.Equiv reply maps) field h is right =
     (reduced-elsewhere K r (complex_of r.start) reply right.0, maps-elsewhere K r (complex_of r.start) maps right.1)
 right-for K s v r (queries.Basis k) (replies.Basis j vectors) field h is right =
     (right.0, (same-bases K s v r field h is k vectors).0 right.1)
-right-for K s v r (queries.Class k z) reply field h is right = class-for K s v r k z reply field h is right
+right-for K s v r (queries.Class k z) reply field h is right =
+    right-over K (complex_of r.start) r.whole (alike K s v r field h is) k z reply right
+right-for K s v r queries.Sections (replies.Sections vectors) field h is right =
+    (same-bases K s v r field h is 0 vectors).0 right
+right-for K s v r (queries.Extend e u) reply field h is right =
+    extension-over K (complex_of r.start) r.whole (alike K s v r field h is) e u reply right
 right-for K s v r query reply field h is right = absurd right
 
 -- ---- one reduction
@@ -298,6 +303,26 @@ module _ {F : Type 0} (K : Ops) (s : State F) (v : ℕ) (r q : Reduction) (field
         x.4 ∙ one-primitive K x.0 y.0 f k z ∙ sym y.4,
       )
 
+  -- a section is told by the vectors at the end, and so is an obstruction
+  fits : (e : ℕ) (u : List ℕ) → IsVector K (vertex_size r.whole e) u
+      → IsVector K (vertex_size (complex_of r.start) e) u
+  fits e u = subst (λ n. IsVector K n u)
+      (sym (size-over K (complex_of r.start) r.whole (alike K s v r field h is) e))
+
+  section-told : (e : ℕ) (u : List ℕ) (i j : ℕ) (z w : List ℕ) → IsVector K (vertex_size r.whole e) u
+      → HasSoloChoices K r (queries.Extend e u) (replies.Section i z)
+      → HasSoloChoices K q (queries.Extend e u) (replies.Section j w) → z ≡ w
+  section-told e u i j z w value x y =
+      one-section K field r q same e u (fits e u value) x.0 y.0 x.2 (finals x.0 y.0 x.2 y.2) x.1 y.1 x.3 y.3 z w x.4
+      y.4
+
+  obstruction-told : (e : ℕ) (u : List ℕ) (i j : ℕ) (p t : List ℕ) → IsVector K (vertex_size r.whole e) u
+      → HasSoloChoices K r (queries.Extend e u) (replies.NoSection i p)
+      → HasSoloChoices K q (queries.Extend e u) (replies.NoSection j t) → p ≡ t
+  obstruction-told e u i j p t value x y =
+      one-obstruction K field r q same e u (fits e u value) x.0 y.0 x.2 (finals x.0 y.0 x.2 y.2) x.1 y.1 x.3 y.3 p t
+      x.4 y.4
+
   -- two right replies to a question on a version are the same, where their choices are those of a solo order
   pub one-reply : (query : Query) (x y : Answer) → IsRightReply K r query x → HasSoloChoices K r query x
       → IsRightReply K q query y → HasSoloChoices K q query y → x ≡ y
@@ -322,4 +347,15 @@ module _ {F : Type 0} (K : Ops) (s : State F) (v : ℕ) (r q : Reduction) (field
       (λ i j o e l m p t is_x is_y. class-told k z i j o e l m p t
       (subst (HasSoloChoices K r (queries.Class k z)) is_x c)
       (subst (HasSoloChoices K q (queries.Class k z)) is_y d))
+  one-reply queries.Sections (replies.Sections x) (replies.Sections y) a c b d =
+      ap replies.Sections (one-vectors K c.0 d.0 (finals c.0 d.0 c.1 d.1) 0 x y c.2 d.2)
+  one-reply queries.Sections (replies.Sections x) y a c b d = absurd b
+  one-reply (queries.Extend e u) x y a c b d =
+      one-extension K r.whole e u x y a (subst (λ W. IsRightExtension K W e u y) same.whole b)
+      (λ i j z w value is_x is_y. section-told e u i j z w value
+      (subst (HasSoloChoices K r (queries.Extend e u)) is_x c)
+      (subst (HasSoloChoices K q (queries.Extend e u)) is_y d))
+      (λ i j p t value is_x is_y. obstruction-told e u i j p t value
+      (subst (HasSoloChoices K r (queries.Extend e u)) is_x c)
+      (subst (HasSoloChoices K q (queries.Extend e u)) is_y d))
   one-reply query x y a c b d = absurd a

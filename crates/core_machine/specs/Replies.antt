@@ -1,12 +1,14 @@
 -- Which reply is right for a question.
-use Rattle.std.specs.Prelude.{◌≡◌, ◌≢◌, ℕ, suc, List, Some, length, slice_get}
+use Rattle.std.specs.Prelude.{◌≡◌, ◌≢◌, ℕ, suc, ◌==◌, List, [], ◌∷◌, Some, length, slice_get, if◌then◌else◌}
 use Rattle.dense_blocks.specs.Field.{Ops}
 use Rattle.dense_blocks.specs.LinearMaps.{IsMatrixOf}
 use Rattle.dense_blocks.specs.declared.block.Block.{Block}
-use Rattle.dense_blocks.specs.Vectors.{AllScalars}
-use Rattle.cochain_vec.specs.Complexes.{CellularComplex, IsCochain, coordinates, coboundary}
+use Rattle.dense_blocks.specs.Vectors.{AllScalars, IsVector}
+use Rattle.cochain_vec.specs.declared.cell.Cell.{Cell}
+use Rattle.cochain_vec.specs.Complexes.{CellularComplex, IsCochain, cells_of, coordinates, coboundary}
 use Rattle.cochain_vec.specs.Cohomology.{IsBasis, AreDimensions}
 use Rattle.cocycle_bases.specs.Classes.{IsFirstOpen, IsClass}
+use Rattle.sections.specs.Extensions.{IsSectionWith, IsObstruction}
 use Rattle.block_complexes.specs.BlockComplexes.{BlockComplex}
 use Rattle.block_complexes.specs.Cochains.{complex_of}
 use Rattle.equivalence_laws.specs.Equivalences.{IsEquivalence, graded_matrix}
@@ -62,6 +64,25 @@ IsRightClass K C k z (replies.NotCocycle j t) = (j ≡ k) × IsCochain K C k z �
 IsRightClass K C k z (replies.Class j coords vectors primitive) = (j ≡ k) × IsClass K C k z coords vectors primitive
 IsRightClass K C k z reply = ⊥
 
+-- how many coordinates the cell s has among these cells: none where it is not one of them
+abbrev pub size_in : List Cell → ℕ → ℕ
+size_in [] s = 0
+size_in (c ∷ cs) s = if c.cell == s then c.size else size_in cs s
+
+-- how many coordinates a cochain of degree 0 has at s: none where s is no cell of degree 0
+abbrev pub vertex_size : CellularComplex → ℕ → ℕ
+vertex_size C s = size_in (cells_of C 0) s
+
+-- right for the numbers v as the value of a section at s: they are too many or too few; or as many as s has
+-- coordinates, but not all scalars; or such a value, with a section that has it, or with an obstruction to it
+abbrev pub IsRightExtension : Ops → CellularComplex → ℕ → List ℕ → Reply → Type 0
+IsRightExtension K C s v replies.BadLength = length v ≢ vertex_size C s
+IsRightExtension K C s v replies.BadEntry = (length v ≡ vertex_size C s) × (AllScalars K v → ⊥)
+IsRightExtension K C s v (replies.Section t z) = (t ≡ s) × IsVector K (vertex_size C s) v × IsSectionWith K C s v z
+IsRightExtension K C s v (replies.NoSection t functional) =
+    (t ≡ s) × IsVector K (vertex_size C s) v × IsObstruction K C s v functional
+IsRightExtension K C s v reply = ⊥
+
 -- the reply is right for the question on the version: a line for each kind of reply
 abbrev pub IsRightReply : Ops → Reduction → Query → Reply → Type 0
 IsRightReply K r queries.Betti (replies.Betti numbers) = AreDimensions K r.whole r.degrees numbers
@@ -69,4 +90,6 @@ IsRightReply K r queries.Reduce (replies.Reduce reply) = IsRightReduced K r repl
 IsRightReply K r queries.Equiv (replies.Equiv reply maps) = IsRightReduced K r reply × AreRightMaps K r maps
 IsRightReply K r (queries.Basis k) (replies.Basis j vectors) = (j ≡ k) × IsBasis K r.whole k vectors
 IsRightReply K r (queries.Class k z) reply = IsRightClass K r.whole k z reply
+IsRightReply K r queries.Sections (replies.Sections vectors) = IsBasis K r.whole 0 vectors
+IsRightReply K r (queries.Extend s v) reply = IsRightExtension K r.whole s v reply
 IsRightReply K r query reply = ⊥

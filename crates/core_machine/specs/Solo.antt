@@ -11,6 +11,7 @@ use Rattle.equivalence_laws.specs.Equivalences.{GradedMatrix, graded_matrix, com
 use Rattle.scalar_finish.specs.Splits.{IsSplit}
 use Rattle.scalar_finish.specs.Finishes.{IsFinish}
 use Rattle.cocycle_bases.specs.Classes.{homotopy_below}
+use Rattle.sections.specs.Extensions.{IsLeadingSection, IsLeadingObstruction}
 use Rattle.sheaf_words.specs.declared.query.Query.{Query}
 use Rattle.sheaf_words.specs.declared.query.Query.TheVariants as queries
 use Rattle.sheaf_data.specs.Sheaves.{SheafData}
@@ -52,8 +53,9 @@ pub record IsFinal (K : Ops) (r : Reduction) (final : Final) : Type 0 where
 abbrev pub AreFinalVectors : Ops → Final → ℕ → List (List ℕ) → Type 0
 AreFinalVectors K final k vectors = vectors ≡ unit_images K (complex_of final.rest) final.iota k
 
--- each choice in a reply is fixed: the maps are the composite of the removals; a basis is that of the final maps; and a
--- cocycle z has the coordinates pi z and the primitive h z
+-- each choice in a reply is fixed: the maps are the composite of the removals; a basis is that of the final maps; a
+-- cocycle z has the coordinates pi z and the primitive h z; and a section, or an obstruction, is the leading one of the
+-- basis of degree 0
 abbrev pub HasSoloChoices : Ops → Reduction → Query → Answer → Type 0
 HasSoloChoices K r query (replies.Equiv reply maps) = IsCompositeOfPairs K r.start r.pairs
     (graded_matrix maps.pi) (graded_matrix maps.iota) (graded_matrix maps.h)
@@ -62,6 +64,14 @@ HasSoloChoices K r (queries.Basis k) (replies.Basis j vectors) =
 HasSoloChoices K r (queries.Class k z) (replies.Class j coords vectors primitive) =
     (final : Final) × IsFinal K r final × AreFinalVectors K final k vectors
     × (coords ≡ image_of K (final.pi k) z) × (primitive ≡ homotopy_below K final.h k z)
+HasSoloChoices K r queries.Sections (replies.Sections vectors) =
+    (final : Final) × IsFinal K r final × AreFinalVectors K final 0 vectors
+HasSoloChoices K r (queries.Extend s v) (replies.Section t z) =
+    (final : Final) × (vectors : List (List ℕ)) × IsFinal K r final × AreFinalVectors K final 0 vectors
+    × IsLeadingSection K (complex_of r.start) s v vectors z
+HasSoloChoices K r (queries.Extend s v) (replies.NoSection t functional) =
+    (final : Final) × (vectors : List (List ℕ)) × IsFinal K r final × AreFinalVectors K final 0 vectors
+    × IsLeadingObstruction K (complex_of r.start) s v vectors functional
 HasSoloChoices K r query reply = Unit {0}
 
 -- a step of a solo order: a client comes to a command only once the clients before it are done; the pair that is

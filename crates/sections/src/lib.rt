@@ -1,0 +1,2 @@
+//! Global sections with a given value at a cell.
+#![tactic(auto)]
