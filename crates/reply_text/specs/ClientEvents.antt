@@ -33,6 +33,11 @@ IsAnswerTo (Question (queries.Class k z)) (Reply c (replies.NotCocycle l t)) = U
 IsAnswerTo (Question (queries.Class k z)) (Reply c (replies.Class l coords vectors primitive)) = Unit {0}
 IsAnswerTo (Question (queries.Class k z)) (Reply c replies.BadLength) = Unit {0}
 IsAnswerTo (Question (queries.Class k z)) (Reply c replies.BadEntry) = Unit {0}
+IsAnswerTo (Question queries.Sections) (Reply c (replies.Sections vectors)) = Unit {0}
+IsAnswerTo (Question (queries.Extend s v)) (Reply c (replies.Section t z)) = Unit {0}
+IsAnswerTo (Question (queries.Extend s v)) (Reply c (replies.NoSection t functional)) = Unit {0}
+IsAnswerTo (Question (queries.Extend s v)) (Reply c replies.BadLength) = Unit {0}
+IsAnswerTo (Question (queries.Extend s v)) (Reply c replies.BadEntry) = Unit {0}
 IsAnswerTo command event = ⊥
 
 -- there is a value, and it meets P

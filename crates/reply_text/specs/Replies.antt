@@ -35,11 +35,12 @@ cause_words (Entry i) = codes "entry" ∷ decimal i ∷ []
 cause_words TotalLimit = codes "total" ∷ []
 cause_words (Square s u) = codes "square" ∷ decimal s ∷ decimal u ∷ []
 
--- the degree that a command asks about; 0 where it asks about none
-abbrev pub degree_of : Command → ℕ
-degree_of (Ask (queries.Basis k)) = k
-degree_of (Ask (queries.Class k z)) = k
-degree_of command = 0
+-- the degree or the vertex that a command asks about; 0 where it asks about neither
+abbrev pub subject_of : Command → ℕ
+subject_of (Ask (queries.Basis k)) = k
+subject_of (Ask (queries.Class k z)) = k
+subject_of (Ask (queries.Extend s v)) = s
+subject_of command = 0
 
 -- what the first line says of a reply, after the word of the command
 abbrev pub reply_words : Command → Reply → List (List ℕ)
@@ -50,9 +51,11 @@ reply_words command (replies.Basis k vectors) = decimal k ∷ decimal (length ve
 reply_words command (replies.NotCocycle k t) = decimal k ∷ codes "open" ∷ decimal t ∷ []
 reply_words command (replies.Class k coords vectors primitive) =
     decimal k ∷ codes "closed" ∷ decimal (length coords) ∷ map decimal coords
-reply_words command replies.BadLength = decimal (degree_of command) ∷ codes "refused" ∷ codes "length" ∷ []
-reply_words command replies.BadEntry = decimal (degree_of command) ∷ codes "refused" ∷ codes "entry" ∷ []
-reply_words command r = []
+reply_words command (replies.Sections vectors) = decimal (length vectors) ∷ []
+reply_words command (replies.Section s z) = decimal s ∷ codes "section" ∷ []
+reply_words command (replies.NoSection s functional) = decimal s ∷ codes "none" ∷ []
+reply_words command replies.BadLength = decimal (subject_of command) ∷ codes "refused" ∷ codes "length" ∷ []
+reply_words command replies.BadEntry = decimal (subject_of command) ∷ codes "refused" ∷ codes "entry" ∷ []
 
 -- what the first line says after the word of the command
 abbrev pub answer_words : Command → Event → List (List ℕ)
@@ -61,20 +64,32 @@ answer_words command (events.Edit c (Refused cause)) = codes "refused" ∷ cause
 answer_words command (events.Reply c r) = reply_words command r
 answer_words command event = []
 
+-- the line of a word and these entries
+abbrev pub row_line : List ℕ → List ℕ → List (List ℕ)
+row_line word entries = word ∷ map decimal entries
+
 -- a line for each vector of a basis
 abbrev pub vector_lines : List (List ℕ) → List (List (List ℕ))
-vector_lines vectors = map (λ v. codes "vector" ∷ map decimal v) vectors
+vector_lines vectors = map (λ v. row_line (codes "vector") v) vectors
 
 -- those, and a line for a primitive
 abbrev pub class_lines : List (List ℕ) → List ℕ → List (List (List ℕ))
-class_lines vectors primitive = vector_lines vectors ++ (codes "primitive" ∷ map decimal primitive) ∷ []
+class_lines vectors primitive = vector_lines vectors ++ row_line (codes "primitive") primitive ∷ []
+
+-- the lines of a reply after the first
+abbrev pub lines_of : Reply → List (List (List ℕ))
+lines_of (replies.Reduce r) = reduced_lines r
+lines_of (replies.Equiv r m) = reduced_lines r ++ map_lines r m
+lines_of (replies.Basis k vectors) = vector_lines vectors
+lines_of (replies.Class k coords vectors primitive) = class_lines vectors primitive
+lines_of (replies.Sections vectors) = vector_lines vectors
+lines_of (replies.Section s z) = row_line (codes "vector") z ∷ []
+lines_of (replies.NoSection s functional) = row_line (codes "functional") functional ∷ []
+lines_of r = []
 
 -- the lines after the first
 abbrev pub further_lines : Event → List (List (List ℕ))
-further_lines (events.Reply c (replies.Reduce r)) = reduced_lines r
-further_lines (events.Reply c (replies.Equiv r m)) = reduced_lines r ++ map_lines r m
-further_lines (events.Reply c (replies.Basis k vectors)) = vector_lines vectors
-further_lines (events.Reply c (replies.Class k coords vectors primitive)) = class_lines vectors primitive
+further_lines (events.Reply c r) = lines_of r
 further_lines event = []
 
 -- the first line

@@ -1,7 +1,7 @@
 ghost use Rattle.std.specs.Prelude.{◌≡◌, ◌∷◌, ◌++◌, [], map, length, codes, OnOk};
 ghost use Rattle.std.specs.Fmt.{decimal};
 ghost use Rattle.reply_text.specs.Parts.{spaced_words, lines_text};
-ghost use Rattle.reply_text.specs.Replies.{vector_lines, class_lines};
+ghost use Rattle.reply_text.specs.Replies.{row_line, vector_lines, class_lines};
 
 use crate::words::{put_count, put_entries, put_named, put_next};
 use sheaf_words::Row;
@@ -37,12 +37,21 @@ pub(crate) fn put_closed(out: &mut Vec<u8>, k: u8, coords: &[u8]) -> Result<(), 
     put_entries(out, coords)
 }
 
-/// Appends the degree of what is no cochain, and what is wrong with it.
-pub(crate) fn put_no_cochain(out: &mut Vec<u8>, k: u8, fault: &[u8]) -> Result<(), NoMemory>
-    ensures { OnOk result (out.new.items ≡ out.old.items
-        ++ spaced_words (decimal k ∷ codes "refused" ∷ fault.now ∷ [])) }
+/// Appends the vertex of a value, and the word that says whether it extends.
+pub(crate) fn put_extension(out: &mut Vec<u8>, s: u32, word: &[u8]) -> Result<(), NoMemory>
+    ensures { OnOk result (out.new.items ≡ out.old.items ++ spaced_words (decimal s ∷ word.now ∷ [])) }
 {
-    put_next(out, u32::from(k))?;
+    put_next(out, s)?;
+    out.push(b' ')?;
+    out.extend_from_slice(word)
+}
+
+/// Appends the degree of what is no cochain, or the vertex of what is no value there, and what is wrong with it.
+pub(crate) fn put_misfit(out: &mut Vec<u8>, subject: u32, fault: &[u8]) -> Result<(), NoMemory>
+    ensures { OnOk result (out.new.items ≡ out.old.items
+        ++ spaced_words (decimal subject ∷ codes "refused" ∷ fault.now ∷ [])) }
+{
+    put_next(out, subject)?;
     out.extend_from_slice(b" refused ")?;
     out.extend_from_slice(fault)
 }
@@ -50,9 +59,8 @@ pub(crate) fn put_no_cochain(out: &mut Vec<u8>, k: u8, fault: &[u8]) -> Result<(
 // ---- the lines after it
 
 /// Appends the line of the word and these entries.
-fn put_row(out: &mut Vec<u8>, word: &[u8], entries: &[u8]) -> Result<(), NoMemory>
-    ensures { OnOk result (out.new.items ≡ out.old.items
-        ++ lines_text ((word.now ∷ map decimal entries.now) ∷ [])) }
+pub(crate) fn put_row(out: &mut Vec<u8>, word: &[u8], entries: &[u8]) -> Result<(), NoMemory>
+    ensures { OnOk result (out.new.items ≡ out.old.items ++ lines_text (row_line word.now entries.now ∷ [])) }
 {
     out.extend_from_slice(word)?;
     put_entries(out, entries)?;

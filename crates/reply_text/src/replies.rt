@@ -2,15 +2,16 @@ ghost use Rattle.std.specs.Prelude.{◌≡◌, ◌∷◌, ◌++◌, [], map, cod
 ghost use Rattle.std.specs.Fmt.{decimal};
 ghost use Rattle.reply_text.specs.Parts.{spaced_words, lines_text};
 ghost use Rattle.reply_text.specs.Reductions.{reduced_counts, map_counts, reduced_lines, map_lines};
-ghost use Rattle.reply_text.specs.Replies.{command_word, degree_of, cause_words, reply_words, answer_words};
-ghost use Rattle.reply_text.specs.Replies.{first_line, further_lines, reply_lines};
+ghost use Rattle.reply_text.specs.Replies.{command_word, subject_of, cause_words, reply_words, answer_words};
+ghost use Rattle.reply_text.specs.Replies.{first_line, lines_of, further_lines, reply_lines};
 ghost use Rattle.reply_text.specs.ClientEvents.{IsAnswerTo};
 
 use crate::classes::{
-    put_basis_size, put_class, put_closed, put_no_cochain, put_open, put_vectors,
+    put_basis_size, put_class, put_closed, put_extension, put_misfit, put_open, put_row,
+    put_vectors,
 };
 use crate::reductions::{put_map_counts, put_maps, put_reduced, put_reduced_counts};
-use crate::words::{put_all, put_named, put_next, put_number};
+use crate::words::{put_all, put_count, put_named, put_next, put_number};
 use sheaf_words::{Cause, Command, Event, Maps, Query, Reduced, Reply, Verdict};
 use std::alloc::{AllocError as NoMemory, Global};
 
@@ -30,12 +31,13 @@ fn command_word(command: &Command) -> &'static [u8]
     }
 }
 
-/// The degree that a command asks about; 0 where it asks about none.
-fn degree_of(command: &Command) -> u8
-    ensures { result ≡ degree_of command.now }
+/// The degree or the vertex that a command asks about; 0 where it asks about neither.
+fn subject_of(command: &Command) -> u32
+    ensures { result ≡ subject_of command.now }
 {
     match command {
-        Command::Ask(Query::Basis { k } | Query::Class { k, .. }) => *k,
+        Command::Ask(Query::Basis { k } | Query::Class { k, .. }) => u32::from(*k),
+        Command::Ask(Query::Extend { s, .. }) => *s,
         _ => 0,
     }
 }
@@ -84,9 +86,11 @@ fn put_reply_words(
         Reply::Basis { k, vectors } => put_basis_size(out, *k, vectors.as_slice().len()),
         Reply::NotCocycle { k, t } => put_open(out, *k, *t),
         Reply::Class { k, coords, .. } => put_closed(out, *k, coords.as_slice()),
-        Reply::BadLength => put_no_cochain(out, degree_of(command), b"length"),
-        Reply::BadEntry => put_no_cochain(out, degree_of(command), b"entry"),
-        Reply::Sections(_) | Reply::Section { .. } | Reply::NoSection { .. } => Ok(()),
+        Reply::Sections(vectors) => put_count(out, vectors.as_slice().len()),
+        Reply::Section { s, .. } => put_extension(out, *s, b"section"),
+        Reply::NoSection { s, .. } => put_extension(out, *s, b"none"),
+        Reply::BadLength => put_misfit(out, subject_of(command), b"length"),
+        Reply::BadEntry => put_misfit(out, subject_of(command), b"entry"),
     }
 }
 
@@ -160,31 +164,31 @@ fn put_equiv(
     put_maps(alloc, out, reduced, maps)
 }
 
+/// Appends the lines of a reply after the first.
+fn put_lines(alloc: Global, out: &mut Vec<u8>, r: &Reply) -> Result<(), NoMemory>
+    ensures { OnOk result (out.new.items ≡ out.old.items ++ lines_text (lines_of r.now)) }
+{
+    match r {
+        Reply::Reduce(reduced) => put_reduced(alloc, out, reduced),
+        Reply::Equiv(reduced, maps) => put_equiv(alloc, out, reduced, maps),
+        Reply::Basis { vectors, .. } | Reply::Sections(vectors) => {
+            put_vectors(out, vectors.as_slice())
+        }
+        Reply::Class {
+            vectors, primitive, ..
+        } => put_class(out, vectors.as_slice(), primitive.as_slice()),
+        Reply::Section { z, .. } => put_row(out, b"vector", z.as_slice()),
+        Reply::NoSection { functional, .. } => put_row(out, b"functional", functional.as_slice()),
+        _ => Ok(()),
+    }
+}
+
 /// Appends the lines after the first.
 fn put_further(alloc: Global, out: &mut Vec<u8>, event: &Event) -> Result<(), NoMemory>
     ensures { OnOk result (out.new.items ≡ out.old.items ++ lines_text (further_lines event.now)) }
 {
     match event {
-        Event::Reply {
-            r: Reply::Reduce(reduced),
-            ..
-        } => put_reduced(alloc, out, reduced),
-        Event::Reply {
-            r: Reply::Equiv(reduced, maps),
-            ..
-        } => put_equiv(alloc, out, reduced, maps),
-        Event::Reply {
-            r: Reply::Basis { vectors, .. },
-            ..
-        } => put_vectors(out, vectors.as_slice()),
-        Event::Reply {
-            r: Reply::Class {
-                vectors,
-                primitive,
-                ..
-            },
-            ..
-        } => put_class(out, vectors.as_slice(), primitive.as_slice()),
+        Event::Reply { r, .. } => put_lines(alloc, out, r),
         _ => Ok(()),
     }
 }

@@ -1,17 +1,19 @@
 -- What is known of a line that is not refused.
 use Rattle.std.proofs.Common.{◌≡◌, ℕ, Bool, true, false, cond, not, List, drop, length, refl, ap, ◌∙◌, Option, Some}
 use Rattle.std.proofs.Common.{None, Contains, nat_eq, nat_lt, ◌≤◌}
+use Rattle.std.specs.Prelude.{◌==◌, nat_le, slice_index}
 use Rattle.std.specs.List.{list_any}
-use Rattle.std.proofs.lemmas.Bool.{eqb-true, ltb-false}
+use Rattle.std.proofs.lemmas.Bool.{eqb-true, ltb-false, leb-false}
 use Rattle.std.proofs.lemmas.Map.Views.{Contains-from_any}
 use Rattle.cell_complex.specs.declared.fault.FaceFault.{FaceFault}
 use Rattle.cell_complex.specs.Verdicts.{face_fault}
 use Rattle.field_table.specs.Table.{orders}
 use Rattle.sheaf_text.specs.Lines.{value, may_stand, count_fits, word, face_in}
-use Rattle.sheaf_text.specs.Grammar.{Known, face_refusal, entries_refusal, degree_refusal, kind_refusal}
-use Rattle.sheaf_text.specs.Grammar.{placed_refusal}
+use Rattle.sheaf_text.specs.Grammar.{Known, face_refusal, entries_refusal, degree_refusal, vertex_refusal}
+use Rattle.sheaf_text.specs.Grammar.{kind_refusal, placed_refusal}
 use Rattle.sheaf_text.specs.Forms.{are_below, are_numerals, is_sign, is_full, field_refusal, incidence_refusal}
 use Rattle.sheaf_text.specs.Forms.{is_query_kind, is_set_kind, command_refusal, HasDegree}
+use Rattle.sheaf_text.specs.Answers.{IsVertex}
 use Rattle.sheaf_text.specs.Parts.{TakesFace}
 use Rattle.sheaf_text.specs.State.{known_by, IsAccepted}
 use Rattle.sheaf_text.specs.declared.fault.Refusal.{Refusal}
@@ -81,6 +83,14 @@ pub degree_fits : (k : Known) (ws : List (List ℕ)) → degree_refusal k ws ≡
     × (command_refusal k ≡ None)
 degree_fits k ws e = let a = passes (nat_lt 15 (value ws 1)) _ _ e in (ltb-false _ _ a.0, a.1)
 
+-- a question on the value at a vertex is refused for the cell, or as any command
+pub vertex_fits : (k : Known) (ws : List (List ℕ)) → vertex_refusal k ws ≡ None → IsVertex k.input.dims (value ws 1)
+    × (command_refusal k ≡ None)
+vertex_fits k ws e =
+    let a = passes (nat_le (length k.input.dims) (value ws 1)) _ _ e in
+    let b = passes (not (slice_index k.input.dims (value ws 1) == 0)) _ _ a.1 in
+    (record { is_cell = leb-false _ _ a.0; dimension = eqb-true _ _ (holds _ b.0) }, b.1)
+
 -- ---- where a line stands
 
 query_stands : (kind : Kind) (s : Stage) → is_query_kind kind ≡ true → may_stand s kind ≡ true → s ≡ stages.InClient
@@ -94,6 +104,10 @@ query_stands kinds.Basis stages.InClient e h = refl
 query_stands kinds.Basis s e h = absurd cc
 query_stands kinds.Class stages.InClient e h = refl
 query_stands kinds.Class s e h = absurd cc
+query_stands kinds.Sections stages.InClient e h = refl
+query_stands kinds.Sections s e h = absurd cc
+query_stands kinds.Extend stages.InClient e h = refl
+query_stands kinds.Extend s e h = absurd cc
 query_stands kind s e h = absurd cc
 
 edit_stands : (s : Stage) → may_stand s kinds.Edit ≡ true → s ≡ stages.InClient

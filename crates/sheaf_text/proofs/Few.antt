@@ -2,6 +2,7 @@
 use Rattle.std.proofs.Common.{◌≡◌, ℕ, suc, ◌+◌, ◌≤◌, ◌<◌, Bool, true, false, nat_eq, List, [], ◌∷◌, ◌++◌, length, map, drop, All}
 use Rattle.std.proofs.Common.{Result, Ok, Err, Option, Some, None, refl, sym, ap, subst, ◌∙◌, arith}
 use Rattle.std.specs.Prelude.{sum_by, IfOk, ◌==◌, nat_le, if◌then◌else◌}
+use Rattle.std.proofs.Math.ListN.{get_or-append}
 use Rattle.std.specs.List.{slice_split}
 use Rattle.std.specs.Str.Lines.{lines, lines_of_parts}
 use Rattle.std.proofs.lemmas.Bool.{leb-false}
@@ -11,7 +12,8 @@ use Rattle.std.proofs.lemmas.List.Sums.{sum_by-append, sum_by-cons, count_by-le-
 use Rattle.std.proofs.lemmas.List.Splits.{length-slice_split}
 use Rattle.sheaf_words.specs.declared.query.Command.{Command}
 use Rattle.sheaf_words.specs.declared.query.Command.TheVariants.{Change, Ask}
-use Rattle.sheaf_words.specs.declared.query.Query.TheVariants.{Betti, Reduce, Equiv, Basis, Class}
+use Rattle.sheaf_words.specs.declared.query.Query.{Query}
+use Rattle.sheaf_words.specs.declared.query.Query.TheVariants.{Betti, Reduce, Equiv, Basis, Class, Sections, Extend}
 use Rattle.sheaf_words.specs.declared.edit.Set.{Set}
 use Rattle.sheaf_text.specs.Cut.{words, value_of}
 use Rattle.sheaf_text.specs.Lines.{word, value, is_skipped, kind_of}
@@ -21,7 +23,7 @@ use Rattle.sheaf_text.specs.Readings.{nothing_known, run}
 use Rattle.sheaf_text.specs.Forms.{command_refusal, content_refusal, known_after, set_of, onto_last, into_script}
 use Rattle.sheaf_text.specs.Forms.{into_last}
 use Rattle.sheaf_text.specs.Forms.{reading_at_end, go_on, contents}
-use Rattle.sheaf_text.specs.Answers.{Gives, IsServable, AreServable}
+use Rattle.sheaf_text.specs.Answers.{Gives, CanBeServed, IsServable, AreServable}
 use Rattle.sheaf_text.specs.declared.fault.LineCause.TheVariants as causes
 use Rattle.sheaf_text.specs.declared.fault.Which.TheVariants as limits
 use Rattle.sheaf_text.specs.declared.fault.Refusal.{Refusal}
@@ -30,7 +32,7 @@ use Rattle.sheaf_text.specs.declared.fault.TextFault.{TextFault}
 use Rattle.sheaf_text.specs.declared.input.Input.{Input}
 use Rattle.sheaf_text.specs.declared.line.Kind.{Kind}
 use Rattle.sheaf_text.specs.declared.line.Kind.TheVariants as kinds
-use Rattle.sheaf_text.proofs.Accepted.{passes, right, degree_fits}
+use Rattle.sheaf_text.proofs.Accepted.{passes, right, degree_fits, vertex_fits}
 use Rattle.sheaf_text.proofs.Steps.{refusal-content, known_after-skipped}
 
 -- ---- a command more, and a change more
@@ -129,6 +131,25 @@ onto_last-changes dims n (s ∷ t ∷ more) c new h =
     All-cons (All (IsServable dims n)) s (onto_last (t ∷ more) c) (All-head (All (IsServable dims n)) s (t ∷ more) h)
     (onto_last-changes dims n (t ∷ more) c new (All-tail (All (IsServable dims n)) s (t ∷ more) h))
 
+-- ---- a cell more
+
+more_cells : (dims : List ℕ) (dim : ℕ) (q : Query) → CanBeServed dims q → CanBeServed (dims ++ dim ∷ []) q
+more_cells dims dim Betti h = h
+more_cells dims dim Reduce h = h
+more_cells dims dim Equiv h = h
+more_cells dims dim (Basis k) h = h
+more_cells dims dim (Class k z) h = h
+more_cells dims dim Sections h = h
+more_cells dims dim (Extend s v) h = record {
+  is_cell = omega (arith, h.is_cell, length-append dims (dim ∷ []));
+  dimension = get_or-append dims (dim ∷ []) 0 s h.is_cell ∙ h.dimension;
+}
+
+command_of_more_cells : (dims : List ℕ) (dim n : ℕ) (c : Command) → IsServable dims n c
+    → IsServable (dims ++ dim ∷ []) n c
+command_of_more_cells dims dim n (Change e) h = h
+command_of_more_cells dims dim n (Ask q) h = more_cells dims dim q h
+
 -- ---- a line more
 
 -- what the scripts of so many lines have, where so many commands are counted
@@ -146,6 +167,17 @@ line_more dims scripts counted line few = record {
   most = few.most;
   changes = All-weaker (All (IsServable dims line)) (All (IsServable dims (line + 1)))
       (all_more_changes dims line (line + 1) (omega arith)) scripts few.changes;
+}
+
+cell_more : (dims : List ℕ) (dim : ℕ) (scripts : List (List Command)) (counted line : ℕ)
+    → AreFewAt dims scripts counted line → AreFewAt (dims ++ dim ∷ []) scripts counted line
+cell_more dims dim scripts counted line few = record {
+  clients = few.clients;
+  commands = few.commands;
+  most = few.most;
+  changes = All-weaker (All (IsServable dims line)) (All (IsServable (dims ++ dim ∷ []) line))
+      (All-weaker (IsServable dims line) (IsServable (dims ++ dim ∷ []) line) (command_of_more_cells dims dim line))
+      scripts few.changes;
 }
 
 client_more : (dims : List ℕ) (scripts : List (List Command)) (counted line : ℕ) → length scripts < 8
@@ -184,63 +216,67 @@ change_more dims scripts counted line s few = record {
   changes = into_last-changes dims line scripts s few.changes;
 }
 
-abbrev AreFewKnown : List ℕ → Known → ℕ → Type 0
-AreFewKnown dims k line = AreFewAt dims k.input.scripts k.commands line
+abbrev AreFewKnown : Known → ℕ → Type 0
+AreFewKnown k line = AreFewAt k.input.dims k.input.scripts k.commands line
 
-command_keeps : (dims : List ℕ) (k : Known) (line : ℕ) (c : Command) → IsServable dims (line + 1) c
-    → command_refusal k ≡ None → AreFewKnown dims k line
-    → AreFewAt dims (onto_last k.input.scripts c) (k.commands + 1) (line + 1)
-command_keeps dims k line c new e few =
-    command_more dims k.input.scripts k.commands (line + 1) c new
+command_keeps : (k : Known) (line : ℕ) (c : Command) → IsServable k.input.dims (line + 1) c
+    → command_refusal k ≡ None → AreFewKnown k line
+    → AreFewAt k.input.dims (onto_last k.input.scripts c) (k.commands + 1) (line + 1)
+command_keeps k line c new e few =
+    command_more k.input.dims k.input.scripts k.commands (line + 1) c new
     (leb-false _ _ (passes (nat_le 4096 k.commands) (Over limits.Commands) None e).0)
-    (line_more dims k.input.scripts k.commands line few)
+    (line_more k.input.dims k.input.scripts k.commands line few)
 
-kind_keeps : (dims : List ℕ) (k : Known) (line : ℕ) (kind : Kind) (ws : List (List ℕ)) → kind_refusal k kind ws ≡ None
-    → AreFewKnown dims k line → AreFewKnown dims (advance k (Some kind) ws) (line + 1)
-kind_keeps dims k line kinds.Client ws e few =
-    client_more dims k.input.scripts k.commands (line + 1)
+kind_keeps : (k : Known) (line : ℕ) (kind : Kind) (ws : List (List ℕ)) → kind_refusal k kind ws ≡ None
+    → AreFewKnown k line → AreFewKnown (advance k (Some kind) ws) (line + 1)
+kind_keeps k line kinds.Cell ws e few =
+    cell_more k.input.dims (value ws 1) k.input.scripts k.commands (line + 1)
+    (line_more k.input.dims k.input.scripts k.commands line few)
+kind_keeps k line kinds.Client ws e few =
+    client_more k.input.dims k.input.scripts k.commands (line + 1)
     (leb-false _ _ (passes (nat_le 8 (length k.input.scripts)) (Over limits.Clients) None e).0)
-    (line_more dims k.input.scripts k.commands line few)
-kind_keeps dims k line kinds.Betti ws e few = command_keeps dims k line (Ask Betti) tt e few
-kind_keeps dims k line kinds.Reduce ws e few = command_keeps dims k line (Ask Reduce) tt e few
-kind_keeps dims k line kinds.Equiv ws e few = command_keeps dims k line (Ask Equiv) tt e few
-kind_keeps dims k line kinds.Basis ws e few = let fits = degree_fits k ws e in
-    command_keeps dims k line (Ask (Basis (value ws 1))) fits.0 fits.1 few
-kind_keeps dims k line kinds.Class ws e few = let fits = degree_fits k ws e in
-    command_keeps dims k line (Ask (Class (value ws 1) (map value_of (drop 2 ws)))) fits.0 fits.1 few
-kind_keeps dims k line kinds.Edit ws e few =
-    command_keeps dims k line (Change (record { sets = [] })) (omega arith) e few
-kind_keeps dims k line kinds.Stalk ws e few =
-    change_more dims k.input.scripts k.commands line (set_of kinds.Stalk ws) few
-kind_keeps dims k line kinds.Restrict ws e few = change_more dims k.input.scripts k.commands line
+    (line_more k.input.dims k.input.scripts k.commands line few)
+kind_keeps k line kinds.Betti ws e few = command_keeps k line (Ask Betti) tt e few
+kind_keeps k line kinds.Reduce ws e few = command_keeps k line (Ask Reduce) tt e few
+kind_keeps k line kinds.Equiv ws e few = command_keeps k line (Ask Equiv) tt e few
+kind_keeps k line kinds.Basis ws e few = let fits = degree_fits k ws e in
+    command_keeps k line (Ask (Basis (value ws 1))) fits.0 fits.1 few
+kind_keeps k line kinds.Class ws e few = let fits = degree_fits k ws e in
+    command_keeps k line (Ask (Class (value ws 1) (map value_of (drop 2 ws)))) fits.0 fits.1 few
+kind_keeps k line kinds.Sections ws e few = command_keeps k line (Ask Sections) tt e few
+kind_keeps k line kinds.Extend ws e few = let fits = vertex_fits k ws e in
+    command_keeps k line (Ask (Extend (value ws 1) (map value_of (drop 2 ws)))) fits.0 fits.1 few
+kind_keeps k line kinds.Edit ws e few =
+    command_keeps k line (Change (record { sets = [] })) (omega arith) e few
+kind_keeps k line kinds.Stalk ws e few =
+    change_more k.input.dims k.input.scripts k.commands line (set_of kinds.Stalk ws) few
+kind_keeps k line kinds.Restrict ws e few = change_more k.input.dims k.input.scripts k.commands line
     (set_of kinds.Restrict ws) few
-kind_keeps dims k line kind ws e few = line_more dims k.input.scripts k.commands line few
+kind_keeps k line kind ws e few = line_more k.input.dims k.input.scripts k.commands line few
 
-content_keeps : (dims : List ℕ) (k : Known) (line : ℕ) (kind : Option Kind) (ws : List (List ℕ))
-    → content_refusal k kind ws ≡ None
-    → AreFewKnown dims k line → AreFewKnown dims (advance k kind ws) (line + 1)
-content_keeps dims k line None ws e few = let none =
+content_keeps : (k : Known) (line : ℕ) (kind : Option Kind) (ws : List (List ℕ)) → content_refusal k kind ws ≡ None
+    → AreFewKnown k line → AreFewKnown (advance k kind ws) (line + 1)
+content_keeps k line None ws e few = let none =
     (passes (is_ended k.stage) (Bad causes.After) (Some (Bad causes.Word)) e).1 in absurd cc
-content_keeps dims k line (Some kind) ws e few =
-    kind_keeps dims k line kind ws (right k kind ws (passes (is_ended k.stage) (Bad causes.After) _ e).1).fits few
+content_keeps k line (Some kind) ws e few =
+    kind_keeps k line kind ws (right k kind ws (passes (is_ended k.stage) (Bad causes.After) _ e).1).fits few
 
-line_keeps : (dims : List ℕ) (k : Known) (line : ℕ) (ws : List (List ℕ)) (b : Bool) → is_skipped ws ≡ b
-    → refusal k ws ≡ None
-    → AreFewKnown dims k line → AreFewKnown dims (known_after k ws) (line + 1)
+line_keeps : (k : Known) (line : ℕ) (ws : List (List ℕ)) (b : Bool) → is_skipped ws ≡ b → refusal k ws ≡ None
+    → AreFewKnown k line → AreFewKnown (known_after k ws) (line + 1)
 unfolding known_after
-line_keeps dims k line ws true is e few =
-    subst (λ (j : Known). AreFewKnown dims j (line + 1)) (sym (known_after-skipped k ws is))
-    (line_more dims k.input.scripts k.commands line few)
-line_keeps dims k line ws false is e few =
-    content_keeps dims k line (kind_of (word ws 0)) ws (sym (refusal-content k ws is) ∙ e) few
+line_keeps k line ws true is e few =
+    subst (λ (j : Known). AreFewKnown j (line + 1)) (sym (known_after-skipped k ws is))
+    (line_more k.input.dims k.input.scripts k.commands line few)
+line_keeps k line ws false is e few =
+    content_keeps k line (kind_of (word ws 0)) ws (sym (refusal-content k ws is) ∙ e) few
 
 -- ---- all lines
 
-scripts-ending : (k : Known) (line : ℕ) (v : InputValue) (b : Bool) → is_ended k.stage ≡ b → reading_at_end k line
-    ≡ Good v → v.scripts ≡ k.input.scripts
-scripts-ending k line v true e is = let same : Good k.input ≡ Good v = sym (rw e refl) ∙ is in let value :
-    k.input ≡ v = cc in sym (ap (λ (w : InputValue). w.scripts) value)
-scripts-ending k line v false e is = let same : RefusedLine (line + 1) (Bad causes.End) ≡ Good v = sym (rw e refl)
+input-ending : (k : Known) (line : ℕ) (v : InputValue) (b : Bool) → is_ended k.stage ≡ b → reading_at_end k line
+    ≡ Good v → v ≡ k.input
+input-ending k line v true e is = let same : Good k.input ≡ Good v = sym (rw e refl) ∙ is in let value :
+    k.input ≡ v = cc in sym value
+input-ending k line v false e is = let same : RefusedLine (line + 1) (Bad causes.End) ≡ Good v = sym (rw e refl)
     ∙ is in absurd cc
 
 not_refused : (r : Option Refusal) (line : ℕ) (later : Reading) (v : InputValue) → go_on r line later ≡ Good v
@@ -248,30 +284,29 @@ not_refused : (r : Option Refusal) (line : ℕ) (later : Reading) (v : InputValu
 not_refused None line later v e = (refl, e)
 not_refused (Some refusal) line later v e = absurd cc
 
-few-run : (dims : List ℕ) (k : Known) (line : ℕ) (more : List (List (List ℕ))) (v : InputValue)
-    → line + length more ≤ 1000000000
-    → AreFewKnown dims k line → run k line more ≡ Good v → AreServable dims v.scripts
+few-run : (k : Known) (line : ℕ) (more : List (List (List ℕ))) (v : InputValue) → line + length more ≤ 1000000000
+    → AreFewKnown k line → run k line more ≡ Good v → AreServable v.dims v.scripts
 unfolding run known_after
-few-run dims k line [] v short few e =
-    subst (AreServable dims) (sym (scripts-ending k line v (is_ended k.stage) refl e))
+few-run k line [] v short few e =
+    subst (λ (w : InputValue). AreServable w.dims w.scripts) (sym (input-ending k line v (is_ended k.stage) refl e))
     (record {
       clients = few.clients;
       commands = omega (arith, few.commands, few.most);
-      each = All-weaker (All (IsServable dims line)) (All (IsServable dims 1000000000))
-          (all_more_changes dims line 1000000000 (omega arith)) k.input.scripts few.changes;
+      each = All-weaker (All (IsServable k.input.dims line)) (All (IsServable k.input.dims 1000000000))
+          (all_more_changes k.input.dims line 1000000000 (omega arith)) k.input.scripts few.changes;
     })
-few-run dims k line (ws ∷ more) v short few e =
+few-run k line (ws ∷ more) v short few e =
     let next = known_after k ws in
     let accepted = not_refused (refusal k ws) (line + 1) (run next (line + 1) more) v e in
-    few-run dims next (line + 1) more v (omega arith)
-    (line_keeps dims k line ws (is_skipped ws) refl accepted.0 few) accepted.1
+    few-run next (line + 1) more v (omega arith)
+    (line_keeps k line ws (is_skipped ws) refl accepted.0 few) accepted.1
 
-few_at_start : (dims : List ℕ) → AreFewKnown dims nothing_known 0
-few_at_start dims = record {
+few_at_start : AreFewKnown nothing_known 0
+few_at_start = record {
   clients = omega arith;
   commands = omega arith;
   most = omega arith;
-  changes = All-nil (All (IsServable dims 0));
+  changes = All-nil (All (IsServable [] 0));
 }
 
 one_line : (b : Bool) (x : List ℕ) → length (if b then [] else x ∷ []) ≤ 1
@@ -298,7 +333,6 @@ length-contents bytes =
 pub few_given : (bytes : List ℕ) (result : Result Input TextFault) → length bytes ≤ 16777216
     → Gives result (run nothing_known 0 (contents bytes))
     → IfOk result (λ input. AreServable input.draft.complex.dims input.scripts)
-few_given bytes (Ok input) short gives = few-run input.draft.complex.dims nothing_known 0 (contents bytes)
-    (input_value input)
-    (omega (arith, length-contents bytes)) (few_at_start input.draft.complex.dims) gives
+few_given bytes (Ok input) short gives = few-run nothing_known 0 (contents bytes) (input_value input)
+    (omega (arith, length-contents bytes)) few_at_start gives
 few_given bytes (Err fault) short gives = tt

@@ -27,6 +27,8 @@ with_query-advances k kinds.Reduce ws e = refl
 with_query-advances k kinds.Equiv ws e = refl
 with_query-advances k kinds.Basis ws e = refl
 with_query-advances k kinds.Class ws e = refl
+with_query-advances k kinds.Sections ws e = refl
+with_query-advances k kinds.Extend ws e = refl
 with_query-advances k kind ws e = absurd cc
 
 known-with_query : (old : State) (scripts : Scripts) (q : Query) → old.stage ≡ stages.InClient

@@ -1,5 +1,5 @@
 -- What a call of the reader answers, beside the reading of its bytes.
-use Rattle.std.specs.Prelude.{◌≡◌, ◌≤◌, ℕ, List, length, sum_by, All, Result, Ok, Err}
+use Rattle.std.specs.Prelude.{◌≡◌, ◌≤◌, ◌<◌, ℕ, List, length, slice_index, sum_by, All, Result, Ok, Err}
 use Rattle.sheaf_words.specs.declared.query.Command.{Command}
 use Rattle.sheaf_words.specs.declared.query.Command.TheVariants.{Change, Ask}
 use Rattle.sheaf_words.specs.declared.query.Query.{Query}
@@ -22,6 +22,11 @@ abbrev pub Gives : Result Input TextFault → Reading → Type 0
 Gives (Ok input) reading = reading ≡ Good (input_value input)
 Gives (Err fault) reading = GivesFault fault reading
 
+-- s is a cell of dimension 0, where the cells have these dimensions
+pub record IsVertex (dims : List ℕ) (s : ℕ) : Type 0 where
+  pub is_cell : s < length dims
+  pub dimension : slice_index dims s ≡ 0
+
 -- what can be asked of a complex whose cells have these dimensions
 abbrev pub CanBeServed : List ℕ → Query → Type 0
 CanBeServed dims Betti = Unit {0}
@@ -29,8 +34,8 @@ CanBeServed dims Reduce = Unit {0}
 CanBeServed dims Equiv = Unit {0}
 CanBeServed dims (Basis k) = k ≤ 15
 CanBeServed dims (Class k z) = k ≤ 15
-CanBeServed dims Sections = ⊥
-CanBeServed dims (Extend s v) = ⊥
+CanBeServed dims Sections = Unit {0}
+CanBeServed dims (Extend s v) = IsVertex dims s
 
 -- the command is an edit of at most n changes, or a question that can be served
 abbrev pub IsServable : List ℕ → ℕ → Command → Type 0

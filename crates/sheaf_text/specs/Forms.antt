@@ -107,6 +107,8 @@ is_query_kind kinds.Reduce = true
 is_query_kind kinds.Equiv = true
 is_query_kind kinds.Basis = true
 is_query_kind kinds.Class = true
+is_query_kind kinds.Sections = true
+is_query_kind kinds.Extend = true
 is_query_kind kind = false
 
 abbrev pub query_of : Kind → List (List ℕ) → Query
@@ -114,6 +116,8 @@ query_of kinds.Reduce ws = queries.Reduce
 query_of kinds.Equiv ws = queries.Equiv
 query_of kinds.Basis ws = queries.Basis (value ws 1)
 query_of kinds.Class ws = queries.Class (value ws 1) (map value_of (drop 2 ws))
+query_of kinds.Sections ws = queries.Sections
+query_of kinds.Extend ws = queries.Extend (value ws 1) (map value_of (drop 2 ws))
 query_of kind ws = queries.Betti
 
 -- the degree that a line asks about, if it asks about one, is one of a cell

@@ -68,6 +68,14 @@ degree_refusal k ws =
     else if nat_le 4096 k.commands then Some (Over limits.Commands)
     else None
 
+-- a question on the value at a vertex
+abbrev pub vertex_refusal : Known → List (List ℕ) → Option Refusal
+vertex_refusal k ws =
+    if nat_le (length k.input.dims) (value ws 1) then Some (Bad causes.Cell)
+    else if not (slice_index k.input.dims (value ws 1) == 0) then Some (Bad causes.Vertex)
+    else if nat_le 4096 k.commands then Some (Over limits.Commands)
+    else None
+
 abbrev pub kind_refusal : Known → Kind → List (List ℕ) → Option Refusal
 kind_refusal k kinds.Field ws = if list_any (λ q. value ws 1 == q) orders then None else Some (Bad causes.Field)
 kind_refusal k kinds.Cell ws =
@@ -83,6 +91,8 @@ kind_refusal k kinds.Reduce ws = if nat_le 4096 k.commands then Some (Over limit
 kind_refusal k kinds.Equiv ws = if nat_le 4096 k.commands then Some (Over limits.Commands) else None
 kind_refusal k kinds.Basis ws = degree_refusal k ws
 kind_refusal k kinds.Class ws = degree_refusal k ws
+kind_refusal k kinds.Sections ws = if nat_le 4096 k.commands then Some (Over limits.Commands) else None
+kind_refusal k kinds.Extend ws = vertex_refusal k ws
 kind_refusal k kinds.Edit ws = if nat_le 4096 k.commands then Some (Over limits.Commands) else None
 kind_refusal k kinds.Done ws = if nat_lt 1073741824 (room k.input.stalks k.input.scripts) then Some (Over limits.Room)
     else None

@@ -33,6 +33,8 @@ kind_of w =
     else if bytes_eq w (codes "equiv") then Some kinds.Equiv
     else if bytes_eq w (codes "basis") then Some kinds.Basis
     else if bytes_eq w (codes "class") then Some kinds.Class
+    else if bytes_eq w (codes "sections") then Some kinds.Sections
+    else if bytes_eq w (codes "extend") then Some kinds.Extend
     else if bytes_eq w (codes "edit") then Some kinds.Edit
     else if bytes_eq w (codes "stalk") then Some kinds.Stalk
     else if bytes_eq w (codes "restrict") then Some kinds.Restrict
@@ -55,6 +57,8 @@ may_stand stages.InClient kinds.Reduce = true
 may_stand stages.InClient kinds.Equiv = true
 may_stand stages.InClient kinds.Basis = true
 may_stand stages.InClient kinds.Class = true
+may_stand stages.InClient kinds.Sections = true
+may_stand stages.InClient kinds.Extend = true
 may_stand stages.InClient kinds.Edit = true
 may_stand stages.InClient kinds.Client = true
 may_stand stages.InClient kinds.Done = true
@@ -72,6 +76,7 @@ count_fits kinds.Face n = nat_le 4 n
 count_fits kinds.Restrict n = nat_le 3 n
 count_fits kinds.Basis n = n == 2
 count_fits kinds.Class n = nat_le 2 n
+count_fits kinds.Extend n = nat_le 2 n
 count_fits kind n = n == 1
 
 -- the words that have to be numbers: all after the first, but the sign of a face

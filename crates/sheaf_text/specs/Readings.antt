@@ -8,7 +8,7 @@ use Rattle.field_table.specs.Table.{order_of}
 use Rattle.sheaf_words.specs.declared.query.Command.{Command}
 use Rattle.sheaf_words.specs.declared.query.Command.TheVariants.{Change, Ask}
 use Rattle.sheaf_words.specs.declared.query.Query.{Query}
-use Rattle.sheaf_words.specs.declared.query.Query.TheVariants.{Betti, Reduce, Equiv, Basis, Class}
+use Rattle.sheaf_words.specs.declared.query.Query.TheVariants.{Betti, Reduce, Equiv, Basis, Class, Sections, Extend}
 use Rattle.sheaf_words.specs.declared.edit.Set.{Set}
 use Rattle.sheaf_words.specs.declared.edit.Set.TheVariants.{Stalk, Restrict}
 use Rattle.sheaf_text.specs.Cut.{words, value_of}
@@ -86,6 +86,8 @@ advance k (Some kinds.Reduce) ws = with_query k Reduce
 advance k (Some kinds.Equiv) ws = with_query k Equiv
 advance k (Some kinds.Basis) ws = with_query k (Basis (value ws 1))
 advance k (Some kinds.Class) ws = with_query k (Class (value ws 1) (map value_of (drop 2 ws)))
+advance k (Some kinds.Sections) ws = with_query k Sections
+advance k (Some kinds.Extend) ws = with_query k (Extend (value ws 1) (map value_of (drop 2 ws)))
 advance k (Some kinds.Edit) ws = record k {
   stage = stages.InEdit;
   commands = k.commands + 1;

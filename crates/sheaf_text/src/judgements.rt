@@ -1,7 +1,7 @@
 ghost use Rattle.std.specs.Prelude.{◌≡◌, length, IfOk, IfErr};
 ghost use Rattle.sheaf_text.specs.Parts.{AreDraftParts, IsClosed};
 ghost use Rattle.sheaf_text.specs.Grammar.{is_ended, cause_of, entries_refusal, face_refusal, kind_refusal};
-ghost use Rattle.sheaf_text.specs.Grammar.{degree_refusal, placed_refusal};
+ghost use Rattle.sheaf_text.specs.Grammar.{degree_refusal, vertex_refusal, placed_refusal};
 ghost use Rattle.sheaf_text.specs.Forms.{is_full, field_refusal, client_refusal, command_refusal, content_refusal};
 ghost use Rattle.sheaf_text.specs.Forms.{room_refusal};
 ghost use Rattle.sheaf_text.specs.State.{known_by, scripts_at, IsSoundState, IsReadyFor, IsFound};
@@ -142,6 +142,20 @@ fn degree_refusal(state: &State, line: &LineWords<'_>) -> Option<Refusal>
     }
 }
 
+fn vertex_refusal(state: &State, line: &LineWords<'_>) -> Option<Refusal>
+    ensures { result ≡ vertex_refusal (known_by state.now) line.now }
+{
+    let dims = state.parts.dims.as_slice();
+    let s = line.s_value() as usize;
+    if s >= dims.len() {
+        Some(Refusal::Bad(LineCause::Cell))
+    } else if dims[s] != 0 {
+        Some(Refusal::Bad(LineCause::Vertex))
+    } else {
+        command_refusal(state)
+    }
+}
+
 fn room_refusal(state: &State) -> Option<Refusal>
     requires { AreDraftParts state.now.parts }
     ensures { result ≡ room_refusal (known_by state.now) }
@@ -163,8 +177,11 @@ fn kind_refusal(state: &State, kind: Kind, line: &LineWords<'_>) -> Option<Refus
         Kind::Cell => cell_refusal(state, line),
         Kind::Face => face_refusal(state, line),
         Kind::Client => client_refusal(state),
-        Kind::Betti | Kind::Reduce | Kind::Equiv | Kind::Edit => command_refusal(state),
+        Kind::Betti | Kind::Reduce | Kind::Equiv | Kind::Sections | Kind::Edit => {
+            command_refusal(state)
+        }
         Kind::Basis | Kind::Class => degree_refusal(state, line),
+        Kind::Extend => vertex_refusal(state, line),
         Kind::Stalk | Kind::Restrict | Kind::Commit => None,
         Kind::Done => room_refusal(state),
     }

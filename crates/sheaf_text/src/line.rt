@@ -18,6 +18,8 @@ pub(crate) enum Kind {
     Equiv,
     Basis,
     Class,
+    Sections,
+    Extend,
     Edit,
     Stalk,
     Restrict,
@@ -65,6 +67,10 @@ pub(crate) fn kind_of(word: &[u8]) -> Option<Kind>
         Some(Kind::Basis)
     } else if word == b"class".as_slice() {
         Some(Kind::Class)
+    } else if word == b"sections".as_slice() {
+        Some(Kind::Sections)
+    } else if word == b"extend".as_slice() {
+        Some(Kind::Extend)
     } else if word == b"edit".as_slice() {
         Some(Kind::Edit)
     } else if word == b"stalk".as_slice() {
@@ -90,6 +96,8 @@ fn may_stand_in_client(kind: Kind) -> bool
             | Kind::Equiv
             | Kind::Basis
             | Kind::Class
+            | Kind::Sections
+            | Kind::Extend
             | Kind::Edit
             | Kind::Client
             | Kind::Done
@@ -119,7 +127,7 @@ pub(crate) fn count_fits(kind: Kind, count: usize) -> bool
         Kind::Cell | Kind::Stalk => count == 3,
         Kind::Face => count >= 4,
         Kind::Restrict => count >= 3,
-        Kind::Class => count >= 2,
+        Kind::Class | Kind::Extend => count >= 2,
         _ => count == 1,
     }
 }

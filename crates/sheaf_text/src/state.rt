@@ -1,5 +1,5 @@
-ghost use Rattle.std.specs.Prelude.{◌≡◌, ◌-◌, ◌^◌, ◌<◌, true, false, IfOk, IfErr, OnOk};
-ghost use Rattle.sheaf_text.specs.Cut.{words};
+ghost use Rattle.std.specs.Prelude.{◌≡◌, ◌-◌, ◌^◌, ◌<◌, true, false, drop, map, IfOk, IfErr, OnOk};
+ghost use Rattle.sheaf_text.specs.Cut.{words, value_of};
 ghost use Rattle.sheaf_text.specs.Lines.{is_skipped};
 ghost use Rattle.sheaf_text.specs.Answers.{Gives, GivesFault};
 ghost use Rattle.sheaf_text.specs.Readings.{RefusedLine};
@@ -17,7 +17,7 @@ use crate::parts::Parts;
 use crate::scripts::Scripts;
 use crate::words::{after_words, values};
 use dense_blocks::Listed;
-use sheaf_words::{Query, Set};
+use sheaf_words::{Numbers, Query, Set};
 use std::alloc::{AllocError as NoMemory, Global};
 
 /// What is kept from line to line.
@@ -26,6 +26,14 @@ pub(crate) struct State {
     pub stage: Stage,
     pub parts: Parts,
     pub scripts: Scripts,
+}
+
+/// The numbers of a line from the place 2 on.
+fn numbers_of(alloc: Global, line: &LineWords<'_>) -> Result<Numbers, NoMemory>
+    ensures { IfOk result (λ numbers. numbers ≡ map value_of (drop 2 line.now)) }
+{
+    let numbers = values(alloc, after_words(line.after(), 1))?;
+    Ok(Listed::of(numbers))
 }
 
 /// The question of a line.
@@ -39,13 +47,15 @@ fn query_of(alloc: Global, kind: Kind, line: &LineWords<'_>) -> Result<Query, No
         Kind::Basis => Ok(Query::Basis {
             k: line.s_value() as u8,
         }),
-        Kind::Class => {
-            let entries = values(alloc, after_words(line.after(), 1))?;
-            Ok(Query::Class {
-                k: line.s_value() as u8,
-                z: Listed::of(entries),
-            })
-        }
+        Kind::Class => Ok(Query::Class {
+            k: line.s_value() as u8,
+            z: numbers_of(alloc, line)?,
+        }),
+        Kind::Sections => Ok(Query::Sections),
+        Kind::Extend => Ok(Query::Extend {
+            s: line.s_value(),
+            v: numbers_of(alloc, line)?,
+        }),
         _ => Ok(Query::Betti),
     }
 }
@@ -201,6 +211,8 @@ impl State {
             Kind::Equiv => self.take_query(alloc, Kind::Equiv, line),
             Kind::Basis => self.take_query(alloc, Kind::Basis, line),
             Kind::Class => self.take_query(alloc, Kind::Class, line),
+            Kind::Sections => self.take_query(alloc, Kind::Sections, line),
+            Kind::Extend => self.take_query(alloc, Kind::Extend, line),
             Kind::Edit => {
                 self.take_edit(alloc, line);
                 Ok(())
