@@ -1,3 +1,3 @@
 pub mod OpenLaws
-pub mod ColumnLaws
+pub mod GradedLaws
 pub mod ClassLaws

@@ -1,18 +1,10 @@
 -- Lists of cochains, one for each degree.
-use Rattle.std.specs.Prelude.{◌≡◌, ℕ, List, Vec, Some, slice_get, map, All}
+use Rattle.std.specs.Prelude.{◌≡◌, ℕ, List, Vec, Some, slice_get}
 use Rattle.dense_blocks.specs.Field.{Ops}
 use Rattle.cochain_vec.specs.declared.cochain.Cochain.{Cochain}
 use Rattle.cochain_vec.specs.Complexes.{CellularComplex}
 use Rattle.cochain_vec.specs.Cohomology.{IsBasis}
-
--- the coordinates of each
-abbrev pub values_of : List Cochain → List (List ℕ)
-values_of zs = map (λ z. z.values.items) zs
-
--- cochains of degree k, with these coordinates
-pub record AreCochains (k : ℕ) (values : List (List ℕ)) (zs : List Cochain) : Type 0 where
-  pub degrees : All (λ z. z.degree ≡ k) zs
-  pub values_are : values_of zs ≡ values
+use Rattle.equivalences.specs.CochainLists.{AreCochains, values_of}
 
 -- list k has cochains of degree k, with the coordinates that these say of degree k
 abbrev pub AreGradedCochains : {Z : Type 0} → (ℕ → List (List ℕ)) → List (Vec Cochain Z) → Type 0

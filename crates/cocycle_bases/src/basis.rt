@@ -1,18 +1,16 @@
-ghost use Rattle.std.specs.Prelude.{◌≡◌, ◌<◌, Some, slice_get, slice_index, length, map, vec_len, IfOk};
-ghost use Rattle.dense_blocks.specs.Blocks.{matrix_of};
+ghost use Rattle.std.specs.Prelude.{◌≡◌, vec_len, IfOk};
 ghost use Rattle.block_complexes.specs.BlockComplexes.{IsBlockComplex};
 ghost use Rattle.block_complexes.specs.Cochains.{complex_of};
 ghost use Rattle.block_sparse.specs.StoredBlocks.{complex_in};
 ghost use Rattle.equivalence_laws.specs.Bases.{HasNoBlock, unit_images};
 ghost use Rattle.equivalence_laws.specs.Equivalences.{graded_matrix};
-ghost use Rattle.equivalence_laws.specs.Transposes.{transpose};
 ghost use Rattle.equivalences.specs.Between.{IsEquivalenceOf};
-ghost use Rattle.cocycle_bases.specs.Bases.{AreBases, AreCochains, AreGradedCochains};
+ghost use Rattle.cocycle_bases.specs.Bases.{AreBases, AreGradedCochains};
 
 use block_sparse::Blocks;
 use cochain_vec::Cochain;
-use dense_blocks::{Block, Listed, Scalars};
-use equivalences::Equivalence;
+use dense_blocks::Scalars;
+use equivalences::{Equivalence, basis};
 use std::alloc::{AllocError as NoMemory, Global};
 
 /// For each degree from 0 to 15 a basis of the cohomology of `base`, out of an equivalence of it and of what is left,
@@ -40,42 +38,8 @@ pub fn bases<F: Scalars>(
 {
     let mut bases = Vec::with_capacity(alloc, Equivalence::DEGREES)?;
     for k in 0..Equivalence::DEGREES {
-        let block = member(&eq.iota, k);
-        let basis = columns(alloc, block, k as u8)?;
+        let basis = basis(alloc, f, base, rest, eq, k as u8)?;
         bases.push(basis)?;
     }
     Ok(bases)
-}
-
-/// The columns of a block, as cochains of this degree.
-fn columns(alloc: Global, block: &Block, degree: u8) -> Result<Vec<Cochain>, NoMemory>
-    ensures { IfOk result (λ zs. AreCochains degree (transpose block.now.cols (matrix_of block.now)) zs.items) }
-{
-    let mut cochains = Vec::with_capacity(alloc, block.cols as usize)?;
-    for j in 0..block.cols {
-        let values = column(alloc, block, j)?;
-        cochains.push(Cochain { degree, values })?;
-    }
-    Ok(cochains)
-}
-
-/// The column at `j`.
-fn column(alloc: Global, block: &Block, j: u32) -> Result<Vec<u8>, NoMemory>
-    requires { j < block.now.cols }
-    ensures { IfOk result (λ v. v.items ≡ map (λ row. slice_index row j) (matrix_of block.now)) }
-{
-    let mut values = Vec::with_capacity(alloc, block.rows as usize)?;
-    for i in 0..block.rows {
-        let row = block.row(i);
-        values.push(row[j as usize])?;
-    }
-    Ok(values)
-}
-
-/// The block of degree `k`.
-pub(crate) fn member(blocks: &Listed<Block>, k: usize) -> &Block
-    requires { k < length blocks.now }
-    ensures { slice_get blocks.now k ≡ Some result.now }
-{
-    &blocks.as_slice()[k]
 }

@@ -1,4 +1,4 @@
-ghost use Rattle.std.specs.Prelude.{◌≡◌, ◌<◌, IfOk, MatchOption};
+ghost use Rattle.std.specs.Prelude.{◌≡◌, ◌<◌, Some, slice_get, length, IfOk, MatchOption};
 ghost use Rattle.cochain_vec.specs.Cohomology.{IsCocycle};
 ghost use Rattle.cochain_vec.specs.Complexes.{CellularComplex, IsCochain};
 ghost use Rattle.block_complexes.specs.BlockComplexes.{IsBlockComplex};
@@ -9,11 +9,10 @@ ghost use Rattle.equivalences.specs.Between.{IsEquivalenceOf};
 ghost use Rattle.cocycle_bases.specs.Answers.{Answers};
 ghost use Rattle.cocycle_bases.specs.Classes.{IsFirstOpen, homotopy_below};
 
-use crate::basis::member;
 use crate::open_cells::first_open;
 use block_sparse::Blocks;
 use cochain_vec::Cochain;
-use dense_blocks::{Scalars, apply};
+use dense_blocks::{Block, Listed, Scalars, apply};
 use equivalences::Equivalence;
 use std::alloc::{AllocError as NoMemory, Global};
 
@@ -120,4 +119,12 @@ fn primitive_of<F: Scalars>(
     let h = member(&eq.h, z.degree as usize - 1);
     let primitive = apply(alloc, f, h, &z.values)?;
     Ok(primitive)
+}
+
+/// The block of degree `k`.
+fn member(blocks: &Listed<Block>, k: usize) -> &Block
+    requires { k < length blocks.now }
+    ensures { slice_get blocks.now k ≡ Some result.now }
+{
+    &blocks.as_slice()[k]
 }

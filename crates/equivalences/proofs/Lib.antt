@@ -12,3 +12,4 @@ pub mod LiveLaws
 pub mod StoredLaws
 pub mod Identities
 pub mod ComposedBlocks
+pub mod ImageLaws

@@ -4,3 +4,4 @@ pub mod Rows
 pub mod LogMaps
 pub mod Stored
 pub mod Composition
+pub mod CochainLists

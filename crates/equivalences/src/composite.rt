@@ -110,7 +110,7 @@ fn h_at<F: Scalars>(
 }
 
 /// The block of degree `k`.
-fn member(blocks: &Listed<Block>, k: usize) -> &Block
+pub(crate) fn member(blocks: &Listed<Block>, k: usize) -> &Block
     requires { k < length blocks.now }
     ensures { slice_get blocks.now k ≡ Some result.now }
 {

@@ -1,10 +1,11 @@
-//! Equivalences of block complexes in memory: their three maps, as joined matrices for each degree, and the composite
-//! of two.
+//! Equivalences of block complexes in memory: their three maps, as joined matrices for each degree, the composite of
+//! two, and the bases of cohomology that they carry over.
 #![tactic(auto)]
 
 mod cell_rows;
 mod composite;
 mod equivalence;
+mod images;
 mod live;
 mod log;
 mod maps;
@@ -14,4 +15,5 @@ mod transposed;
 
 pub use composite::compose;
 pub use equivalence::Equivalence;
+pub use images::basis;
 pub use log::of_log;

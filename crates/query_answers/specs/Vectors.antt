@@ -1,7 +1,7 @@
 -- Members of lists of bases.
 use Rattle.std.specs.Prelude.{◌≡◌, ℕ, List, Vec, Some, slice_get}
 use Rattle.cochain_vec.specs.declared.cochain.Cochain.{Cochain}
-use Rattle.cocycle_bases.specs.Bases.{values_of}
+use Rattle.equivalences.specs.CochainLists.{values_of}
 
 -- they are the coordinates of the cochains in list k
 abbrev pub AreVectorsAt : {Z : Type 0} → List (Vec Cochain Z) → ℕ → List (List ℕ) → Type 0

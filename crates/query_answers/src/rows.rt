@@ -1,5 +1,5 @@
 ghost use Rattle.std.specs.Prelude.{◌≡◌, ◌<◌, Some, slice_get, length, IfOk};
-ghost use Rattle.cocycle_bases.specs.Bases.{values_of};
+ghost use Rattle.equivalences.specs.CochainLists.{values_of};
 ghost use Rattle.query_answers.specs.Vectors.{AreVectorsAt};
 
 use cochain_vec::Cochain;

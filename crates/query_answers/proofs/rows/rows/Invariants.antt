@@ -1,5 +1,5 @@
 use Rattle.std.proofs.Common.{◌≡◌, take}
-use Rattle.cocycle_bases.specs.Bases.{values_of}
+use Rattle.equivalences.specs.CochainLists.{values_of}
 use Rattle.query_answers.proofs.rows.rows.Given as goal
 
 abbrev pub invariant-loop-z : goal.invariant-loop-z

@@ -1,5 +1,5 @@
 use Rattle.std.proofs.Common.{slice_get, ap, sym, ◌∙◌}
-use Rattle.cocycle_bases.specs.Bases.{values_of}
+use Rattle.equivalences.specs.CochainLists.{values_of}
 use Rattle.query_answers.proofs.rows.vectors.Goals as goal
 
 pub returns : goal.returns

@@ -1,6 +1,6 @@
 use Rattle.std.proofs.Common.{arith}
-use Rattle.cocycle_bases.proofs.ColumnLaws.{entries-all, entries-more}
-use Rattle.cocycle_bases.proofs.basis.column.Goals as goal
+use Rattle.equivalences.proofs.ImageLaws.{entries-all, entries-more}
+use Rattle.equivalences.proofs.images.column.Goals as goal
 
 pub loop-i-preserved : goal.loop-i-preserved
 loop-i-preserved c =

@@ -1,6 +1,6 @@
 -- The columns of a block as cochains: the images of the unit vectors.
 use Rattle.std.proofs.Common.{◌≡◌, ◌<◌, ◌+◌, ℕ, zero, suc, List, [], ◌∷◌, ◌++◌, length, map, take, get_or}
-use Rattle.std.proofs.Common.{Vec, Some, slice_get, refl, sym, ap, ap₂, ◌∙◌, subst, arith}
+use Rattle.std.proofs.Common.{Some, slice_get, refl, sym, ap, ap₂, ◌∙◌, subst, arith}
 use Rattle.std.proofs.lemmas.List.{take_more, take_all, map-append, get_or-map, length-map, length_push}
 use Rattle.std.proofs.lemmas.List.Elements.{All-push}
 use Rattle.dense_blocks.specs.Field.{Ops}
@@ -28,8 +28,8 @@ use Rattle.equivalence_laws.proofs.TransposeLaws.{combination-transpose, transpo
 use Rattle.equivalence_laws.proofs.TransposeLaws.{transpose-length}
 use Rattle.equivalences.specs.Between.{AreMapsBetween, IsEquivalenceOf}
 use Rattle.equivalences.specs.declared.equivalence.Equivalence.{Equivalence}
-use Rattle.equivalences.proofs.ComposedBlocks.{each-push, graded-at}
-use Rattle.cocycle_bases.specs.Bases.{AreBases, AreCochains, AreGradedCochains}
+use Rattle.equivalences.specs.CochainLists.{AreCochains, values_of}
+use Rattle.equivalences.proofs.ComposedBlocks.{graded-at}
 
 module _ (K : Ops) (F : IsField K) (m n : ℕ) (A : List (List ℕ)) (h : Matrix K m n A) where
   images-combine : (k : ℕ) (vs : List (List ℕ)) → Matrix K k n vs
@@ -46,7 +46,7 @@ module _ (K : Ops) (F : IsField K) (m n : ℕ) (A : List (List ℕ)) (h : Matrix
       ∙ images-combine n (identity n) (identity-matrix K F n)
 
 -- the columns of the block of iota are the images of the unit vectors
-pub iota-columns : (K : Ops) (F : IsField K) (C D : CellularComplex) (e : Equivalence) (k : ℕ) (b : Block)
+iota-columns : (K : Ops) (F : IsField K) (C D : CellularComplex) (e : Equivalence) (k : ℕ) (b : Block)
     → AreMapsBetween K C D e → slice_get e.iota k ≡ Some b
     → transpose b.cols (matrix_of b) ≡ unit_images K D (graded_matrix e.iota) k
 iota-columns K F C D e k b maps at =
@@ -96,30 +96,21 @@ columns-all n k j A now e so_far =
     subst (λ us. AreCochains k us now)
     (take_all j (transpose n A) (omega (arith, e, transpose-length n A))) so_far
 
-pub count-more : {A : Type 0} (xs ys : List A) (x : A) (k : ℕ) → length xs ≡ k → ys ≡ xs ++ x ∷ []
-    → length ys ≡ k + 1
-count-more xs ys x k size is = ap length is ∙ length_push xs x ∙ ap (λ n. n + 1) size
+-- the columns of the block of iota, as cochains, are the images of the unit vectors
+pub columns-are-images : (K : Ops) (F : IsField K) (C D : CellularComplex) (e : Equivalence) (k : ℕ) (b : Block)
+    (zs : List Cochain) → AreMapsBetween K C D e → slice_get e.iota k ≡ Some b
+    → AreCochains k (transpose b.cols (matrix_of b)) zs
+    → AreCochains k (unit_images K D (graded_matrix e.iota) k) zs
+columns-are-images K F C D e k b zs maps at h =
+    subst (λ values. AreCochains k values zs) (iota-columns K F C D e k b maps at) h
 
--- the images of one degree more
-pub images-more : {Z : Type 0} (K : Ops) (F : IsField K) (C D : CellularComplex) (e : Equivalence) (k : ℕ) (b : Block)
-    (now new : List (Vec Cochain Z)) (zs : Vec Cochain Z) → AreMapsBetween K C D e → length now ≡ k
-    → AreGradedCochains (unit_images K D (graded_matrix e.iota)) now → slice_get e.iota k ≡ Some b
-    → AreCochains k (transpose b.cols (matrix_of b)) zs.items → new ≡ now ++ zs ∷ []
-    → AreGradedCochains (unit_images K D (graded_matrix e.iota)) new
-images-more {Z} K F C D e k b now new zs maps size so_far at here is j us found =
-    let images : ℕ → List (List ℕ) = unit_images K D (graded_matrix e.iota) in
-    each-push (λ (j : ℕ) (us : Vec Cochain Z). AreCochains j (images j) us.items) now zs so_far
-    (subst (λ i. AreCochains i (images i) zs.items) (sym size)
-    (subst (λ values. AreCochains k values zs.items) (iota-columns K F C D e k b maps at) here))
-    j us (subst (λ l. slice_get l j ≡ Some us) is found)
-
--- where what is left has no blocks, they are bases
-pub images-bases : {Z : Type 0} (K : Ops) (F : IsField K) (v w : BlockComplex) (e : Equivalence)
-    (lists : List (Vec Cochain Z)) → IsBlockComplex K v → IsBlockComplex K w → HasNoBlock w
-    → IsEquivalenceOf K (complex_of v) (complex_of w) e
-    → AreGradedCochains (unit_images K (complex_of w) (graded_matrix e.iota)) lists → AreBases K (complex_of v) lists
-images-bases K F v w e lists is is_rest none equivalent images k zs at =
-    subst (IsBasis K (complex_of v) k) (sym (images k zs at).values_are)
+-- where what is left has no blocks, they are a basis
+pub images-basis : (K : Ops) (F : IsField K) (v w : BlockComplex) (e : Equivalence) (k : ℕ) (zs : List Cochain)
+    → IsBlockComplex K v → IsBlockComplex K w → HasNoBlock w → IsEquivalenceOf K (complex_of v) (complex_of w) e
+    → AreCochains k (unit_images K (complex_of w) (graded_matrix e.iota) k) zs
+    → IsBasis K (complex_of v) k (values_of zs)
+images-basis K F v w e k zs is is_rest none equivalent images =
+    subst (IsBasis K (complex_of v) k) (sym images.values_are)
     (unit_images_are_basis K (complex_of v) (complex_of w) (graded_matrix e.pi) (graded_matrix e.iota)
     (graded_matrix e.h) F (complex_fits K F v is) (complex_fits K F w is_rest) equivalent.equivalence
     (no_block K F w is_rest none) k)

@@ -1,7 +1,7 @@
 use Rattle.std.proofs.Common.{refl, arith}
 use Rattle.dense_blocks.specs.Blocks.{matrix_of}
-use Rattle.cocycle_bases.proofs.ColumnLaws.{columns-all, columns-more}
-use Rattle.cocycle_bases.proofs.basis.columns.Goals as goal
+use Rattle.equivalences.proofs.ImageLaws.{columns-all, columns-more}
+use Rattle.equivalences.proofs.images.columns.Goals as goal
 
 pub loop-j-preserved : goal.loop-j-preserved
 loop-j-preserved c =
