@@ -11,11 +11,11 @@ pub record IsSectionWith (K : Ops) (C : CellularComplex) (s : ℕ) (v z : List �
   pub cocycle : IsCocycle K C 0 z
   pub value : value_at (cells_of C 0) z s ≡ v
 
--- the functional is 0 on the value at s of each global section, and 1 on v
-pub record IsObstruction (K : Ops) (C : CellularComplex) (s : ℕ) (v functional : List ℕ) : Type 0 where
-  pub functional : IsVector K (length v) functional
-  pub zero : (z : List ℕ) → IsCocycle K C 0 z → dot K functional (value_at (cells_of C 0) z s) ≡ 0
-  pub one : dot K functional v ≡ 1
+-- the functional p is 0 on the value at s of each global section, and 1 on v
+pub record IsObstruction (K : Ops) (C : CellularComplex) (s : ℕ) (v p : List ℕ) : Type 0 where
+  pub functional : IsVector K (length v) p
+  pub zero : (z : List ℕ) → IsCocycle K C 0 z → dot K p (value_at (cells_of C 0) z s) ≡ 0
+  pub one : dot K p v ≡ 1
 
 -- the values at s of cochains of degree 0
 abbrev pub section_values : CellularComplex → ℕ → List (List ℕ) → List (List ℕ)

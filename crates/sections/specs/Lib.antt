@@ -1,1 +1,3 @@
 pub mod Extensions
+pub mod Places
+pub mod Answers
