@@ -1,5 +1,5 @@
 -- Sections with a given value, and what stands against them.
-use Rattle.std.proofs.Common.{◌≡◌, ◌<◌, ℕ, List, [], ◌∷◌, Vec, length, map, take, drop, get_or, All, refl, sym, ap, ap₂}
+use Rattle.std.proofs.Common.{◌≡◌, ◌<◌, ℕ, true, List, [], ◌∷◌, Vec, length, map, take, drop, get_or, All, refl, sym, ap, ap₂}
 use Rattle.std.proofs.Common.{◌∙◌, subst, arith}
 use Rattle.std.proofs.lemmas.List.{length-map, get_or-map}
 use Rattle.std.proofs.lemmas.List.Elements.{All-head, All-tail, All-map}
@@ -16,10 +16,13 @@ use Rattle.cochain_vec.specs.Complexes.{CellularComplex, cells_of, coordinates, 
 use Rattle.cochain_vec.specs.Cohomology.{IsCocycle, IsBasis}
 use Rattle.cochain_vec.specs.Shapes.{RowsFit}
 use Rattle.cochain_vec.proofs.CoboundaryLaws.{size_at, value-vector, value-plus, value-multiple, coboundary-combination}
-use Rattle.block_complexes.specs.BlockComplexes.{size_of}
-use Rattle.block_complexes.specs.Cochains.{of_degree}
+use Rattle.rising_lists.specs.Rising.{has}
+use Rattle.block_complexes.specs.BlockComplexes.{BlockComplex, IsBlockComplex, cells, degree_of, size_of}
+use Rattle.block_complexes.specs.Cochains.{complex_of, of_degree}
+use Rattle.equivalence_laws.proofs.CompositeLaws.{complex_fits}
 use Rattle.sections.specs.Extensions.{IsSectionWith, IsObstruction, IsLeadingSection, section_values}
 use Rattle.sections.specs.Places.{BeginAt}
+use Rattle.sections.proofs.PlaceLaws.{vertex-size}
 
 -- no section has a value that an obstruction stands against
 pub obstructed : (K : Ops) (C : CellularComplex) (s : ℕ) (v z p : List ℕ) → IsSectionWith K C s v z
@@ -146,3 +149,38 @@ module _ (K : Ops) (F : IsField K) where
             ∙ dot-combination (length B) m p c (section_values C s B) value-rows h.zero;
         one = h.one;
       }
+
+-- what solves for the values at s of a basis answers for the sections
+module _ {Z : Type 0} (K : Ops) (F : IsField K) (w : BlockComplex) (is : IsBlockComplex K w) (B : List (List ℕ))
+    (b : IsBasis K (complex_of w) 0 B) (s start : ℕ) (begin : BeginAt w.live s start)
+    (vertex : has s (cells w.live) ≡ true → degree_of w.live s ≡ 0) (v : List ℕ) (size : length v ≡ size_of w.live s)
+    (columns : List (Vec ℕ Z)) (parts : lists columns ≡ map (λ z. take (length v) (drop start z)) B) where
+  abbrev C : CellularComplex
+  C = complex_of w
+
+  fits : RowsFit C
+  fits = complex_fits K F w is
+
+  size-is : length v ≡ size_at (cells_of C 0) s
+  size-is = size ∙ sym (vertex-size w.live s vertex)
+
+  columns-are : lists columns ≡ section_values C s B
+  columns-are = parts ∙ parts-are-values w.live s start (length v) B begin size
+
+  pub column-vectors : All (λ c. IsVector K (length v) c.items) columns
+  column-vectors = each-list (IsVector K (length v)) columns
+      (subst (All (IsVector K (length v))) (sym columns-are)
+      (subst (λ m. All (IsVector K m) (section_values C s B)) (sym size-is) (value-vectors K F C fits B b s)))
+
+  pub combined-section : (c z : List ℕ) → Combines K (lists columns) v c → z ≡ combination K (coordinates C 0) c B
+      → IsSectionWith K C s v z × IsLeadingSection K C s v B z
+  combined-section c z h e =
+      section-leading K F C fits B b s v c z size-is (subst (λ vs. Combines K vs v c) columns-are h) e
+
+  pub separating-obstruction : (p : List ℕ) → Separates K (lists columns) v p
+      → ((z : List ℕ) → IsSectionWith K C s v z → ⊥) × IsObstruction K C s v p
+      × Separates K (section_values C s B) v p
+  separating-obstruction p h =
+      let apart : Separates K (section_values C s B) v p = subst (λ vs. Separates K vs v p) columns-are h in
+      let against : IsObstruction K C s v p = separates-obstructs K F C fits B b s v p apart in
+      (λ z section. obstructed K C s v z p section against, against, apart)

@@ -57,18 +57,22 @@ module _ (live : List (ℕ × ℕ × ℕ)) (s start : ℕ) where
         within = omega (arith, value-within 0 live i inside degree, size, is);
       }
 
+-- the coordinates of the cochain at a place
+pub coordinates-at : (zs : List Cochain) (i : ℕ) (z : Cochain) → i < length zs → z ≡ get_or zs i z
+    → z.values.items ≡ get_or (values_of zs) i []
+coordinates-at zs i z inside is =
+    let items : Cochain → List ℕ = λ z. z.values.items in ap items is ∙ sym (get_or-map items zs i z [] inside)
+
 -- one value more
 pub values-more : {Z : Type 0} (f : List ℕ → List ℕ) (zs : List Cochain) (i : ℕ) (z : Cochain)
     (now new : List (Vec ℕ Z)) (v : Vec ℕ Z) → i < length zs → z ≡ get_or zs i z
     → lists now ≡ map f (take i (values_of zs)) → v.items ≡ f z.values.items → new ≡ now ++ v ∷ []
     → lists new ≡ map f (take (i + 1) (values_of zs))
 values-more {Z} f zs i z now new v inside is so_far value e =
-    let items : Cochain → List ℕ = λ z. z.values.items in
-    let count : length (values_of zs) ≡ length zs = length-map zs items in
+    let count : length (values_of zs) ≡ length zs = length-map zs (λ (z : Cochain). z.values.items) in
     let row : List ℕ = get_or (values_of zs) i [] in
-    let here : z.values.items ≡ row = ap items is ∙ sym (get_or-map items zs i z [] inside) in
     ap lists e ∙ map-append (λ (u : Vec ℕ Z). u.items) now (v ∷ [])
-    ∙ ap₂ (λ (us : List (List ℕ)) (u : List ℕ). us ++ u ∷ []) so_far (value ∙ ap f here)
+    ∙ ap₂ (λ (us : List (List ℕ)) (u : List ℕ). us ++ u ∷ []) so_far (value ∙ ap f (coordinates-at zs i z inside is))
     ∙ sym (map-append f (take i (values_of zs)) (row ∷ []))
     ∙ ap (map f) (sym (take_more (values_of zs) i [] (omega (arith, inside, count))))
 

@@ -1,7 +1,7 @@
 -- A combination of cochains, one cochain after the other.
 use Rattle.std.proofs.Common.{◌≡◌, ◌<◌, ◌+◌, ◌++◌, ℕ, List, [], ◌∷◌, length, take, get_or, All, refl, sym, ap, ap₂}
 use Rattle.std.proofs.Common.{◌∙◌, subst, arith}
-use Rattle.std.proofs.lemmas.List.{take_more, take_all, length-take-le}
+use Rattle.std.proofs.lemmas.List.{take_more, length-take-le}
 use Rattle.dense_blocks.specs.Field.{Ops}
 use Rattle.dense_blocks.specs.FieldLaws.{IsField}
 use Rattle.dense_blocks.specs.Vectors.{IsVector, plus, multiple, combination}
@@ -32,8 +32,3 @@ module _ (K : Ops) (F : IsField K) (n i : ℕ) (cs : List ℕ) (vs : List (List 
             (plus-vector K F n now (multiple K c v) (to_vector K n now so_far.vector)
             (multiple-vector K F n c v (to_vector K n v row))));
       }
-
-  pub sum-all : (sum : List ℕ) → length cs ≡ length vs → length vs ≡ i → IsSumSoFar K n i cs vs sum
-      → sum ≡ combination K n cs vs
-  sum-all sum one_each end so_far =
-      so_far.is ∙ ap₂ (combination K n) (take_all i cs (omega (arith, one_each, end))) (take_all i vs (omega arith))

@@ -17,18 +17,18 @@ overflow_add-start c =
     omega (
       arith,
       c.loop-cell.invariant.start,
-      c.size_at.ensures,
+      c.size_at-start.ensures,
       start-next 0 live i (0, 0, 0) inside,
       start-within 0 live (i + 1),
       c.requires.live_cells.total,
     )
 
-pub returns-then-s : goal.returns-then-s
-returns-then-s c =
+pub returns-then-cell-s : goal.returns-then-cell-s
+returns-then-cell-s c =
     let live = c.args.live.now in
     let i : ℕ = c.loop-cell.cell-index in
     let inside : i < length live = omega arith in
-    start-found live c.args.s c.loop-cell.start i c.requires.live_cells.rising inside c.if-s.true c.requires.vertex
+    start-found live c.args.s c.loop-cell.start i c.requires.live_cells.rising inside c.if-cell-s.true c.requires.vertex
     c.loop-cell.invariant.start
 
 pub loop-cell-preserved : goal.loop-cell-preserved
@@ -40,11 +40,11 @@ loop-cell-preserved c =
       start = omega (
         arith,
         c.loop-cell.invariant.start,
-        c.size_at.ensures,
+        c.size_at-start.ensures,
         start-next 0 live i (0, 0, 0) inside,
       );
       others = below_more (λ k. get_or (cells live) k 0 ≢ c.args.s) i c.loop-cell.invariant.others
-          (λ e. c.if-s.false (sym (cell-at live i inside) ∙ e));
+          (λ e. c.if-cell-s.false (sym (cell-at live i inside) ∙ e));
     }
 
 pub returns : goal.returns
