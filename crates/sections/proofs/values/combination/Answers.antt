@@ -1,9 +1,8 @@
 use Rattle.std.proofs.Common.{◌≡◌, ◌<◌, ◌∙◌, ◌++◌, ℕ, List, length, take, drop, get_or, refl, sym, ap, ap₂, subst, arith}
-use Rattle.std.proofs.lemmas.List.{length-map, take_at}
+use Rattle.std.proofs.lemmas.List.{get_or_default, length-map, take_at}
 use Rattle.dense_blocks.specs.Vectors.{AllScalars, IsVector, plus, multiple, zeros}
 use Rattle.dense_blocks.proofs.Shapes.{from_vector}
 use Rattle.dense_blocks.proofs.VectorLaws.{zeros-vector}
-use Rattle.cochain_vec.specs.declared.cochain.Cochain.{Cochain}
 use Rattle.equivalences.specs.CochainLists.{values_of}
 use Rattle.sections.proofs.ExtensionLaws.{each-cochain}
 use Rattle.sections.proofs.PlaceLaws.{coordinates-at}
@@ -26,9 +25,8 @@ add_scaled-requires-clause-sizes g c =
     let zs = c.args.cochains.now in
     let z = c.index-cochains-i.result in
     let inside : c.loop-i.i < length zs = omega arith in
-    let row : IsVector K c.args.size z.values.items =
-    subst (λ (w : Cochain). IsVector K c.args.size w.values.items) (sym c.index-cochains-i.is)
-    (each-cochain (IsVector K c.args.size) zs c.requires.cochains c.loop-i.i z inside) in
+    let row : IsVector K c.args.size (get_or zs c.loop-i.i z).values.items =
+    each-cochain (IsVector K c.args.size) zs c.requires.cochains c.loop-i.i z inside in
     ap length c.deref.ensures.value ∙ row.size ∙ sym c.loop-i.invariant.vector.size
     ∙ sym (ap length c.deref_mut.ensures.value)
 
@@ -38,9 +36,8 @@ add_scaled-requires-clause-row_scalars g c =
     let zs = c.args.cochains.now in
     let z = c.index-cochains-i.result in
     let inside : c.loop-i.i < length zs = omega arith in
-    let row : IsVector K c.args.size z.values.items =
-    subst (λ (w : Cochain). IsVector K c.args.size w.values.items) (sym c.index-cochains-i.is)
-    (each-cochain (IsVector K c.args.size) zs c.requires.cochains c.loop-i.i z inside) in
+    let row : IsVector K c.args.size (get_or zs c.loop-i.i z).values.items =
+    each-cochain (IsVector K c.args.size) zs c.requires.cochains c.loop-i.i z inside in
     subst (AllScalars K) (sym c.deref.ensures.value) row.scalars
 
 pub loop-i-preserved : goal.loop-i-preserved
@@ -49,7 +46,7 @@ loop-i-preserved g c =
     let zs = c.args.cochains.now in
     let cs = c.args.coefficients.now in
     let i : ℕ = c.loop-i.i in
-    let z = c.index-cochains-i.result in
+    let z = get_or zs i c.index-cochains-i.result in
     let now : List ℕ = c.loop-i.sum.items in
     let after : List ℕ = c.add_scaled.new.target in
     let new : List ℕ = take c.loop-i.sum.len (after ++ drop (length after) now) in
@@ -60,4 +57,4 @@ loop-i-preserved g c =
     ∙ ap₂ (plus K) c.deref_mut.ensures.value (ap (multiple K (get_or cs i 0)) c.deref.ensures.value) in
     sum-more K (g.met.F.Scalars.is_field c.args.f.now) c.args.size i cs (values_of zs) now new (get_or cs i 0)
     z.values.items (c.requires.coefficients.size ∙ sym count) (omega (arith, inside, count)) c.requires.cochains
-    c.loop-i.invariant refl (coordinates-at zs i z inside c.index-cochains-i.is) more
+    c.loop-i.invariant refl (coordinates-at zs i z inside (get_or_default zs i c.index-cochains-i.result z inside)) more
