@@ -18,7 +18,7 @@ pub(crate) fn vectors(alloc: Global, bases: &[Vec<Cochain>], k: u8) -> Result<Li
 }
 
 /// The basis of degree `k`.
-fn member(bases: &[Vec<Cochain>], k: usize) -> &Vec<Cochain>
+pub(crate) fn member(bases: &[Vec<Cochain>], k: usize) -> &Vec<Cochain>
     requires { k < length bases.now }
     ensures { slice_get bases.now k ≡ Some result.now }
 {
