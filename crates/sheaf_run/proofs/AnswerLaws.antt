@@ -1,5 +1,5 @@
 -- An answer out of a slot is a right reply, with the choices of a solo order.
-use Rattle.std.proofs.Common.{◌≡◌, ◌∙◌, ℕ, [], ◌∷◌, Some, Result, Ok, Err, refl, sym, subst, All}
+use Rattle.std.proofs.Common.{◌≡◌, ◌∙◌, ℕ, true, [], ◌∷◌, Some, Result, Ok, Err, refl, sym, subst, All}
 use Rattle.std.specs.Prelude.{IfOk}
 use Rattle.std.proofs.lemmas.Option.{same_Some}
 use Rattle.dense_blocks.specs.Field.{Ops}
@@ -8,7 +8,8 @@ use Rattle.field_table.specs.Table.{ops_of}
 use Rattle.cell_complex.specs.Invariants.{IsComplex}
 use Rattle.cochain_vec.specs.CochainComplexes.{IsCochainComplex}
 use Rattle.field_table.specs.TableLaws.{table_is_field}
-use Rattle.block_complexes.specs.BlockComplexes.{HaveSameMatrices}
+use Rattle.rising_lists.specs.Rising.{has}
+use Rattle.block_complexes.specs.BlockComplexes.{cells, degree_of, HaveSameMatrices}
 use Rattle.block_complexes.specs.Cochains.{complex_of}
 use Rattle.block_complexes.proofs.SameLaws.{same-refl, same-complex}
 use Rattle.block_sparse.specs.StoredBlocks.{complex_in}
@@ -18,6 +19,7 @@ use Rattle.sheaf_data.specs.Sheaves.{SheafData, IsSheaf}
 use Rattle.sheaf_data.specs.Arrows.{numbered_cells}
 use Rattle.sheaf_data.specs.Betti.{degree_count}
 use Rattle.sheaf_words.specs.declared.query.Query.{Query}
+use Rattle.sheaf_words.specs.declared.query.Query.TheVariants as queries
 use Rattle.sheaf_words.specs.declared.reply.Reply.{Reply as Answer}
 use Rattle.coboundary.specs.Start.{with_stalks, start_complex}
 use Rattle.coboundary.specs.StartCoboundary.{StartIsCochainComplex}
@@ -27,10 +29,11 @@ use Rattle.core_machine.specs.Rights.{IsRightForStart}
 use Rattle.core_machine.specs.Machine.{State, IsReductionOf, free_lane}
 use Rattle.core_machine.specs.Solo.{HasSoloChoices}
 use Rattle.core_machine.proofs.ReplyLaws.{right-for}
-use Rattle.query_answers.specs.Answers.{IsAnswerIn}
+use Rattle.query_answers.specs.Answers.{IsAnswered, IsAnswerIn}
+use Rattle.sheaf_text.specs.Answers.{CanBeServed}
 use Rattle.sheaf_run.specs.Sessions.{Progress, IsSheafReduction, HasReduction, IsSoloReply, IsSoloAnswer}
 use Rattle.sheaf_run.specs.Sessions.{version_reduction}
-use Rattle.sheaf_run.proofs.DegreeLaws.{HasDegreeBelow, degrees-below}
+use Rattle.sheaf_run.proofs.DegreeLaws.{HasDegreeBelow, degrees-below, vertex-live}
 
 -- an answer out of the slot is right for the question on the version
 pub answer-right : (sheaf : SheafData Field) (slot here : SlotValue Field) (degrees : ℕ) (query : Query) (reply : Answer)
@@ -104,3 +107,17 @@ base-closed sheaf slot here e is law complex sheaf-is =
     (subst (λ x. IsCochainComplex (ops_of x) (complex_of (complex_in slot.base))) (sym is.field)
     (subst (IsCochainComplex K) (sym (same-complex start (complex_in slot.base) is.start))
     (law K sheaf.complex sheaf.stalks sheaf.blocks (table_is_field sheaf.field) complex sheaf-is)))
+
+-- a question that can be asked is answered by the reduction
+pub asked-answered : (sheaf : SheafData Field) (slot here : SlotValue Field) (query : Query) → here ≡ slot
+    → IsSheafReduction sheaf slot → CanBeServed sheaf.complex.dims query → IsAnswered here.base.live query
+asked-answered sheaf slot here queries.Betti e is can = tt
+asked-answered sheaf slot here queries.Reduce e is can = tt
+asked-answered sheaf slot here queries.Equiv e is can = tt
+asked-answered sheaf slot here (queries.Basis k) e is can = can
+asked-answered sheaf slot here (queries.Class k z) e is can = can
+asked-answered sheaf slot here queries.Sections e is can = tt
+asked-answered sheaf slot here (queries.Extend s v) e is can =
+    subst (λ (x : SlotValue Field). has s (cells x.base.live) ≡ true → degree_of x.base.live s ≡ 0) (sym e)
+    (subst (λ live. has s (cells live) ≡ true → degree_of live s ≡ 0) (sym is.start.live)
+    (vertex-live sheaf.complex.dims sheaf.stalks s can))

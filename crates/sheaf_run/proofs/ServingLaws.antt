@@ -4,7 +4,6 @@ use Rattle.std.proofs.Common.{length, slice_get, slice_index_or, Option, Some, N
 use Rattle.std.proofs.Common.{inl, inr, ◌∙◌, arith, length-append, append-nil, append_assoc, All}
 use Rattle.std.specs.Prelude.{unwrap_or, nat_eq, is_some}
 use Rattle.std.specs.Map.{update}
-use Rattle.std.proofs.lemmas.List.Elements.{All-weaker}
 use Rattle.std.proofs.lemmas.Option.{slice_get_within, get_or_from_slice_get}
 use Rattle.std.proofs.lemmas.Bool.{eqb-true, eqb-false, eq-eqb, ne_eqb, ltb-true, ltb-false, lt-ltb, le-ltb}
 use Rattle.dense_blocks.specs.Field.{Ops}
@@ -38,8 +37,7 @@ use Rattle.core_machine.specs.Machine.{PairStep, ReplyStep, Leads, IsDone}
 use Rattle.core_machine.specs.Legal.{first_state}
 use Rattle.core_machine.specs.Solo.{SoloStep, IsSoloOrder}
 use Rattle.core_machine.proofs.CountLaws.{leads-more}
-use Rattle.sheaf_text.specs.Answers.{IsServable, AreServable}
-use Rattle.sheaf_run.specs.Sessions.{Progress, IsSessionCommand, IsProgressAfter, IsJudged, position_of, IsProgress}
+use Rattle.sheaf_run.specs.Sessions.{Progress, IsProgressAfter, IsJudged, position_of, IsProgress}
 use Rattle.sheaf_run.specs.Sessions.{IsWaiting, IsSheafReduction, IsSoloReply, IsSoloAnswer, IsReducedFrom}
 use Rattle.sheaf_run.specs.Sessions.{HasReduction}
 use Rattle.sheaf_run.specs.Sessions.{removed_pairs, pair_events, version_reduction, IsKnownReduction}
@@ -502,20 +500,3 @@ answer-progress scripts start c i q r old before reduced middle new asked after 
     go (inl stays) = subst (IsWaiting scripts start c i) (sym stays.1) waits
     go (inr first) = subst (IsWaiting scripts start c i) (sym first.new_is)
         (reduce-step scripts start c i (record before { events = asked }) first.slot first.none first.reduction waits)
-
--- ---- what a session serves
-
-session_command : (dims : List ℕ) (command : Command) → IsServable dims 1000000000 command → IsSessionCommand command
-session_command dims (commands.Change edit) few = few
-session_command dims (commands.Ask queries.Betti) can = tt
-session_command dims (commands.Ask queries.Reduce) can = tt
-session_command dims (commands.Ask queries.Equiv) can = tt
-session_command dims (commands.Ask (queries.Basis k)) can = can
-session_command dims (commands.Ask (queries.Class k z)) can = can
-session_command dims (commands.Ask q) can = absurd can
-
-pub session_commands : (dims : List ℕ) (scripts : List (List Command)) → AreServable dims scripts
-    → All (All IsSessionCommand) scripts
-session_commands dims scripts servable =
-    All-weaker (All (IsServable dims 1000000000)) (All IsSessionCommand)
-    (All-weaker (IsServable dims 1000000000) IsSessionCommand (session_command dims)) scripts servable.each

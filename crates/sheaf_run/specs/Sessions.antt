@@ -25,7 +25,6 @@ use Rattle.core_machine.specs.Replies.{Reduction, IsRightReply}
 use Rattle.core_machine.specs.Machine.{State, Lane, free_lane, waiting_lane, with_lane, Leads}
 use Rattle.core_machine.specs.Legal.{first_state}
 use Rattle.core_machine.specs.Solo.{SoloStep, HasSoloChoices}
-use Rattle.query_answers.specs.Answers.{IsAnswered}
 
 -- the current sheaf and the number of its version; its reduction, if it was asked; and what has happened
 pub record Progress : Type 0 where
@@ -50,11 +49,6 @@ removed_pairs (Some slot) = Some (pairs_of slot.log)
 -- an event for each pair that was removed from a version
 abbrev pub pair_events : ℕ → List (ℕ × ℕ) → List Event
 pair_events version pairs = map (λ p. Pair version p.0 p.1) pairs
-
--- a command that a session serves: an edit of at most 1,000,000,000 changes, or a question that is answered
-abbrev pub IsSessionCommand : Command → Type 0
-IsSessionCommand (Change edit) = length edit.sets ≤ 1000000000
-IsSessionCommand (Ask query) = IsAnswered query
 
 -- after an edit that was accepted: the edited sheaf is one version more, which was not asked
 pub record IsNextVersion (old : Progress) (edit : Edit) (new : Progress) : Type 0 where

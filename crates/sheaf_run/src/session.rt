@@ -7,9 +7,8 @@ ghost use Rattle.sheaf_words.specs.declared.query.Command.{Command as CommandVal
 ghost use Rattle.sheaf_words.specs.declared.query.Command.TheVariants.{Change, Ask};
 ghost use Rattle.core_machine.specs.Machine.{command_at, IsLegalAndWhole};
 ghost use Rattle.core_machine.specs.Solo.{IsSoloOrder};
-ghost use Rattle.query_answers.specs.Answers.{IsAnswered};
-ghost use Rattle.sheaf_run.specs.Sessions.{IsSessionCommand, IsSoloAnswer, IsJudged, HasReduction};
-ghost use Rattle.sheaf_run.specs.Sessions.{IsProgress, IsReducedFrom};
+ghost use Rattle.sheaf_text.specs.Answers.{CanBeServed, IsServable};
+ghost use Rattle.sheaf_run.specs.Sessions.{IsSoloAnswer, IsJudged, HasReduction, IsProgress, IsReducedFrom};
 
 use crate::reduction::{push_pairs, reduction};
 use coboundary::start_is_cochain_complex;
@@ -61,6 +60,7 @@ impl Session {
         requires few { length edit.now.sets ≤ 1000000000 }
         requires room { self.old.version < 4096 }
         ensures judged { IfOk result (λ verdict. IsJudged self.old edit.now verdict self.new) }
+        ensures complex { IfOk result (λ _. self.new.sheaf.complex ≡ self.old.sheaf.complex) }
         ensures version { self.new.version ≤ self.old.version + 1 }
     {
         match apply(alloc, &mut self.sheaf, edit) {
@@ -81,6 +81,7 @@ impl Session {
         ensures progress { OnOk result ((scripts : List (List CommandValue)) (start : SheafData FieldValue) (i : ℕ)
             → command_at scripts client i ≡ Some (Change edit.now)
             → IsProgress scripts start client i self.old → IsProgress scripts start client (i + 1) self.new) }
+        ensures complex { OnOk result (self.new.sheaf.complex ≡ self.old.sheaf.complex) }
         ensures version { self.new.version ≤ self.old.version + 1 }
     {
         let verdict = self.edit_verdict(alloc, edit)?;
@@ -92,6 +93,7 @@ impl Session {
     fn reduce(&mut self, alloc: Global) -> Result<(), NoMemory>
         ensures reduced { OnOk result (IsReducedFrom self.old self.new) }
         ensures known { OnOk result (HasReduction self.new) }
+        ensures complex { OnOk result (self.new.sheaf.complex ≡ self.old.sheaf.complex) }
         ensures version { self.new.version ≡ self.old.version }
     {
         if self.answerer.is_some() {
@@ -105,7 +107,7 @@ impl Session {
 
     /// The answer to a question on the version that stands, which was reduced.
     fn reply(&mut self, alloc: Global, query: &Query) -> Result<Reply, NoMemory>
-        requires query { IsAnswered query.now }
+        requires query { CanBeServed self.old.sheaf.complex.dims query.now }
         requires reduced { HasReduction self.old }
         ensures same { self.new ≡ self.old }
         ensures right { IfOk result (IsSoloAnswer self.old query.now) }
@@ -121,10 +123,11 @@ impl Session {
 
     /// Asks the question that the client comes to, and answers it.
     fn answer(&mut self, alloc: Global, client: u32, query: &Query) -> Result<(), NoMemory>
-        requires { IsAnswered query.now }
+        requires { CanBeServed self.old.sheaf.complex.dims query.now }
         ensures progress { OnOk result ((scripts : List (List CommandValue)) (start : SheafData FieldValue) (i : ℕ)
             → command_at scripts client i ≡ Some (Ask query.now)
             → IsProgress scripts start client i self.old → IsProgress scripts start client (i + 1) self.new) }
+        ensures complex { OnOk result (self.new.sheaf.complex ≡ self.old.sheaf.complex) }
         ensures version { self.new.version ≡ self.old.version }
     {
         self.events.push(Event::Ask { c: client })?;
@@ -136,11 +139,12 @@ impl Session {
 
     /// Serves the command that the client comes to.
     fn serve(&mut self, alloc: Global, client: u32, command: &Command) -> Result<(), NoMemory>
-        requires command { IsSessionCommand command.now }
+        requires command { IsServable self.old.sheaf.complex.dims 1000000000 command.now }
         requires room { self.old.version < 4096 }
         ensures progress { OnOk result ((scripts : List (List CommandValue)) (start : SheafData FieldValue) (i : ℕ)
             → command_at scripts client i ≡ Some command.now
             → IsProgress scripts start client i self.old → IsProgress scripts start client (i + 1) self.new) }
+        ensures complex { OnOk result (self.new.sheaf.complex ≡ self.old.sheaf.complex) }
         ensures version { self.new.version ≤ self.old.version + 1 }
     {
         match command {
@@ -151,11 +155,12 @@ impl Session {
 
     /// Serves all commands of the client, in order.
     fn serve_all(&mut self, alloc: Global, client: u32, script: &[Command]) -> Result<(), NoMemory>
-        requires commands { All IsSessionCommand script.now }
+        requires commands { All (IsServable self.old.sheaf.complex.dims 1000000000) script.now }
         requires room { self.old.version + length script.now ≤ 4096 }
         ensures progress { OnOk result ((scripts : List (List CommandValue)) (start : SheafData FieldValue)
             → slice_get scripts client ≡ Some script.now
             → IsProgress scripts start client 0 self.old → IsProgress scripts start (client + 1) 0 self.new) }
+        ensures complex { OnOk result (self.new.sheaf.complex ≡ self.old.sheaf.complex) }
         ensures version { OnOk result (self.new.version ≤ self.old.version + length script.now) }
     {
         for command in script {
@@ -181,7 +186,7 @@ pub fn session_events(
 ) -> Result<Vec<Event>, NoMemory>
     requires few { length scripts.now ≤ 8 }
     requires commands { sum_by length scripts.now ≤ 4096 }
-    requires served { All (All IsSessionCommand) scripts.now }
+    requires served { All (All (IsServable sheaf.complex.dims 1000000000)) scripts.now }
     ensures legal { IfOk result (λ events. IsLegalAndWhole (ops_of sheaf.field) scripts.now sheaf events.items) }
     ensures solo { IfOk result (λ events. IsSoloOrder (ops_of sheaf.field) scripts.now sheaf events.items) }
 {

@@ -2,7 +2,6 @@ use Rattle.std.proofs.Common.{sym, subst}
 use Rattle.field_table.specs.Table.{ops_of}
 use Rattle.reply_text.specs.ClientEvents.{AreOf}
 use Rattle.core_machine.proofs.CountLaws.{events_are_answers}
-use Rattle.sheaf_run.proofs.ServingLaws.{session_commands}
 use Rattle.sheaf_run.proofs.answers.solution.Goals as goal
 
 pub transcript-requires-clause-of : goal.transcript-requires-clause-of
@@ -13,5 +12,4 @@ transcript-requires-clause-of c =
     order.last order.legal)
 
 pub session_events-requires-clause-served : goal.session_events-requires-clause-served
-session_events-requires-clause-served c =
-    session_commands c.args.sheaf.complex.dims c.args.scripts.now c.requires
+session_events-requires-clause-served c = c.requires.each

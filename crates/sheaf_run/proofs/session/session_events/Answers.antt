@@ -14,6 +14,7 @@ loop-script-init c = (
   refl,
   subst (IsProgress c.args.scripts.now c.args.sheaf 0 0) (sym c.new-session.ensures)
       (first-progress c.args.scripts.now c.args.sheaf),
+  ap (λ s. s.sheaf.complex) c.new-session.ensures,
   omega (arith, ap (λ s. s.version) c.new-session.ensures),
 )
 
@@ -24,7 +25,7 @@ serve_all-requires-clause-room c =
     let script = c.script-item.result in
     omega (
       arith,
-      c.loop-script.invariant.2,
+      c.loop-script.invariant.3,
       c.requires.commands,
       ap length c.as_slice.ensures,
       ap length c.script-item.is,
@@ -43,9 +44,10 @@ loop-script-preserved c =
           (c.in_ok-serve_all.ensures.progress scripts c.args.sheaf (ap (slice_get scripts) here.0 ∙ there
           ∙ ap Some (sym c.as_slice.ensures))
           (subst (λ k. IsProgress scripts c.args.sheaf k 0 c.loop-script.session) (sym here.0) here.1)),
+      c.in_ok-serve_all.ensures.complex ∙ here.2,
       omega (
         arith,
-        here.2,
+        here.3,
         c.in_ok-serve_all.ensures.version,
         ap length c.as_slice.ensures,
         ap length c.script-item.is,

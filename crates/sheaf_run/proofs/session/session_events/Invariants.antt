@@ -6,4 +6,4 @@ use Rattle.sheaf_run.proofs.session.session_events.Given as goal
 abbrev pub invariant-loop-script : goal.invariant-loop-script
 invariant-loop-script l =
     (l.client ≡ l.script-index) × IsProgress l.fn.scripts l.fn.sheaf l.script-index 0 l.session
-    × (l.session.version ≤ sum_by length (take l.script-index l.fn.scripts))
+    × (l.session.sheaf.complex ≡ l.fn.sheaf.complex) × (l.session.version ≤ sum_by length (take l.script-index l.fn.scripts))

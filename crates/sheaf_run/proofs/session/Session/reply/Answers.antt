@@ -6,7 +6,7 @@ use Rattle.sheaf_data.specs.Sheaves.{SheafData, IsSheaf}
 use Rattle.sheaf_data.specs.Betti.{degree_count}
 use Rattle.sheaf_run.specs.Sessions.{Progress}
 use Rattle.sheaf_run.proofs.DegreeLaws.{degrees-few}
-use Rattle.sheaf_run.proofs.AnswerLaws.{solo-answers, base-closed, live-degrees}
+use Rattle.sheaf_run.proofs.AnswerLaws.{solo-answers, base-closed, live-degrees, asked-answered}
 use Rattle.sheaf_run.proofs.session.Session.reply.Goals as goal
 
 pub overflow_cast-degrees : goal.overflow_cast-degrees
@@ -63,3 +63,10 @@ returns-clause-right c =
     (subst (λ (x : SheafData _). IsSheaf (ops_of x.field) x.complex x.stalks x.blocks)
     (ap (λ (q : Progress). q.sheaf) c.self.view_is) c.draft.ensures.sheaf)
     c.reply.ensures.right
+
+pub reply-requires-clause-answered : goal.reply-requires-clause-answered
+reply-requires-clause-answered c =
+    let p = c.args.self.now in
+    asked-answered p.sheaf c.requires.reduced.slot c.in-Some.answerer c.args.query.now
+    (same_Some _ _ (sym c.in-Some.is ∙ ap (λ (q : Progress). q.slot) c.self.view_is ∙ c.requires.reduced.there))
+    c.requires.reduced.reduction c.requires.query

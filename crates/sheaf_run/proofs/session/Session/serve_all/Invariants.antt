@@ -9,4 +9,4 @@ abbrev pub invariant-loop-command : goal.invariant-loop-command
 invariant-loop-command l =
     ((scripts : List (List Command)) (start : SheafData Field) → slice_get scripts l.fn.client ≡ Some l.script
     → IsProgress scripts start l.fn.client 0 l.fn.self → IsProgress scripts start l.fn.client l.command-index l.self)
-    × (l.self.version ≤ l.fn.self.version + l.command-index)
+    × (l.self.sheaf.complex ≡ l.fn.self.sheaf.complex) × (l.self.version ≤ l.fn.self.version + l.command-index)
