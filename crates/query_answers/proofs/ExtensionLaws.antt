@@ -53,11 +53,11 @@ module _ {F : Type 0} (K : Ops) (slot : SlotValue F) where
       → (has s (cells slot.base.live) ≡ true → degree_of slot.base.live s ≡ 0)
       → length v ≡ size_of slot.base.live s → (AllScalars K v → ⊥) → (degrees : ℕ)
       → IsAnswerIn K degrees slot (queries.Extend s v) replies.BadEntry
-  entry-answer s v vertex size open degrees r is start = (
+  entry-answer s v vertex size foreign degrees r is start = (
     (
       at-start (λ C. length v ≡ vertex_size C s) r start
           (size ∙ sym (size-at-vertex (complex_in slot.base) s vertex)),
-      open,
+      foreign,
     ),
     tt,
   )

@@ -175,7 +175,9 @@ fn put_lines(alloc: Global, out: &mut Vec<u8>, r: &Reply) -> Result<(), NoMemory
             put_vectors(out, vectors.as_slice())
         }
         Reply::Class {
-            vectors, primitive, ..
+            vectors,
+            primitive,
+            ..
         } => put_class(out, vectors.as_slice(), primitive.as_slice()),
         Reply::Section { z, .. } => put_row(out, b"vector", z.as_slice()),
         Reply::NoSection { functional, .. } => put_row(out, b"functional", functional.as_slice()),

@@ -1,6 +1,6 @@
-use Rattle.std.proofs.Common.{◌≡◌, ◌∙◌, ℕ, List, length, get_or, map, take, drop, refl, ap, ap₂, subst, arith}
+use Rattle.std.proofs.Common.{◌≡◌, ◌∙◌, ℕ, length, get_or, refl, ap, ap₂, subst, arith}
 use Rattle.dense_blocks.specs.Vectors.{IsVector, combination}
-use Rattle.dense_blocks.specs.Solutions.{Combines, Separates, lists}
+use Rattle.dense_blocks.specs.Solutions.{Combines, lists}
 use Rattle.cochain_vec.specs.Complexes.{coordinates, total_size}
 use Rattle.block_complexes.specs.Cochains.{complex_of, of_degree}
 use Rattle.block_sparse.specs.StoredBlocks.{complex_in}

@@ -3,6 +3,7 @@ use Rattle.std.proofs.lemmas.List.{get_or_default, length-map, take_at}
 use Rattle.dense_blocks.specs.Vectors.{AllScalars, IsVector, plus, multiple, zeros}
 use Rattle.dense_blocks.proofs.Shapes.{from_vector}
 use Rattle.dense_blocks.proofs.VectorLaws.{zeros-vector}
+use Rattle.cochain_vec.specs.declared.cochain.Cochain.{Cochain}
 use Rattle.equivalences.specs.CochainLists.{values_of}
 use Rattle.sections.proofs.ExtensionLaws.{each-cochain}
 use Rattle.sections.proofs.PlaceLaws.{coordinates-at}

@@ -1,4 +1,4 @@
-use Rattle.std.proofs.Common.{◌≡◌, ◌≢◌, ◌∙◌, ◌<◌, ◌≤◌, ◌+◌, ℕ, ap, sym, subst, get_or, length, arith, below_more}
+use Rattle.std.proofs.Common.{◌≢◌, ◌∙◌, ◌<◌, ◌≤◌, ◌+◌, ℕ, ap, sym, get_or, length, arith, below_more}
 use Rattle.std.proofs.lemmas.List.{take_all}
 use Rattle.cochain_vec.specs.Complexes.{total_size}
 use Rattle.rising_lists.proofs.Keyed.{has-absent}

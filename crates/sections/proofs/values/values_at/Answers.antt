@@ -1,4 +1,4 @@
-use Rattle.std.proofs.Common.{◌<◌, ℕ, length, take, drop, arith}
+use Rattle.std.proofs.Common.{take, drop, arith}
 use Rattle.sections.proofs.PlaceLaws.{values-all, values-more}
 use Rattle.sections.proofs.values.values_at.Goals as goal
 
