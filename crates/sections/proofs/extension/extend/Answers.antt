@@ -32,7 +32,8 @@ solve-requires-clause-sizes g c = λ k d l.
     let w = complex_in c.args.base.now in
     let start : ℕ = c.start_of-start.result in
     (column-vectors K (g.met.F.Scalars.is_field c.args.f.now) w c.requires.base (values_of c.args.basis.now)
-    c.requires.basis c.args.s start (subst (λ ls. BeginAt ls c.args.s start) c.live.ensures.live c.start_of-start.ensures)
+    c.requires.basis c.args.s start
+    (subst (λ ls. BeginAt ls c.args.s start) c.live.ensures.live c.start_of-start.ensures)
     c.requires.vertex c.args.v.now c.requires.size c.deref.result.now
     (ap lists c.deref.ensures.value ∙ c.in_ok-values.ensures) k d l).size
 
@@ -42,7 +43,8 @@ solve-requires-clause-column_scalars g c = λ k d l.
     let w = complex_in c.args.base.now in
     let start : ℕ = c.start_of-start.result in
     (column-vectors K (g.met.F.Scalars.is_field c.args.f.now) w c.requires.base (values_of c.args.basis.now)
-    c.requires.basis c.args.s start (subst (λ ls. BeginAt ls c.args.s start) c.live.ensures.live c.start_of-start.ensures)
+    c.requires.basis c.args.s start
+    (subst (λ ls. BeginAt ls c.args.s start) c.live.ensures.live c.start_of-start.ensures)
     c.requires.vertex c.args.v.now c.requires.size c.deref.result.now
     (ap lists c.deref.ensures.value ∙ c.in_ok-values.ensures) k d l).scalars
 
@@ -73,6 +75,7 @@ returns g c =
     let p = c.in-Apart.functional.items in
     let h = rw c.in-Apart.is at c.in_ok-coefficients.ensures in
     separating-obstruction K (g.met.F.Scalars.is_field c.args.f.now) w c.requires.base (values_of c.args.basis.now)
-    c.requires.basis c.args.s start (subst (λ ls. BeginAt ls c.args.s start) c.live.ensures.live c.start_of-start.ensures)
+    c.requires.basis c.args.s start
+    (subst (λ ls. BeginAt ls c.args.s start) c.live.ensures.live c.start_of-start.ensures)
     c.requires.vertex c.args.v.now c.requires.size c.deref.result.now
     (ap lists c.deref.ensures.value ∙ c.in_ok-values.ensures) p h.0

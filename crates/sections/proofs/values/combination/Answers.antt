@@ -1,4 +1,5 @@
-use Rattle.std.proofs.Common.{◌≡◌, ◌<◌, ◌∙◌, ◌++◌, ℕ, List, length, take, drop, get_or, refl, sym, ap, ap₂, subst, arith}
+use Rattle.std.proofs.Common.{◌≡◌, ◌<◌, ◌∙◌, ◌++◌, ℕ, List, length, take, drop, get_or, refl, sym, ap, ap₂, subst}
+use Rattle.std.proofs.Common.{arith}
 use Rattle.std.proofs.lemmas.List.{get_or_default, length-map, take_at}
 use Rattle.dense_blocks.specs.Vectors.{AllScalars, IsVector, plus, multiple, zeros}
 use Rattle.dense_blocks.proofs.Shapes.{from_vector}
