@@ -188,6 +188,11 @@ right-answers K reduction c (queries.Class k z) replies.BadLength right = tt
 right-answers K reduction c (queries.Class k z) replies.BadEntry right = tt
 right-answers K reduction c (queries.Class k z) (replies.NotCocycle j t) right = tt
 right-answers K reduction c (queries.Class k z) (replies.Class j coords vectors primitive) right = tt
+right-answers K reduction c queries.Sections (replies.Sections vectors) right = tt
+right-answers K reduction c (queries.Extend e u) replies.BadLength right = tt
+right-answers K reduction c (queries.Extend e u) replies.BadEntry right = tt
+right-answers K reduction c (queries.Extend e u) (replies.Section t z) right = tt
+right-answers K reduction c (queries.Extend e u) (replies.NoSection t functional) right = tt
 right-answers K reduction c q r right = absurd right
 
 of-step : {F : Type 0} (K : Ops) (scripts : List (List Command)) (events : List Event) (event : Event) (s t : State F)

@@ -1,5 +1,5 @@
 -- Right replies to an extension: those for the start complex and those for the whole one, and that only one is right.
-use Rattle.std.proofs.Common.{◌≡◌, ◌||◌, ◌<◌, ℕ, zero, suc, Bool, true, false, cond, eqb, List, [], ◌∷◌, All, length}
+use Rattle.std.proofs.Common.{◌≡◌, ◌||◌, ◌<◌, ℕ, suc, Bool, true, false, cond, eqb, List, [], ◌∷◌, All, length}
 use Rattle.std.proofs.Common.{filter, get_or, refl, sym, ap, ap₂, subst, ◌∙◌, arith}
 use Rattle.std.specs.Prelude.{◌==◌}
 use Rattle.std.proofs.lemmas.Bool.{eqb-true}
@@ -8,7 +8,7 @@ use Rattle.std.proofs.lemmas.List.Elements.{All-map}
 use Rattle.dense_blocks.specs.Field.{Ops}
 use Rattle.dense_blocks.specs.FieldLaws.{IsField}
 use Rattle.dense_blocks.specs.Vectors.{IsVector, zeros, dot, combination}
-use Rattle.dense_blocks.specs.Matrices.{image_of, product}
+use Rattle.dense_blocks.specs.Matrices.{image_of}
 use Rattle.dense_blocks.specs.MatrixFacts.{identity}
 use Rattle.dense_blocks.proofs.Shapes.{Vector, to_vector, from_vector}
 use Rattle.dense_blocks.proofs.Uniqueness.{one_leading_combination, one_leading_functional}
