@@ -8,4 +8,5 @@ pub mod DimensionLaws
 pub mod EndingLaws
 pub mod FinalLaws
 pub mod AnswerLaws
+pub mod ExtensionLaws
 pub mod NumberLaws
