@@ -1,12 +1,12 @@
 -- Which replies answer a question, out of a slot and what is kept of it.
-use Rattle.std.proofs.Common.{◌≡◌, ℕ, List, refl, sym, ap, ◌∙◌, subst}
+use Rattle.std.proofs.Common.{◌≡◌, ℕ, List, refl, sym, ◌∙◌, subst}
 use Rattle.std.specs.Prelude.{vec_len}
 use Rattle.dense_blocks.specs.Field.{Ops}
 use Rattle.dense_blocks.specs.FieldLaws.{IsField}
 use Rattle.cochain_vec.specs.Complexes.{CellularComplex, IsCochain}
 use Rattle.cochain_vec.specs.CochainComplexes.{IsCochainComplex}
 use Rattle.cochain_vec.specs.Cohomology.{AreDimensions, IsBasis}
-use Rattle.block_complexes.specs.BlockComplexes.{BlockComplex, IsBlockComplex, HaveSameMatrices}
+use Rattle.block_complexes.specs.BlockComplexes.{IsBlockComplex, HaveSameMatrices}
 use Rattle.block_complexes.specs.Cochains.{complex_of}
 use Rattle.block_complexes.proofs.SameLaws.{same-complex}
 use Rattle.block_sparse.specs.StoredBlocks.{complex_in}

@@ -1,12 +1,11 @@
 -- How a reduction ends: what is split and then reduced to the end stands for what is present.
-use Rattle.std.proofs.Common.{◌≡◌, ℕ, zero, suc, List, [], ◌∷◌, length, map, All, refl, sym, ap, ◌∙◌, subst}
-use Rattle.std.specs.Prelude.{slice_index}
+use Rattle.std.proofs.Common.{◌≡◌, ℕ, suc, List, [], ◌∷◌, map, All, refl, sym, ap, ◌∙◌, subst}
 use Rattle.std.proofs.lemmas.List.{length-map}
 use Rattle.dense_blocks.specs.Field.{Ops}
 use Rattle.dense_blocks.specs.FieldLaws.{IsField}
 use Rattle.dense_blocks.specs.Vectors.{IsVector, zeros}
 use Rattle.dense_blocks.specs.Matrices.{image_of}
-use Rattle.cochain_vec.specs.Complexes.{CellularComplex, IsCochain, coordinates, coboundary}
+use Rattle.cochain_vec.specs.Complexes.{coordinates, coboundary}
 use Rattle.cochain_vec.specs.CochainComplexes.{IsCochainComplex}
 use Rattle.cochain_vec.specs.Shapes.{RowsFit}
 use Rattle.cochain_vec.specs.Cohomology.{HasDimension, AreDimensions}

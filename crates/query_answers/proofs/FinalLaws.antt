@@ -1,22 +1,21 @@
 -- The maps of two logs, one after the other.
-use Rattle.std.proofs.Common.{◌≡◌, ℕ, zero, suc, List, refl, sym, ap, ◌∙◌, subst}
+use Rattle.std.proofs.Common.{◌≡◌, ℕ, zero, suc, List, sym, ap, ◌∙◌, subst}
 use Rattle.dense_blocks.specs.Field.{Ops}
 use Rattle.dense_blocks.specs.FieldLaws.{IsField}
 use Rattle.dense_blocks.specs.Vectors.{IsVector, zeros, plus}
 use Rattle.dense_blocks.specs.MatrixFacts.{IsMatrix}
 use Rattle.cochain_vec.specs.Complexes.{CellularComplex, IsCochain, coordinates, coboundary}
-use Rattle.cochain_vec.specs.CochainComplexes.{IsCochainComplex}
-use Rattle.block_complexes.specs.BlockComplexes.{BlockComplex, IsBlockComplex, HaveSameMatrices}
+use Rattle.block_complexes.specs.BlockComplexes.{BlockComplex, HaveSameMatrices}
 use Rattle.block_complexes.specs.Cochains.{complex_of}
 use Rattle.block_complexes.proofs.SameLaws.{same-complex}
-use Rattle.equivalence_laws.specs.Equivalences.{GradedMap, GradedMatrix, IsEquivalence, MeetEquations, d_h}
+use Rattle.equivalence_laws.specs.Equivalences.{GradedMap, MeetEquations, d_h}
 use Rattle.equivalence_laws.specs.Equivalences.{graded_matrix, map_of, composite_pi, composite_h}
 use Rattle.equivalence_laws.specs.Composites.{IsCompositeOfPairs}
 use Rattle.equivalence_laws.proofs.CompositeLaws.{complex_fits}
 use Rattle.block_sparse.specs.StoredBlocks.{StoredBlocks, complex_in}
 use Rattle.reduce_step.specs.declared.record.Step.{Step}
 use Rattle.reduce_step.specs.Logs.{AreStepsFrom, pairs_of}
-use Rattle.equivalences.specs.Between.{AreMapsBetween, IsEquivalenceOf}
+use Rattle.equivalences.specs.Between.{IsEquivalenceOf}
 use Rattle.equivalences.specs.Composition.{AreComposable, IsCompositeOf, IsCompositeBetween, JoinsEquivalences}
 use Rattle.equivalences.specs.GradedBlocks.{AreBlocksOver}
 use Rattle.equivalences.specs.declared.equivalence.Equivalence.{Equivalence}
@@ -24,10 +23,10 @@ use Rattle.scalar_finish.specs.Splits.{IsSplit}
 use Rattle.scalar_finish.specs.Laws.{SplitKeeps}
 use Rattle.core_machine.specs.Replies.{Reduction}
 use Rattle.core_machine.specs.Solo.{IsFinal}
-use Rattle.query_answers.specs.Endings.{IsEndingOf, IsWholeReduction, AreFinalMaps, final_of}
+use Rattle.query_answers.specs.Endings.{IsWholeReduction, AreFinalMaps, final_of}
 use Rattle.query_answers.specs.declared.ending.Ending.{Ending}
 use Rattle.query_answers.proofs.MapLaws.{composite-elsewhere}
-use Rattle.query_answers.proofs.EndingLaws.{present-after, present-is, split-keeps, own-closed, rest-is}
+use Rattle.query_answers.proofs.EndingLaws.{present-after, present-is, split-keeps, rest-is}
 
 -- an equivalence of S and E is one of D and E, where S and D have the same coordinates and the same coboundary
 module _ (K : Ops) (S D : CellularComplex) (sizes : (k : ℕ) → coordinates S k ≡ coordinates D k)

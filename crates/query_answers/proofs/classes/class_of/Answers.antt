@@ -1,4 +1,4 @@
-use Rattle.std.proofs.Common.{List, Vec, Global, length, ap, sym, subst, subst₂, arith, ◌∙◌}
+use Rattle.std.proofs.Common.{List, Vec, Global, length, ap, sym, subst, subst₂, arith}
 use Rattle.cochain_vec.specs.declared.cochain.Cochain.{Cochain}
 use Rattle.cochain_vec.specs.Complexes.{CellularComplex, IsCochain}
 use Rattle.block_complexes.specs.BlockComplexes.{IsBlockComplex}

@@ -2,7 +2,7 @@ use Rattle.std.proofs.Common.{subst, subst₂, sym}
 use Rattle.block_complexes.specs.BlockComplexes.{IsBlockComplex}
 use Rattle.block_complexes.specs.Cochains.{complex_of}
 use Rattle.block_sparse.specs.StoredBlocks.{StoredBlocks, complex_in}
-use Rattle.equivalence_laws.specs.Bases.{HasNoBlock, unit_images}
+use Rattle.equivalence_laws.specs.Bases.{unit_images}
 use Rattle.equivalence_laws.specs.Equivalences.{graded_matrix}
 use Rattle.cocycle_bases.specs.Bases.{AreBases, AreGradedCochains}
 use Rattle.query_answers.specs.Endings.{IsWholeReduction, AreFinalMaps}

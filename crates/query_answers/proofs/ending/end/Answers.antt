@@ -1,4 +1,4 @@
-use Rattle.std.proofs.Common.{◌≡◌, All, sym, ap, ◌∙◌, subst}
+use Rattle.std.proofs.Common.{◌≡◌, All, sym, subst}
 use Rattle.block_complexes.specs.BlockComplexes.{IsBlockComplex}
 use Rattle.reduce_step.specs.Logs.{AreStepsFrom, pairs_of}
 use Rattle.block_sparse.specs.StoredBlocks.{StoredBlocks, complex_in}

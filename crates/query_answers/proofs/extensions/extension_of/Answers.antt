@@ -1,4 +1,4 @@
-use Rattle.std.proofs.Common.{◌≡◌, true, List, Vec, Global, Some, refl, sym, ap, subst, subst₂, ◌∙◌}
+use Rattle.std.proofs.Common.{◌≡◌, true, List, Vec, Global, Some, sym, ap, subst, subst₂, ◌∙◌}
 use Rattle.std.specs.Prelude.{slice_get}
 use Rattle.dense_blocks.specs.Vectors.{AllScalars}
 use Rattle.rising_lists.specs.Rising.{has}

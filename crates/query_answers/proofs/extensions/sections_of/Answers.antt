@@ -1,4 +1,4 @@
-use Rattle.std.proofs.Common.{List, Vec, Global, length, ap, sym, subst, arith, ◌∙◌}
+use Rattle.std.proofs.Common.{List, Vec, Global, length, ap, subst, arith}
 use Rattle.cochain_vec.specs.declared.cochain.Cochain.{Cochain}
 use Rattle.query_answers.specs.Vectors.{AreVectorsAt}
 use Rattle.query_answers.proofs.ExtensionLaws.{sections-answer}
