@@ -88,7 +88,10 @@ degree-of-live n zero (d ∷ dims) (size ∷ stalks) h = go (not (size == 0)) h
     go false h =
         let none : has (n + 0) (cells (rows kept)) ≡ false = none-below (n + 1) (n + 0) dims stalks (omega arith) in
         cc
-degree-of-live n (suc i) (d ∷ dims) (size ∷ stalks) h = go (not (size == 0)) h
+degree-of-live n (suc i) (d ∷ dims) (size ∷ stalks) h =
+    go (not (size == 0))
+    (subst (λ m. has m (cells (rows kept)) ≡ true → degree_of (rows kept) m ≡ slice_index dims i) step
+    (degree-of-live (n + 1) i dims stalks)) h
   where
     kept : List Cell
     kept = filter (λ (c : Cell). not (c.size == 0)) (numbered_cells (n + 1) dims stalks)
@@ -96,21 +99,23 @@ degree-of-live n (suc i) (d ∷ dims) (size ∷ stalks) h = go (not (size == 0))
     step : (n + 1) + i ≡ n + suc i
     step = omega arith
 
-    later : has (n + suc i) (cells (rows kept)) ≡ true → degree_of (rows kept) (n + suc i) ≡ slice_index dims i
-    later = subst (λ m. has m (cells (rows kept)) ≡ true → degree_of (rows kept) m ≡ slice_index dims i) step
-        (degree-of-live (n + 1) i dims stalks)
-
     other : eqb n (n + suc i) ≡ false
     other = ne_eqb n (n + suc i) (λ e. omega (arith, e))
 
-    go : (b : Bool) → has (n + suc i) (cells (rows (cond b (here n d size ∷ kept) kept))) ≡ true
+    go : (b : Bool)
+        → (has (n + suc i) (cells (rows kept)) ≡ true → degree_of (rows kept) (n + suc i) ≡ slice_index dims i)
+        → has (n + suc i) (cells (rows (cond b (here n d size ∷ kept) kept))) ≡ true
         → degree_of (rows (cond b (here n d size ∷ kept) kept)) (n + suc i) ≡ slice_index dims i
-    go true h = ap (λ e. cond e d (degree_of (rows kept) (n + suc i))) other
+    go true later h = ap (λ e. cond e d (degree_of (rows kept) (n + suc i))) other
         ∙ later (subst (λ e. (e || has (n + suc i) (cells (rows kept))) ≡ true) other h)
-    go false h = later h
+    go false later h = later h
 
 -- a vertex that is live has degree 0
 pub vertex-live : (dims stalks : List ℕ) (s : ℕ) → IsVertex dims s
     → has s (cells (with_stalks (numbered_cells 0 dims stalks))) ≡ true
     → degree_of (with_stalks (numbered_cells 0 dims stalks)) s ≡ 0
-vertex-live dims stalks s vertex h = degree-of-live 0 s dims stalks h ∙ vertex.dimension
+vertex-live dims stalks s vertex h =
+    let start : 0 + s ≡ s = omega arith in
+    let live = with_stalks (numbered_cells 0 dims stalks) in
+    subst (λ i. has i (cells live) ≡ true → degree_of live i ≡ slice_index dims s) start
+    (degree-of-live 0 s dims stalks) h ∙ vertex.dimension
